@@ -1,0 +1,67 @@
+-- The expressions of a script: each is built from those of its parts, and what goes from parts to nodes holds of all.
+use Prim.Native.Nat.{ℕ, zero, suc, _+_, _-_, _<_, _≤_}
+use mathlib.Core.Path.{_≡_, refl, ap, ap₂}
+use mathlib.Core.List.{List, _∷_, List·Memᴰ·head, List·Memᴰ·tail}
+use native.Mathlib.Omega.{arith}
+use lib.ListN.{getD}
+use Rattle.script.specs.Lists.{_∈_}
+use Rattle.script.specs.Section.{nodes, countOf}
+use Rattle.script.specs.Syntax.{Point, Expr, null, update, call, bind, cast, fork, lock, Node, n-null, n-var, n-select, n-update, n-call, n-bind, n-new, n-cast, n-fork, n-lock, parts, build}
+use Rattle.script.specs.Reading.{viewAt, lastExprs, exprAt}
+use Rattle.script.specs.Statements.{Part}
+
+-- The first, second and third part of a node are among its parts.
+pub first : {p : Point} {l : List Point} → p ∈ p ∷ l
+first = List·Memᴰ·head refl
+
+pub second : {p q : Point} {l : List Point} → q ∈ p ∷ q ∷ l
+second = List·Memᴰ·tail first
+
+pub third : {p q r : Point} {l : List Point} → r ∈ p ∷ q ∷ r ∷ l
+third = List·Memᴰ·tail second
+
+-- What is built of a node depends only on what its parts are.
+pub build-same : (n : Point) (f g : Point → Expr) (v : Node) → ((p : Point) → p ∈ parts v → f p ≡ g p) → build n f v ≡ build n g v
+build-same n f g n-null h = refl
+build-same n f g (n-var x) h = refl
+build-same n f g (n-select x y) h = refl
+build-same n f g (n-update x y p) h = ap (update n x y) (h p first)
+build-same n f g (n-call x m p) h = ap (call n x m) (h p first)
+build-same n f g (n-bind x p q) h = ap₂ (bind n x) (h p first) (h q second)
+build-same n f g (n-new c) h = refl
+build-same n f g (n-cast t p) h = ap (cast n t) (h p first)
+build-same n f g (n-fork p q r) h = λ i. fork n (h p first i) (h q second i) (h r third i)
+build-same n f g (n-lock x p) h = ap (lock n x) (h p first)
+
+module _ (s : List ℕ) where
+  -- The table of the last j + k nodes ends in that of the last k.
+  last-at : (j k : ℕ) → getD (lastExprs s (j + k)) j (null 0) ≡ getD (lastExprs s k) 0 (null 0)
+  unfolding lastExprs
+  last-at zero k = let e : 0 + k ≡ k = omega arith in rw e
+  last-at (suc j) k = let e : suc j + k ≡ suc (j + k) = omega arith in rw e (last-at j k)
+
+  -- A node finds its parts in the table of the nodes after it.
+  part-at : (n p : Point) → Part s n p → getD (lastExprs s (countOf s nodes - suc n)) (p - suc n) (null 0) ≡ exprAt s p
+  unfolding exprAt
+  part-at n p h =
+      let e : countOf s nodes - suc n ≡ p - suc n + (countOf s nodes - p) = omega arith in
+      rw e (last-at (p - suc n) (countOf s nodes - p))
+
+  -- A node's expression is built from those of its parts.
+  pub expr-at : (n : Point) → n < countOf s nodes → ((p : Point) → p ∈ parts (viewAt s n) → Part s n p) → exprAt s n ≡ build n (exprAt s) (viewAt s n)
+  unfolding exprAt lastExprs
+  expr-at n h later =
+      let y : countOf s nodes - n ≡ suc (countOf s nodes - suc n) = omega arith in
+      let z : countOf s nodes - suc (countOf s nodes - suc n) ≡ n = omega arith in
+      rw (y, z) (build-same n _ (exprAt s) (viewAt s n) (λ p m. part-at n p (later p m)))
+
+  -- What holds of a node whenever it holds of the node's parts holds of every node, since parts stand later.
+  module _ (P : Point → Type 0)
+      (in-order : (n : Point) → n < countOf s nodes → (p : Point) → p ∈ parts (viewAt s n) → Part s n p)
+      (from-parts : (n : Point) → n < countOf s nodes → ((p : Point) → p ∈ parts (viewAt s n) → P p) → P n) where
+    last-nodes : (k n : ℕ) → countOf s nodes ≤ n + k → n < countOf s nodes → P n
+    last-nodes zero n last h = absurd (omega arith)
+    last-nodes (suc k) n last h = from-parts n h (λ p m. let q = in-order n h p m in last-nodes k p (omega arith) (q .there))
+
+    pub every-node : (n : Point) → n < countOf s nodes → P n
+    every-node n h = last-nodes (countOf s nodes) n (omega arith) h

@@ -1,0 +1,12 @@
+pub mod Types
+pub mod Values
+pub mod Subtype
+pub mod Members
+pub mod Joins
+pub mod Sharing
+pub mod Rules
+pub mod Bodies
+pub mod Walk
+pub mod First
+pub mod Exact
+pub mod Samples

@@ -1,0 +1,24 @@
+-- Every starred sample of document 01 that speaks of Check gets its verdict, by computation.
+use mathlib.Core.Path.{_≡_, refl}
+use mathlib.Core.List.{map}
+use Rattle.words.specs.Word.{wordAt, bytes}
+use Rattle.script.specs.Lists.{run, sumBelow, named, countIn}
+use Rattle.script.specs.Section.{sections, bodyAt, countOf, endOf, recordAt, recordWord}
+use Rattle.script.specs.Syntax.{declarationAt}
+use Rattle.script.specs.Reading.{kindOf, viewAt, lastExprs, exprAt, ownSignatures, ownFields, ownMethods, signatureAt, interfaceAt, fieldAt, methodAt, classAt, programOf}
+use Rattle.script.specs.Asking.{firstNo, firstOut, lowestIn}
+use Rattle.script.specs.Questions.{lengthTest, withinTest, countsTest, placedFrom, placesTest, interfaceTest, interfacesTest, ownersTest, typeTest, interfaceTypeTest, classTypeTest, typesTest, unusedAt, allOf, partsFrom, usesIn, nodeTest, nodesTest, runStart, hasName, freshTest, namesTest, layoutQuestions}
+use Rattle.typing.specs.Members.{valuesTo, valueAt, reach, below, meaning, ownMethod, methodIn, typeIn, fieldIn}
+use Rattle.typing.specs.Typing.{without, fv, isIn, shares, inferred, checked, bodiesFrom, bodiesOf, walk}
+use Rattle.typing.specs.Check.{namesIn, joinsTest, classesTest, memberQuestions, checkOf}
+use Rattle.typing.specs.Samples.{nodesAlone, nodesWithClass, joinsOn, samples, ladder}
+
+-- the whole table
+pub all-samples : map (λ x. checkOf (x .script)) samples ≡ map (λ x. x .verdict) samples
+unfolding wordAt bytes run sumBelow named countIn sections bodyAt countOf endOf recordAt recordWord declarationAt kindOf viewAt lastExprs exprAt ownSignatures ownFields ownMethods signatureAt interfaceAt fieldAt methodAt classAt programOf firstNo firstOut lowestIn lengthTest withinTest countsTest placedFrom placesTest interfaceTest interfacesTest ownersTest typeTest interfaceTypeTest classTypeTest typesTest unusedAt allOf partsFrom usesIn nodeTest nodesTest runStart hasName freshTest namesTest layoutQuestions valuesTo valueAt reach below meaning ownMethod methodIn typeIn fieldIn without fv isIn shares inferred checked bodiesFrom bodiesOf walk namesIn joinsTest classesTest memberQuestions checkOf nodesAlone nodesWithClass joinsOn samples
+all-samples = refl
+
+-- sixty-three joins that each name their predecessor twice: no look-up takes exponential time
+pub the-ladder : checkOf (ladder .script) ≡ ladder .verdict
+unfolding wordAt bytes run sumBelow named countIn sections bodyAt countOf endOf recordAt recordWord declarationAt kindOf viewAt lastExprs exprAt ownSignatures ownFields ownMethods signatureAt interfaceAt fieldAt methodAt classAt programOf firstNo firstOut lowestIn lengthTest withinTest countsTest placedFrom placesTest interfaceTest interfacesTest ownersTest typeTest interfaceTypeTest classTypeTest typesTest unusedAt allOf partsFrom usesIn nodeTest nodesTest runStart hasName freshTest namesTest layoutQuestions valuesTo valueAt reach below meaning ownMethod methodIn typeIn fieldIn without fv isIn shares inferred checked bodiesFrom bodiesOf walk namesIn joinsTest classesTest memberQuestions checkOf nodesAlone nodesWithClass joinsOn ladder
+the-ladder = refl

@@ -1,0 +1,69 @@
+-- The walk over all bodies and the start, and the published rules.
+use Prim.Native.Nat.{ℕ}
+use mathlib.Core.Path.{_≡_, refl}
+use mathlib.Core.List.{List, [], _∷_, List·Memᴰ·head, List·Memᴰ·tail, List·Memᴰ·cases-cons, List·Memᴰ·not-nil}
+use mathlib.Core.Logic.{⊎-elim}
+use Rattle.script.specs.declared.Question.{Question}
+use Rattle.script.specs.Lists.{_∈_}
+use Rattle.script.specs.Syntax.{Point, Program}
+use Rattle.script.specs.Regular.{Regular}
+use Rattle.script.proofs.Declarations.{is-class}
+use Rattle.typing.specs.declared.Answer.{Answer}
+use Rattle.typing.specs.declared.Answer.the-variants.{Typed, Faulty}
+use Rattle.typing.specs.Typing.{andThen, checked, Body, bodyEnv, walk}
+use Rattle.typing.specs.Published.{WfEnv, WF-ENV, MsigsFunction, Infer, Check}
+use Rattle.typing.specs.Refusals.{WalkNo, in-start, in-body, after-body}
+use Rattle.typing.proofs.Rules.{Judged, types, refuses, CheckJudged, passes, stops, env-more, judged, check-judged, infer-complete, check-complete, no-complete, no-check-complete}
+use Rattle.typing.proofs.Bodies.{BodyIn}
+
+-- The published judgement of a body: this : C, x : t ⊢ e ⇐ t'.
+abbrev pub BodyChecks : Program → Body → Type 0
+BodyChecks p b = Check p (bodyEnv (b .class) (b .method .signature)) (b .method .body) (b .method .signature .result)
+
+-- What the walk's answer says: every body passes and the start has this type, or the first no.
+pub data Walked (p : Program) (l : List Body) : Answer → Type 0 where
+  walks : {t : ℕ} → ((b : Body) → b ∈ l → BodyChecks p b) → Infer p [] (p .start) t → Walked p l (Typed t)
+  halts : {q : Question} {k : Point} → WalkNo p l q k → Walked p l (Faulty q k)
+
+no-env : (p : Program) → WfEnv p []
+no-env p = WF-ENV (λ b m. absurd (List·Memᴰ·not-nil m))
+
+module _ (p : Program) (ok : Regular p) where
+  body-judged : (b : Body) → BodyIn p b → CheckJudged p (bodyEnv (b .class) (b .method .signature)) (b .method .body) (b .method .signature .result) (checked p (bodyEnv (b .class) (b .method .signature)) (b .method .body) (b .method .signature .result))
+  unfolding checked
+  body-judged b i =
+      let r = ok .classes (b .class) (i .class) (i .declared) in
+      let g = r .method-types (b .method) (i .there) in
+      let w = env-more p _ 1 (b .method .signature .param) (env-more p [] 0 (b .class) (no-env p) (is-class p (b .class) (i .class) (i .declared) .last)) (g .param) in
+      check-judged p ok _ (b .method .body) (b .method .signature .result) w (g .result) (judged p ok _ (b .method .body) w (r .bodies (b .method) (i .there)))
+
+  start-walked : {r : Answer} → Judged p [] (p .start) r → Walked p [] r
+  start-walked (types h i) = walks (λ b m. absurd (List·Memᴰ·not-nil m)) h
+  start-walked (refuses h) = halts (in-start h)
+
+  -- The walk answers by the rules.
+  pub walked-by : (l : List Body) → ((b : Body) → b ∈ l → BodyIn p b) → Walked p l (walk p l)
+  unfolding walk
+  walked-by [] i = start-walked (judged p ok [] (p .start) (no-env p) (ok .start))
+  walked-by (b ∷ l) i = next (body-judged b (i b (List·Memᴰ·head refl))) (walked-by l (λ c m. i c (List·Memᴰ·tail m)))
+    where
+      on : BodyChecks p b → {r : Answer} → Walked p l r → Walked p (b ∷ l) r
+      on c (walks f h) = walks (λ d m. ⊎-elim (λ (e : d ≡ b). rw e c) (λ k. f d k) (List·Memᴰ·cases-cons m)) h
+      on c (halts h) = halts (after-body c h)
+
+      next : {a r : Answer} → CheckJudged p (bodyEnv (b .class) (b .method .signature)) (b .method .body) (b .method .signature .result) a → Walked p l r → Walked p (b ∷ l) (andThen a (λ t. r))
+      next (passes c) w = on c w
+      next (stops c) w = halts (in-body c)
+
+module _ (p : Program) (ok : Regular p) (one : MsigsFunction p) where
+  -- And what the rules give is its answer: a type, and the first no.
+  pub walk-complete : (l : List Body) (t : ℕ) → ((b : Body) → b ∈ l → BodyChecks p b) → Infer p [] (p .start) t → walk p l ≡ Typed t
+  unfolding walk
+  walk-complete [] t f h = infer-complete p ok one h
+  walk-complete (b ∷ l) t f h = rw (check-complete p ok one (f b (List·Memᴰ·head refl))) (walk-complete l t (λ c m. f c (List·Memᴰ·tail m)) h)
+
+  pub walk-no-complete : {l : List Body} {q : Question} {k : Point} → WalkNo p l q k → walk p l ≡ Faulty q k
+  unfolding walk
+  walk-no-complete (in-start h) = no-complete p ok one h
+  walk-no-complete (in-body c) = rw (no-check-complete p ok one c)
+  walk-no-complete (after-body c h) = rw (check-complete p ok one c) (walk-no-complete h)

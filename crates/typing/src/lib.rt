@@ -1,0 +1,14 @@
+// Typing: the walk over expressions, and the answer of Check.
+use script::Question;
+
+// What the walk over an expression comes to: its type, or the question that gets a no and the node.
+pub enum Answer {
+    Typed(u16),
+    Faulty(Question, u16),
+}
+
+// What Check answers: the start's type, or the question that gets a no and the place.
+pub enum Verdict {
+    Accepted(u16),
+    Refused(Question, u16),
+}
