@@ -208,7 +208,7 @@ decides-nodes s methods i = decides-lt _ _
 decides-nodes s nodes i = decides-node s i
 
 -- Question 8. The run of the owner of record i begins where `runStart` says.
-run-start : (own : ℕ → ℕ) (n i owner : ℕ) → owner < n → sumBelow own owner ≤ i → i < sumBelow own owner + own owner → runStart own n i ≡ sumBelow own owner
+pub run-start : (own : ℕ → ℕ) (n i owner : ℕ) → owner < n → sumBelow own owner ≤ i → i < sumBelow own owner + own owner → runStart own n i ≡ sumBelow own owner
 unfolding runStart
 run-start own zero i owner a f u = absurd (omega arith)
 run-start own (suc n) i owner a f u =

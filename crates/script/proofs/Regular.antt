@@ -49,7 +49,7 @@ module _ (s : List ℕ) where
 
   module _ (w : WithinLayout s) where
     -- Every expression of the script is formed.
-    formed : (n : Point) → n < countOf s nodes → Formed (programOf s) (exprAt s n)
+    pub formed : (n : Point) → n < countOf s nodes → Formed (programOf s) (exprAt s n)
     formed =
         every-node s (λ n. Formed (programOf s) (exprAt s n)) (λ n h. w .nodes-are nodes n h .in-order)
         (λ n h e. rw (expr-at s n h (w .nodes-are nodes n h .in-order)) (formed-node n (exprAt s) (viewAt s n) (w .types-are nodes n h) e))

@@ -6,3 +6,5 @@ pub mod Asking
 pub mod Questions
 pub mod Statements
 pub mod Regular
+pub mod Laid
+pub mod Uses

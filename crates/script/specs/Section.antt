@@ -1,12 +1,12 @@
 -- The script file: its contents, sections and records.
 use Prim.Native.Nat.{ℕ, _+_, _*_}
 use mathlib.Core.List.{List, [], _∷_}
+pub use Rattle.script.specs.declared.Section.{Section}
+pub use Rattle.script.specs.declared.Section.the-variants.{Interfaces as interfaces, Signatures as signatures, Classes as classes, Fields as fields, Methods as methods, Nodes as nodes}
 use Rattle.words.specs.Word.{wordAt}
 use Rattle.limits.specs.Limits.{INTERFACES, SIGNATURES, CLASSES, FIELDS, METHODS, NODES}
 
 -- "six entries of two words, byte offset and record count, for interfaces, signatures, classes, fields, methods, nodes. The bodies follow in that order"
-pub data Section : Type 0 where
-  interfaces signatures classes fields methods nodes : Section
 
 unfoldable pub sections : List Section
 sections = interfaces ∷ signatures ∷ classes ∷ fields ∷ methods ∷ nodes ∷ []

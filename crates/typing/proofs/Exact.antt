@@ -9,7 +9,9 @@ use native.Mathlib.Omega.{arith}
 use Rattle.script.specs.declared.Question.{Question}
 use Rattle.script.specs.declared.Question.the-variants.{Length, Counts, Places, Interfaces, Owners, Types, Nodes, Names, Joins, Classes}
 use Rattle.script.specs.Lists.{_∈_}
-use Rattle.script.specs.Section.{Section, interfaces, signatures, classes, fields, methods, nodes, countOf, recordAt}
+use Rattle.script.specs.declared.Section.{Section}
+use Rattle.script.specs.declared.Section.the-variants.{Interfaces as interfaces, Signatures as signatures, Classes as classes, Fields as fields, Methods as methods, Nodes as nodes}
+use Rattle.script.specs.Section.{countOf, recordAt}
 use Rattle.script.specs.Syntax.{Point, Method, Interface, lists, extends, Class, declarationAt, an-interface, a-class}
 use Rattle.script.specs.Reading.{interfaceAt, classAt, programOf}
 use Rattle.script.specs.Asking.{numberOf, Refusal, firstNo, lowestOut, Decides, holds, Each, Lowest}

@@ -9,7 +9,7 @@ use native.Mathlib.Nat.{eq-or-lt-of-le, le-of-suc-le-suc, le-antisymm}
 use lib.ListN.{getD}
 use Rattle.script.specs.declared.Question.{Question}
 use Rattle.script.specs.declared.Question.the-variants.{Length, Counts, Places, Interfaces, Owners, Types, Nodes, Names, Joins, Classes, Variables, Nulls, Members, Fits, Sharing}
-use Rattle.script.specs.Section.{Section}
+use Rattle.script.specs.declared.Section.{Section}
 use Rattle.script.specs.Asking.{numberOf, Refusal, Lowest, lowest-at}
 use Rattle.script.proofs.Lowest.{fault-not}
 use Rattle.script.proofs.LayoutLaws.{Before, at-first, length-is, counts-are, places-are, interfaces-are, owners-are, types-are, nodes-are, names-are, LayoutNo, length-no, counts-no, places-no, interfaces-no, owners-no, types-no, nodes-no, names-no}

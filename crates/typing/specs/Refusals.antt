@@ -7,7 +7,9 @@ use mathlib.Core.Option.{none, some}
 use Rattle.script.specs.declared.Question.{Question}
 use Rattle.script.specs.declared.Question.the-variants.{Length, Counts, Places, Interfaces, Owners, Types, Nodes, Names, Joins, Classes, Variables, Nulls, Members, Fits, Sharing}
 use Rattle.script.specs.Lists.{_∈_}
-use Rattle.script.specs.Section.{Section, interfaces, signatures, classes, fields, methods, nodes, recordAt}
+use Rattle.script.specs.declared.Section.{Section}
+use Rattle.script.specs.declared.Section.the-variants.{Interfaces as interfaces, Signatures as signatures, Classes as classes, Fields as fields, Methods as methods, Nodes as nodes}
+use Rattle.script.specs.Section.{recordAt}
 use Rattle.script.specs.Syntax.{Point, Expr, null, var, select, update, call, bind, cast, fork, lock, pointOf, isNull, Slot, Signature, Interface, lists, extends, Class, Program}
 use Rattle.script.specs.Reading.{interfaceAt, classAt, programOf}
 use Rattle.script.specs.Asking.{numberOf, FaultAt, Each}

@@ -1,0 +1,19 @@
+use borrow.Author.Needs.{needs}
+use Rattle.script.proofs.RecordLaws.{class-type-none, class-type-is}
+use Rattle.script.proofs.records.class_type_fits.Statement.{statement}
+use Rattle.script.proofs.records.class_type_fits.Tie as tie
+
+count-of-requires : tie.Need-count-of-requires
+count-of-requires c κs = search needs
+
+returns : tie.Need-returns
+returns c = class-type-none _ _ _ (c .before .count-of .ensures .0) (c .if1 .taken)
+
+type-fits-requires : tie.Need-type-fits-requires
+type-fits-requires c κs = search needs
+
+returns-2 : tie.Need-returns-2
+returns-2 c = class-type-is _ _ _ (c .before .before .count-of .ensures .0) _ (c .before .if1 .left) (c .type-fits .ensures)
+
+pub class-type-fits-spec : {M : Type 1} → statement M
+class-type-fits-spec = tie.close (tie.spec count-of-requires returns type-fits-requires returns-2)

@@ -1,0 +1,69 @@
+use borrow.Author.Needs.{needs}
+use Rattle.script.proofs.UseLaws.{adds-none, adds-word}
+use Rattle.script.proofs.records.count_word.Statement.{statement}
+use Rattle.script.proofs.records.count_word.Tie as tie
+
+enum-told : tie.Need-enum-told
+enum-told c = search needs
+
+enum-told-2 : tie.Need-enum-told-2
+enum-told-2 c = search needs
+
+enum-told-3 : tie.Need-enum-told-3
+enum-told-3 c = search needs
+
+enum-told-4 : tie.Need-enum-told-4
+enum-told-4 c = search needs
+
+enum-told-5 : tie.Need-enum-told-5
+enum-told-5 c = search needs
+
+enum-told-6 : tie.Need-enum-told-6
+enum-told-6 c = search needs
+
+count-use-requires : tie.Need-count-use-requires
+count-use-requires c κs = search needs
+
+enum-told-7 : tie.Need-enum-told-7
+enum-told-7 c = search needs
+
+returns : tie.Need-returns
+returns c = adds-word _ _ _ _ _ (c .enum-told .given .1) (adds-none _)
+
+returns-2 : tie.Need-returns-2
+returns-2 c = adds-word _ _ _ _ _ (c .enum-told2 .given .1) (adds-none _)
+
+returns-3 : tie.Need-returns-3
+returns-3 c = adds-word _ _ _ _ _ (c .enum-told3 .given .1) (adds-none _)
+
+returns-4 : tie.Need-returns-4
+returns-4 c = adds-word _ _ _ _ _ (c .enum-told4 .given .1) (adds-none _)
+
+returns-5 : tie.Need-returns-5
+returns-5 c = adds-word _ _ _ _ _ (c .enum-told5 .given .1) (adds-none _)
+
+returns-6 : tie.Need-returns-6
+returns-6 c = adds-word _ _ _ _ _ (c .before .before .enum-told6 .given .1) (c .count-use .ensures)
+
+returns-7 : tie.Need-returns-7
+returns-7 c = adds-word _ _ _ _ _ (c .enum-told7 .given .1) (adds-none _)
+
+pub count-word-spec : {M : Type 1} → statement M
+count-word-spec =
+    tie.close
+    (tie.spec
+    enum-told
+    enum-told-2
+    enum-told-3
+    enum-told-4
+    enum-told-5
+    enum-told-6
+    count-use-requires
+    enum-told-7
+    returns
+    returns-2
+    returns-3
+    returns-4
+    returns-5
+    returns-6
+    returns-7)
