@@ -41,7 +41,7 @@ module _ (s : List ℕ) (w : WithinLayout s) where
   join-at t i j e d h = rw (e, d) h
 
   -- Question 9 finds the lowest join with two meanings for a name.
-  joins-lowest : Lowest s (JoinsAre s) (lowestOut s (joinsTest s (programOf s)))
+  pub joins-lowest : Lowest s (JoinsAre s) (lowestOut s (joinsTest s (programOf s)))
   unfolding joinsTest
   joins-lowest = lowest s (joinsTest s (programOf s)) (JoinsAre s) (w .places-are) at
     where
@@ -56,7 +56,7 @@ module _ (s : List ℕ) (w : WithinLayout s) where
       at nodes i h f = holds tt
 
   -- Question 10 finds the lowest class that lacks a method of its interface.
-  classes-lowest : MsigsFunction (programOf s) → Lowest s (ClassesAre s) (lowestOut s (classesTest s (programOf s)))
+  pub classes-lowest : MsigsFunction (programOf s) → Lowest s (ClassesAre s) (lowestOut s (classesTest s (programOf s)))
   unfolding classesTest
   classes-lowest one = lowest s (classesTest s (programOf s)) (ClassesAre s) (w .places-are) at
     where
@@ -69,7 +69,7 @@ module _ (s : List ℕ) (w : WithinLayout s) where
       at nodes i h f = holds tt
 
   -- Each join has one meaning for a name, so every type has.
-  one-meaning : Each s (JoinsAre s) → MsigsFunction (programOf s)
+  pub one-meaning : Each s (JoinsAre s) → MsigsFunction (programOf s)
   one-meaning f =
       joins-function (programOf s) (regular s w)
       (λ t i d. let x = interface-from s t i d in join-at t (x .0) i (x .2) (x .3) (f interfaces (x .0) (x .1)))

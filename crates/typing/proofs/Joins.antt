@@ -17,7 +17,7 @@ use Rattle.typing.proofs.Types.{parent-types}
 use Rattle.typing.proofs.Members.{Found, found, missing, Meaning, unique-same, msig-from, msig-by, own-found, meaning-found, signature-name}
 
 -- A type has one meaning for a method name.
-abbrev OneMeaning : Program → ℕ → Type 0
+abbrev pub OneMeaning : Program → ℕ → Type 0
 OneMeaning p t = (g h : Signature) → MsigIn p t g → MsigIn p t h → g .name ≡ h .name → g ≡ h
 
 -- two signatures with one name are the same if their types are
@@ -46,7 +46,7 @@ module _ (p : Program) (ok : Regular p) where
   interface-one t (lists gs) e j g h x y = unique-same (λ s. s .name) gs g h (ok .interfaces t (lists gs) e .1) (rw e at (msig-from x)) (rw e at (msig-from y))
   interface-one t (extends a b) e j g h x y = j g h x y
 
-  class-one : (t : ℕ) (c : Class) → declarationAt p t ≡ a-class c → OneMeaning p t
+  pub class-one : (t : ℕ) (c : Class) → declarationAt p t ≡ a-class c → OneMeaning p t
   class-one t c e g h x y n =
       let d : DefIn g (c .methods) = rw e at (msig-from x) in
       let f : DefIn h (c .methods) = rw e at (msig-from y) in

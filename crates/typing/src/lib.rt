@@ -1,4 +1,16 @@
 // Typing: the walk over expressions, and the answer of Check.
+mod agreement;
+mod check;
+mod clashes;
+mod covers;
+mod forks;
+mod infer;
+mod lookup;
+mod program;
+mod starts;
+mod subtyping;
+
+pub use check::verdict_of;
 use script::Question;
 
 // What the walk over an expression comes to: its type, or the question that gets a no and the node.
@@ -11,4 +23,17 @@ pub enum Answer {
 pub enum Verdict {
     Accepted(u16),
     Refused(Question, u16),
+}
+
+// What a method look-up finds: the types of the parameter and the result.
+pub enum Member {
+    Missing,
+    Types(u16, u16),
+}
+
+// What a type number is declared as, with the index of the record.
+pub enum Declared {
+    Interface(usize),
+    Class(usize),
+    Neither,
 }

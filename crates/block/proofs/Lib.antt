@@ -1,0 +1,12 @@
+pub mod Area
+pub mod Trees
+pub mod Words
+pub mod Shows
+pub mod Fits
+pub mod Decode
+pub mod Changes
+pub mod Start
+pub mod Growing
+pub mod InOrder
+pub mod Ordered
+pub mod Places

@@ -1,0 +1,154 @@
+-- The block of a configuration that fits is in order; so what `decode` accepts is just what is in order.
+use mathlib.Core.Path.{_≡_, refl, _∙_}
+use mathlib.Core.Bool.{Bool, true, false}
+use mathlib.Core.List.{List, [], _∷_, _++_, append-assoc, append-nil, map, map-map, map-append, flatMap, reverse, List·Memᴰ·head, List·Memᴰ·tail}
+use mathlib.Core.Option.{some}
+use Prim.Native.Nat.{ℕ, zero, suc, _+_, _*_, _<_, _≤_}
+use native.Mathlib.Omega.{arith}
+use lib.ListN.{length, getD, length-append, length-map, length-reverse, List·getD-eq-default}
+use Rattle.words.specs.Word.{wordAt}
+use Rattle.limits.specs.Limits.{CLASS-FIELDS}
+use Rattle.script.specs.Lists.{_∈_, run, sumBelow}
+use Rattle.machine.specs.Config.{Object, Frame, awaits, casts, locks, Tree, running, returning, failed, join, Config}
+use Rattle.block.specs.Layout.{POSITION-COUNT, POSITION, POSITIONS-AT, objectByte, positionByte, frameByte, RUNNING, RETURNING, FAILED}
+use Rattle.block.specs.Block.{valueWord, shutWord, objectWords, bindingWords, frameWords, positionWords, waiting, preorder, framesOf, Parts, partsOf, encode}
+use Rattle.block.specs.Shows.{cell}
+use Rattle.block.specs.Fits.{Fits}
+use Rattle.block.specs.Decode.{decode}
+use Rattle.block.specs.InOrder.{ObjectOk, PositionOk, is-running, is-returning, is-failed, is-join, FrameOk, is-awaits, is-casts, is-locks, Trees, no-tree, one-thread, one-join, InOrder}
+use Rattle.block.proofs.Area.{getD-filled}
+use Rattle.block.proofs.Words.{encode-length, object-count, binding-count, frame-count, position-count, object-row, binding-row, position-row, frame-row, object-word, position-word, frame-word, rest-blank}
+use Rattle.block.proofs.Fits.{encode-bytes}
+use Rattle.block.proofs.Decode.{positions-read, encode-decode}
+use Rattle.block.proofs.Growing.{sum-front}
+use Rattle.block.proofs.InOrder.{object-same, position-same, frame-same, sum-same, firsts}
+
+shut-bound : (s : Bool) → shutWord s ≤ 1
+shut-bound true = omega arith
+shut-bound false = omega arith
+
+object-ok : (fieldCount : ℕ → ℕ) (o : Object) → length (o .fields) ≡ fieldCount (o .class) → length (o .fields) ≤ CLASS-FIELDS → ObjectOk fieldCount (λ j. getD (objectWords o) j 0)
+object-ok fieldCount o e h =
+    record {
+      shut = shut-bound (o .shut);
+      few = omega arith;
+      unused = λ k l m.
+          let s : 2 + k ≡ suc (suc k) = omega arith in
+          rw s
+          (getD-filled CLASS-FIELDS (map valueWord (o .fields)) k m
+          ∙ List·getD-eq-default (map valueWord (o .fields)) 0 {n = k} (omega (arith, length-map (o .fields) valueWord)));
+    }
+
+position-ok : (t : Tree) → PositionOk (λ j. getD (positionWords t) j 0)
+position-ok (running p e fs) = is-running refl refl
+position-ok (returning v fs) = is-returning refl refl refl
+position-ok failed = is-failed refl refl refl refl refl
+position-ok (join fs p e l r) = is-join refl refl
+
+frame-ok : (f : Frame) → FrameOk (λ j. getD (frameWords f) j 0)
+frame-ok (awaits p e) = is-awaits refl
+frame-ok (casts p) = is-casts refl refl
+frame-ok (locks o) = is-locks refl refl
+
+-- the kinds of a tree's positions, before those of other trees
+kind : Tree → ℕ
+kind t = getD (positionWords t) 0 0
+
+tree-kinds : (t : Tree) (ks : List ℕ) (n : ℕ) → Trees ks n → Trees (map kind (preorder t) ++ ks) (suc n)
+unfolding preorder kind
+tree-kinds (running p e fs) ks n h = one-thread {k = RUNNING} (omega arith) h
+tree-kinds (returning v fs) ks n h = one-thread {k = RETURNING} (omega arith) h
+tree-kinds failed ks n h = one-thread {k = FAILED} (omega arith) h
+tree-kinds (join fs p e l r) ks n h =
+    let both = tree-kinds l (map kind (preorder r) ++ ks) (suc n) (tree-kinds r ks n h) in
+    let all : Trees (map kind (preorder l ++ preorder r) ++ ks) (suc (suc n)) = rw (map-append kind (preorder l) (preorder r), append-assoc) both in
+    one-join refl all
+
+-- the numbers of frames add up to the frames there are
+frame-number : (t : Tree) → getD (positionWords t) 4 0 ≡ length (waiting t)
+frame-number (running p e fs) = refl
+frame-number (returning v fs) = refl
+frame-number failed = refl
+frame-number (join fs p e l r) = refl
+
+frames-sum : (ts : List Tree) → sumBelow (λ i. cell (map positionWords ts) i 4) (length ts) ≡ length (flatMap (λ t. reverse (waiting t)) ts)
+unfolding sumBelow flatMap
+frames-sum [] = refl
+frames-sum (t ∷ ts) =
+    sum-front (λ i. cell (map positionWords (t ∷ ts)) i 4) (length ts)
+    ∙ omega (arith, frames-sum ts, frame-number t, length-reverse (waiting t), length-append (reverse (waiting t)) (flatMap (λ t. reverse (waiting t)) ts))
+
+-- an element by its number is in the list
+at-in : {A : Type 0} (xs : List A) (i : ℕ) (d : A) → i < length xs → getD xs i d ∈ xs
+at-in [] i d h = absurd (omega arith)
+at-in (x ∷ xs) zero d h = List·Memᴰ·head refl
+at-in (x ∷ xs) (suc i) d h = List·Memᴰ·tail (at-in xs i d (omega arith))
+
+pub all-small : (xs : List ℕ) → ((x : ℕ) → x ∈ xs → x < 256) → (i : ℕ) → getD xs i 0 < 256
+all-small [] h i = omega arith
+all-small (x ∷ xs) h zero = h x (List·Memᴰ·head refl)
+all-small (x ∷ xs) h (suc i) = all-small xs (λ y m. h y (List·Memᴰ·tail m)) i
+
+-- past the last record
+past : {A : Type 0} (f : A → List ℕ) (xs : List A) (i j : ℕ) → length xs ≤ i → cell (map f xs) i j ≡ 0
+past f xs i j h = rw (List·getD-eq-default (map f xs) [] {n = i} (omega (arith, length-map xs f)))
+
+module _ (fieldCount : ℕ → ℕ) (c : Config) (fit : Fits fieldCount c) where
+  abbrev p : Parts
+  p = partsOf c
+
+  abbrev word : ℕ → ℕ
+  word i = wordAt (encode c) (2 * i)
+
+  tree-shown : Trees (run (λ i. wordAt (encode c) (positionByte i 0)) 0 (word POSITION-COUNT)) 1
+  unfolding kind
+  tree-shown =
+      let first : (List ℕ → ℕ) = λ r. getD r 0 0 in
+      let kinds : Trees (map first (map positionWords (preorder (c .tree)))) 1 =
+      rw map-map (rw (append-nil (map kind (preorder (c .tree)))) at (tree-kinds (c .tree) [] 0 no-tree))
+      in
+      rw (← firsts word POSITIONS-AT POSITION (word POSITION-COUNT) (omega arith), positions-read fieldCount c fit) kinds
+
+  frames-shown : sumBelow (λ i. wordAt (encode c) (positionByte i 4)) (length (p .positions)) ≡ length (p .frames)
+  unfolding framesOf
+  frames-shown =
+      sum-same (λ i. wordAt (encode c) (positionByte i 4)) (λ i. cell (map positionWords (p .positions)) i 4) (length (p .positions))
+      (λ i l. position-row p i 4 (omega (arith, fit .few .positions)) (omega arith))
+      ∙ frames-sum (p .positions)
+
+  pub fits-in-order : InOrder fieldCount (encode c)
+  fits-in-order =
+      record {
+        long = encode-length c;
+        small = all-small (encode c) (encode-bytes fieldCount c fit);
+        few-objects = rw (object-count p) (fit .few .objects);
+        few-bindings = rw (binding-count p) (fit .few .bindings);
+        few-frames = rw (frame-count p) (fit .few .frames);
+        few-positions = rw (position-count p) (fit .few .positions);
+        objects = λ i h.
+            let l : i < length (p .objects) = rw (object-count p) at h in
+            let d : Object = record { class = 0; shut = false; fields = [] } in
+            let o = getD (p .objects) i d in
+            let m = at-in (p .objects) i d l in
+            object-same fieldCount (λ j. getD (objectWords o) j 0) (λ j. wordAt (encode c) (objectByte i j))
+            (λ j hj. object-word p i j (fit .few) d l hj) (object-ok fieldCount o (fit .own-fields o m) (fit .few-fields o m));
+        positions = λ i h.
+            let l : i < length (p .positions) = rw (position-count p) at h in
+            position-same (λ j. getD (positionWords (getD (p .positions) i failed)) j 0) (λ j. wordAt (encode c) (positionByte i j))
+            (λ j hj. position-word p i j (fit .few) failed l hj) (position-ok (getD (p .positions) i failed));
+        frames = λ i h.
+            let l : i < length (p .frames) = rw (frame-count p) at h in
+            frame-same (λ j. getD (frameWords (getD (p .frames) i (casts 0))) j 0) (λ j. wordAt (encode c) (frameByte i j))
+            (λ j hj. frame-word p i j (fit .few) (casts 0) l hj) (frame-ok (getD (p .frames) i (casts 0)));
+        one-tree = tree-shown;
+        all-frames = rw (position-count p, frame-count p) frames-shown;
+        no-object = λ i j n h l. object-row p i j h l ∙ past objectWords (p .objects) i j (rw (object-count p) at n);
+        no-binding = λ i j n h l. binding-row p i j h l ∙ past bindingWords (p .bindings) i j (rw (binding-count p) at n);
+        no-position = λ i j n h l. position-row p i j h l ∙ past positionWords (p .positions) i j (rw (position-count p) at n);
+        no-frame = λ i j n h l. frame-row p i j h l ∙ past frameWords (p .frames) i j (rw (frame-count p) at n);
+        rest = rest-blank p;
+      }
+
+-- what is decoded is in order
+pub decoded-in-order : (fieldCount : ℕ → ℕ) (b : List ℕ) (c : Config) → decode fieldCount b ≡ some c → InOrder fieldCount b
+decoded-in-order fieldCount b c e = let h = encode-decode fieldCount b c e in rw (← h .0) (fits-in-order fieldCount c (h .1))

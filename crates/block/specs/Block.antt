@@ -1,0 +1,101 @@
+-- The one block that stands for a configuration.
+use Prim.Native.Nat.{ℕ, suc}
+use mathlib.Core.Bool.{Bool, true, false}
+use mathlib.Core.List.{List, [], _∷_, _++_, map, flatMap, reverse}
+use lib.ListN.{length, getD}
+use Rattle.words.specs.Word.{bytes}
+use Rattle.limits.specs.Limits.{OBJECTS, BINDINGS, FRAMES, FLAGS, CLASS-FIELDS}
+use Rattle.script.specs.Lists.{sumBelow}
+use Rattle.machine.specs.Config.{Value, nil, ref, Object, Binding, Frame, awaits, casts, locks, Tree, running, returning, failed, join, Config}
+use Rattle.block.specs.Area.{filled, area}
+use Rattle.block.specs.Layout.{WORDS, OBJECT, BINDING, POSITION, FRAME, RUNNING, RETURNING, FAILED, JOIN, AWAITS, CASTS, LOCKS}
+
+-- A value: 0 is null, o + 1 is object number o.
+abbrev pub valueWord : Value → ℕ
+valueWord nil = 0
+valueWord (ref o) = suc o
+
+-- "open or shut"
+abbrev pub shutWord : Bool → ℕ
+shutWord false = 0
+shutWord true = 1
+
+-- "objects (class, open or shut, fields)"
+abbrev pub objectWords : Object → List ℕ
+objectWords o = o .class ∷ shutWord (o .shut) ∷ filled CLASS-FIELDS (map valueWord (o .fields))
+
+-- "variable bindings (name, type, value, the binding beneath)"
+abbrev pub bindingWords : Binding → List ℕ
+bindingWords b = b .name ∷ b .type ∷ valueWord (b .value) ∷ b .link ∷ []
+
+-- "a tree position, preorder, root 0, left before right": each position as the tree that begins there.
+unfoldable pub preorder : Tree → List Tree
+preorder (running p e fs) = running p e fs ∷ []
+preorder (returning v fs) = returning v fs ∷ []
+preorder failed = failed ∷ []
+preorder (join fs p e l r) = join fs p e l r ∷ (preorder l ++ preorder r)
+
+-- The frames that wait at a position, innermost first.
+abbrev pub waiting : Tree → List Frame
+waiting (running p e fs) = fs
+waiting (returning v fs) = fs
+waiting failed = []
+waiting (join fs p e l r) = fs
+
+-- A position: what it is, its node (of a join, its last part), its environment, its value, and how many frames wait there.
+abbrev pub positionWords : Tree → List ℕ
+positionWords (running p e fs) = RUNNING ∷ p ∷ e ∷ 0 ∷ length fs ∷ []
+positionWords (returning v fs) = RETURNING ∷ 0 ∷ 0 ∷ valueWord v ∷ length fs ∷ []
+positionWords failed = FAILED ∷ 0 ∷ 0 ∷ 0 ∷ 0 ∷ []
+positionWords (join fs p e l r) = JOIN ∷ p ∷ e ∷ 0 ∷ length fs ∷ []
+
+-- "waiting frames in all": those of every position, in preorder, the outermost of each first.
+unfoldable pub framesOf : Tree → List Frame
+framesOf t = flatMap (λ s. reverse (waiting s)) (preorder t)
+
+-- Where the frames of position i begin: after those of the positions before it.
+abbrev pub frameStart : Tree → ℕ → ℕ
+frameStart t i = sumBelow (λ n. length (waiting (getD (preorder t) n failed))) i
+
+-- A frame: what it is, and its node and environment, its node, or its object.
+abbrev pub frameWords : Frame → List ℕ
+frameWords (awaits p e) = AWAITS ∷ p ∷ e ∷ []
+frameWords (casts p) = CASTS ∷ p ∷ 0 ∷ []
+frameWords (locks o) = LOCKS ∷ o ∷ 0 ∷ []
+
+-- What lies in a block, area by area: objects, bindings in the order in which they were made, positions and frames. While Run moves, frames are those of the tree in hand
+-- and positions still those written last, so laws are about parts; those of a configuration are its own.
+pub record Parts : Type 0 where
+  pub objects : List Object
+  pub bindings : List Binding
+  pub positions : List Tree
+  pub frames : List Frame
+
+abbrev pub partsOf : Config → Parts
+partsOf c =
+    record {
+      objects = c .stores .objects;
+      bindings = reverse (c .stores .bindings);
+      positions = preorder (c .tree);
+      frames = framesOf (c .tree);
+    }
+
+-- The counts, the areas, each right after the last, and zeros to the end of the block.
+abbrev pub headerWords : Parts → List ℕ
+headerWords p = length (p .objects) ∷ length (p .bindings) ∷ length (p .frames) ∷ length (p .positions) ∷ []
+
+unfoldable pub laid : Parts → List ℕ
+laid p =
+    filled WORDS
+    (headerWords p
+    ++ (area objectWords OBJECT OBJECTS (p .objects)
+    ++ (area bindingWords BINDING BINDINGS (p .bindings)
+    ++ (area positionWords POSITION FLAGS (p .positions)
+    ++ area frameWords FRAME FRAMES (p .frames)))))
+
+-- The words of a configuration's block, and its bytes.
+abbrev pub blockWords : Config → List ℕ
+blockWords c = laid (partsOf c)
+
+abbrev pub encode : Config → List ℕ
+encode c = bytes (blockWords c)

@@ -1,0 +1,7 @@
+pub mod Area
+pub mod Layout
+pub mod Block
+pub mod Shows
+pub mod Fits
+pub mod Decode
+pub mod InOrder

@@ -1,0 +1,1 @@
+// The state block: how a configuration lies in its bytes. Definitions and theorems so far.

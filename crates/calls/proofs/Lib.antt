@@ -1,0 +1,9 @@
+pub mod Fits
+pub mod Answers
+pub mod Replies
+pub mod Lists
+pub mod Runs
+pub mod Still
+pub mod Reached
+pub mod Bytes
+pub mod Samples

@@ -1,0 +1,97 @@
+-- What the three calls answer, as plain statements to be held against document 01.
+use Prim.Native.Nat.{ℕ, _<_, _≤_}
+use mathlib.Core.Path.{_≡_}
+use mathlib.Core.Bool.{Bool, true, false}
+use mathlib.Core.List.{List, [], _∷_, _++_}
+use mathlib.Core.Logic.{_⊎_}
+use mathlib.Core.Option.{Option, none, some}
+use lib.ListN.{length}
+use Rattle.limits.specs.Limits.{BLOCK, CHOICES, FLAGS}
+use Rattle.script.specs.declared.Question.{Question}
+use Rattle.script.specs.Lists.{_∈_}
+use Rattle.script.specs.Asking.{numberOf}
+use Rattle.typing.specs.declared.Verdict.the-variants.{Accepted, Refused}
+use Rattle.typing.specs.Check.{checkOf}
+use Rattle.machine.specs.Config.{Config, codeOf}
+use Rattle.machine.specs.Machine.{limits, initial}
+use Rattle.machine.specs.WellFormed.{WellFormed}
+use Rattle.machine.specs.Runs.{Report, report, Runs, Stopped}
+use Rattle.machine.specs.ReadAs.{Reading, reading}
+use Rattle.machine.specs.Short.{StopsShort}
+use Rattle.machine.specs.Reach.{OneRun}
+use Rattle.block.specs.Block.{encode}
+use Rattle.calls.specs.Calls.{Started, Offered, flagsOf, Ran, ran, runOf}
+
+-- The block stands for this configuration, well formed for the script, whose start has type t.
+pub record Holds (s : List ℕ) (t : ℕ) (b : List ℕ) (c : Config) : Type 0 where
+  pub is : b ≡ encode c
+  pub well : WellFormed (codeOf s) limits t c
+
+-- Question 21: "Is the block a well-formed configuration of this script?"
+pub record Stands (s : List ℕ) (t : ℕ) (b : List ℕ) : Type 0 where
+  pub config : Config
+  pub holds : Holds s t b config
+
+-- Whether a configuration was found: question 21's answer.
+abbrev pub found : Option Config → Bool
+found none = false
+found (some c) = true
+
+-- The first no of each call, in order, and its number and place. `Fine` says what question 22 asks, `Off` that it gets a no.
+pub data NoTo (s b : List ℕ) (Fine Off : Type 0) : ℕ → ℕ → Type 0 where
+  by-script : {q : Question} {place : ℕ} → checkOf s ≡ Refused q place → NoTo s b Fine Off (numberOf q) place
+  by-length : {t : ℕ} → checkOf s ≡ Accepted t → (length b ≡ BLOCK → ⊥) → NoTo s b Fine Off 20 0
+  by-buffer : {t : ℕ} → checkOf s ≡ Accepted t → length b ≡ BLOCK → Off → NoTo s b Fine Off 22 0
+  by-form : {t : ℕ} → checkOf s ≡ Accepted t → length b ≡ BLOCK → Fine → (Stands s t b → ⊥) → NoTo s b Fine Off 21 0
+
+-- Start asks no question 22 or 21.
+pub data StartAnswers (s b : List ℕ) : Started → Type 0 where
+  start-refused : {n place : ℕ} → NoTo s b ⊥ ⊥ n place → StartAnswers s b (record { number = n; place = place; block = b })
+  started : {t : ℕ} → checkOf s ≡ Accepted t → length b ≡ BLOCK → StartAnswers s b (record { number = 0; place = 0; block = encode initial })
+
+pub data OfferAnswers (s b fl : List ℕ) : Offered → Type 0 where
+  offer-refused : {n place : ℕ} → NoTo s b (length fl ≡ FLAGS) (length fl ≡ FLAGS → ⊥) n place
+      → OfferAnswers s b fl (record { number = n; place = place; block = b; flags = fl })
+  offered : {t : ℕ} {c : Config} → checkOf s ≡ Accepted t → length fl ≡ FLAGS → Holds s t b c
+      → OfferAnswers s b fl (record { number = 0; place = 0; block = b; flags = flagsOf s c })
+
+pub data RunAnswers (s b ns : List ℕ) : Ran → Type 0 where
+  run-refused : {n place : ℕ} → NoTo s b (length ns ≤ CHOICES) (CHOICES < length ns) n place
+      → RunAnswers s b ns (record { number = n; place = place; stop = 0; read = 0; moves = 0; block = b })
+  has-run : {t : ℕ} {c : Config} → checkOf s ≡ Accepted t → length ns ≤ CHOICES → Holds s t b c → RunAnswers s b ns (ran (report (codeOf s) limits c ns))
+
+-- A Run that is not refused: what it had, what each choice did, what it leaves and why it stopped.
+pub record Left (s b ns : List ℕ) : Type 0 where
+  pub type : ℕ
+  pub accepted : checkOf s ≡ Accepted type
+  pub few : length ns ≤ CHOICES
+  pub before : Config
+  pub had : Holds s type b before
+  -- the machine's run: each choice read was passed over, or made the move of its position, or is the last one and met a full store
+  pub outcome : Report
+  pub did : Runs (codeOf s) limits before ns outcome
+  pub reply : runOf s b ns ≡ ran outcome
+  pub holds : Holds s type (runOf s b ns .block) (outcome .config)
+  -- stop 0 with something that can move; 1, 2 or 3 at that end with nothing that can; 4 to 7 with a store full for a move that is due
+  pub stopped : Stopped (codeOf s) limits (outcome .config) (outcome .stop)
+  -- stop 0 has read all choices
+  pub spent : outcome .stop ≡ 0 → outcome .read ≡ length ns
+  -- 4 to 7: the last choice read names a position whose move due needs more places than are left
+  pub full : 4 ≤ outcome .stop → StopsShort (codeOf s) limits ns outcome
+
+-- A buffer after a call is as long as before, and still bytes.
+pub record KeepsBytes (before after : List ℕ) : Type 0 where
+  pub long : length after ≡ length before
+  pub small : ((x : ℕ) → x ∈ before → x < 256) → (x : ℕ) → x ∈ after → x < 256
+
+-- One Run from a block that holds c to one that reads as q: the machine's silent choices and then the one for the published step.
+pub record ReachedBy (s : List ℕ) (t : ℕ) (b : List ℕ) (c : Config) (q : Reading) : Type 0 where
+  pub by : OneRun (codeOf s) limits c q
+  pub choices : List ℕ
+  pub are : choices ≡ by .silent ++ (by .last ∷ [])
+  pub few : length choices ≤ CHOICES
+  pub positions : (n : ℕ) → n ∈ choices → n < FLAGS
+  pub config : Config
+  pub holds : Holds s t (runOf s b choices .block) config
+  -- a store has too few places left for a move on the way, or every choice made its move
+  pub ends : (4 ≤ runOf s b choices .stop) ⊎ ((runOf s b choices .moves ≡ length choices) × (reading (codeOf s) config ≡ q))

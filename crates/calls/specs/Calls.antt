@@ -1,0 +1,123 @@
+-- Start, Offer and Run on byte lists (Check is `checkOf`): each gives its reply's numbers and every lent byte that the call may write, for all inputs. The script and the
+-- choices are lent to be read only.
+use Prim.Native.Nat.{ℕ}
+use mathlib.Core.Bool.{Bool, true, false}
+use mathlib.Core.List.{List}
+use mathlib.Core.Option.{Option, none, some}
+use lib.Dec.{eqb, leb}
+use lib.ListN.{length}
+use Rattle.limits.specs.Limits.{BLOCK, CHOICES, FLAGS}
+use Rattle.script.specs.Lists.{run}
+use Rattle.script.specs.Asking.{numberOf}
+use Rattle.script.specs.Reading.{programOf}
+use Rattle.typing.specs.declared.Verdict.{Verdict}
+use Rattle.typing.specs.declared.Verdict.the-variants.{Accepted, Refused}
+use Rattle.typing.specs.Check.{checkOf}
+use Rattle.machine.specs.Config.{Config, codeOf}
+use Rattle.machine.specs.Machine.{fieldsOf, oneIf, limits, canMove, initial}
+use Rattle.machine.specs.Decide.{only, wellFormedTest}
+use Rattle.machine.specs.Runs.{Report, report}
+use Rattle.block.specs.Block.{encode}
+use Rattle.block.specs.Decode.{decode}
+
+-- What the questions to a call come to: the first no, with its number and place; or yes to all, with the configuration to go on with.
+pub data Questioned : Type 0 where
+  no-at : ℕ → ℕ → Questioned
+  yes-with : Config → Questioned
+
+-- "Start through these and 20, Offer and Run through all": first questions 1 to 15, with Check's number and place.
+abbrev pub askScript : Verdict → (ℕ → Questioned) → Questioned
+askScript (Accepted t) next = next t
+askScript (Refused q place) next = no-at (numberOf q) place
+
+-- A question about "a block, a choice list or another lent buffer" has place 0.
+abbrev pub ask : ℕ → Bool → Questioned → Questioned
+ask n true next = next
+ask n false next = no-at n 0
+
+-- "Is the block a well-formed configuration of this script? 21"
+abbrev pub askForm : Option Config → Questioned
+askForm none = no-at 21 0
+askForm (some c) = yes-with c
+
+-- How many fields a class type of the script declares.
+abbrev pub fieldCount : List ℕ → ℕ → ℕ
+fieldCount s t = length (fieldsOf (programOf s) t)
+
+-- The configuration, if it is well formed for a script whose start has type t.
+abbrev pub wellFormed : List ℕ → ℕ → Option Config → Option Config
+wellFormed s t none = none
+wellFormed s t (some c) = only (wellFormedTest (codeOf s) limits t c) (some c)
+
+-- The configuration that a block stands for, if it is a well-formed one.
+unfoldable pub configOf : List ℕ → ℕ → List ℕ → Option Config
+configOf s t b = wellFormed s t (decode (fieldCount s) b)
+
+-- "Is the state block 49,152 bytes? 20"
+abbrev pub blockLong : List ℕ → Bool
+blockLong b = eqb (length b) BLOCK
+
+-- "Is the choice list at most 4,096 bytes (Run), or the flag buffer exactly 63 (Offer)? 22"
+abbrev pub choicesFew : List ℕ → Bool
+choicesFew ns = leb (length ns) CHOICES
+
+abbrev pub flagsLong : List ℕ → Bool
+flagsLong fl = eqb (length fl) FLAGS
+
+-- The questions to Start, and to Offer or Run with question 22's answer, in document 01's order: 20, 22, 21.
+unfoldable pub startAsked : List ℕ → List ℕ → Questioned
+startAsked s b = askScript (checkOf s) (λ t. ask 20 (blockLong b) (yes-with initial))
+
+unfoldable pub blockAsked : List ℕ → List ℕ → Bool → Questioned
+blockAsked s b lent = askScript (checkOf s) (λ t. ask 20 (blockLong b) (ask 22 lent (askForm (configOf s t b))))
+
+-- "A refusal returns its number and place, with every other number 0, and lent buffers unchanged. A call that is not refused has number 0 and place 0."
+pub record Started : Type 0 where
+  pub number : ℕ
+  pub place : ℕ
+  pub block : List ℕ
+
+pub record Offered : Type 0 where
+  pub number : ℕ
+  pub place : ℕ
+  pub block : List ℕ
+  pub flags : List ℕ
+
+pub record Ran : Type 0 where
+  pub number : ℕ
+  pub place : ℕ
+  pub stop : ℕ
+  pub read : ℕ
+  pub moves : ℕ
+  pub block : List ℕ
+
+-- "Start writes the initial block over anything"
+abbrev pub startedFrom : List ℕ → Questioned → Started
+startedFrom b (no-at n place) = record { number = n; place = place; block = b }
+startedFrom b (yes-with c) = record { number = 0; place = 0; block = encode c }
+
+unfoldable pub startOf : List ℕ → List ℕ → Started
+startOf s b = startedFrom b (startAsked s b)
+
+-- "Offer sets a byte to 1 for each tree position that can move and 0 for all others"
+unfoldable pub flagsOf : List ℕ → Config → List ℕ
+flagsOf s c = run (λ n. oneIf (canMove (codeOf s) limits c n)) 0 FLAGS
+
+-- "the block stays as it was"
+abbrev pub offeredFrom : List ℕ → List ℕ → List ℕ → Questioned → Offered
+offeredFrom s b fl (no-at n place) = record { number = n; place = place; block = b; flags = fl }
+offeredFrom s b fl (yes-with c) = record { number = 0; place = 0; block = b; flags = flagsOf s c }
+
+unfoldable pub offerOf : List ℕ → List ℕ → List ℕ → Offered
+offerOf s b fl = offeredFrom s b fl (blockAsked s b (flagsLong fl))
+
+-- "Run reads choices." "It returns choices read and moves made"
+abbrev pub ran : Report → Ran
+ran r = record { number = 0; place = 0; stop = r .stop; read = r .read; moves = r .moves; block = encode (r .config) }
+
+abbrev pub ranFrom : List ℕ → List ℕ → List ℕ → Questioned → Ran
+ranFrom s b ns (no-at n place) = record { number = n; place = place; stop = 0; read = 0; moves = 0; block = b }
+ranFrom s b ns (yes-with c) = ran (report (codeOf s) limits c ns)
+
+unfoldable pub runOf : List ℕ → List ℕ → List ℕ → Ran
+runOf s b ns = ranFrom s b ns (blockAsked s b (choicesFew ns))

@@ -1,0 +1,1 @@
+// The four calls on byte lists: definitions and theorems so far.

@@ -1,0 +1,402 @@
+-- `wellFormedTest` decides whether a configuration is well formed.
+use Prim.Native.Nat.{ℕ, zero, suc, _+_, _≤_, _<_}
+use native.Mathlib.Omega.{arith}
+use native.Mathlib.Decide.{decLt, ℕ-discrete}
+use mathlib.Core.Path.{_≡_, refl}
+use mathlib.Core.Bool.{Bool, true, false, cond, _&&_, _||_}
+use mathlib.Core.List.{List, [], _∷_, _++_, map, List·Memᴰ·head, List·Memᴰ·tail, List·Memᴰ·cases-cons, List·Memᴰ·not-nil, Memᴰ·append-left, Memᴰ·append-right}
+use mathlib.Core.Logic.{_⊎_, inl, inr, ⊎-elim}
+use mathlib.Core.Option.{Option, none, some, Option·none-ne-some}
+use lib.Dec.{eqb, leb, ltb}
+use lib.ListN.{length}
+use borrow.Author.Tests.{leb-true, le-leb, ltb-true, lt-ltb}
+use Rattle.script.specs.Lists.{_∈_}
+use Rattle.script.specs.Asking.{Decides, holds, fails}
+use Rattle.script.specs.Syntax.{Point, Node, n-null, n-var, n-select, n-update, n-call, n-bind, n-new, n-cast, n-fork, n-lock, Expr, null, var, select, update, call, bind, new, cast, fork, lock, isNull, parts, Slot, Signature, Program}
+use Rattle.script.specs.Regular.{IsType, IsClass, Formed}
+use Rattle.script.proofs.Tests.{says-yes, yes-said, decides-as, decides-and, decides-or, decides-not, decides-eq, decides-le, decides-lt, decides-all}
+use Rattle.script.proofs.Reading.{first, second}
+use Rattle.typing.specs.declared.Answer.{Answer}
+use Rattle.typing.specs.declared.Answer.the-variants.{Typed, Faulty}
+use Rattle.typing.specs.Members.{typeIn, fieldIn, methodIn}
+use Rattle.typing.specs.Typing.{inferred}
+use Rattle.typing.specs.Published.{WfType, Sub, WfEnv, WF-ENV, MsigIn, Infer}
+use Rattle.typing.proofs.Types.{type-wf}
+use Rattle.typing.proofs.Subtype.{decides-below}
+use Rattle.typing.proofs.Members.{field-in, method-in, method-only, signature-types}
+use Rattle.typing.proofs.Rules.{Judged, types, refuses, env-more, judged}
+use Rattle.machine.specs.Config.{Code, Value, nil, ref, Object, Binding, Stores, Frame, awaits, casts, locks, Tree, running, returning, failed, join, Config}
+use Rattle.machine.specs.Machine.{fieldsOf, scope, slot, context, object, lockFrames, Places}
+use Rattle.machine.specs.WellFormed.{Want, any, upto, Meets, meets-any, meets-type, Fits, fits-nil, fits-ref, Gives, gives-null, gives-type, At, BindingOk, BindingsOk, no-bindings, a-binding, FieldsOk, no-fields, a-field, StoresOk, Awaits, a-let, a-write, a-call, FramesOk, no-frames, a-node, a-cast, a-lock, TreeOk, running-ok, returning-ok, failed-ok, join-ok, lockCount, failures, shutAt, Within, WellFormed}
+use Rattle.machine.specs.Accepted.{Later, Accepted}
+use Rattle.machine.specs.ReadAs.{held}
+use Rattle.machine.specs.Decide.{given, ifTyped, only, meetsTest, objectTest, fitsTest, answerTest, givesTest, atTest, classTest, fieldsTest, everyObject, bindingTest, bindingsTest, storesTest, Turn, turn, castType, expects, wantTest, treeTest, lockList, distinctTest, numbersBelow, coveredTest, withinTest, wellFormedTest}
+use Rattle.machine.proofs.Types.{infer-computes, rules-function}
+use Rattle.machine.proofs.Steps.{held-in}
+
+-- a second test that decides where the first passes
+decides-then : {P Q : Type 0} {a b : Bool} → Decides P a → (P → Decides Q b) → Decides (P × Q) (a && b)
+decides-then (holds p) d = go p (d p)
+  where
+    go : {P Q : Type 0} {b : Bool} → P → Decides Q b → Decides (P × Q) b
+    go p (holds q) = holds (p, q)
+    go p (fails n) = fails (λ h. n (h .1))
+decides-then (fails n) d = fails (λ h. n (h .0))
+
+-- what an answer says of its parts
+given-some : {A B : Type 0} (o : Option A) (f : A → Option B) (b : B) → given o f ≡ some b → (a : A) × (o ≡ some a) × (f a ≡ some b)
+given-some none f b h = absurd (Option·none-ne-some _ h)
+given-some (some a) f b h = (a, refl, h)
+
+typed-some : {B : Type 0} (o : Answer) (f : ℕ → Option B) (b : B) → ifTyped o f ≡ some b → (t : ℕ) × (o ≡ Typed t) × (f t ≡ some b)
+typed-some (Typed t) f b h = (t, refl, h)
+typed-some (Faulty q n) f b h = absurd (Option·none-ne-some _ h)
+
+only-some : {A : Type 0} (q : Bool) (o : Option A) (a : A) → only q o ≡ some a → (q ≡ true) × (o ≡ some a)
+only-some true o a h = (refl, h)
+only-some false o a h = absurd (Option·none-ne-some _ h)
+
+some-same : {A : Type 0} (a b : A) → _≡_ {A = Option A} (some a) (some b) → a ≡ b
+some-same a b h = cc
+
+-- every object of a list
+decides-every : (P : Object → Type 0) (test : Object → Bool) (xs : List Object) → ((x : Object) → Decides (P x) (test x)) → Decides ((o : ℕ) (x : Object) → object xs o ≡ some x → P x) (everyObject test xs)
+decides-every P test [] d = holds (λ o x e. absurd (Option·none-ne-some _ e))
+decides-every P test (y ∷ xs) d = decides-as both each (decides-and (d y) (decides-every P test xs d))
+  where
+    both : P y × ((o : ℕ) (x : Object) → object xs o ≡ some x → P x) → (o : ℕ) (x : Object) → object (y ∷ xs) o ≡ some x → P x
+    both h zero x e = let q : y ≡ x = cc in rw q at (h .0)
+    both h (suc o) x e = h .1 o x e
+
+    each : ((o : ℕ) (x : Object) → object (y ∷ xs) o ≡ some x → P x) → P y × ((o : ℕ) (x : Object) → object xs o ≡ some x → P x)
+    each h = (h zero y refl, λ o x e. h (suc o) x e)
+
+abbrev Classes : Code → List Object → Type 0
+Classes s xs = (o : ℕ) (x : Object) → object xs o ≡ some x → IsClass (s .program) (x .class)
+
+decides-class : (s : Code) (x : Object) → Decides (IsClass (s .program) (x .class)) (classTest s x)
+decides-class s x =
+    decides-as (λ h. record { past = h .0; last = h .1 }) (λ i. (i .past, i .last)) (decides-and (decides-lt (length (s .program .interfaces)) (x .class)) (decides-le (x .class) (length (s .program .interfaces) + length (s .program .classes))))
+
+-- the environment of a place is well formed
+cond-types : {s : Code} {xs : List Object} {bs : List Binding} → BindingsOk s xs bs → (e : ℕ) (b : Slot) → b ∈ context bs e → WfType (s .program) (b .type)
+cond-types no-bindings e b m = absurd (List·Memᴰ·not-nil m)
+cond-types {s} (a-binding {b = c} {bs = bs} h ok) e b m = go (eqb e (suc (length bs))) m (cond-types ok (c .link) b) (cond-types ok e b)
+  where
+    go : (q : Bool) → b ∈ map slot (cond q (c ∷ scope bs (c .link)) (scope bs e)) → (b ∈ context bs (c .link) → WfType (s .program) (b .type)) → (b ∈ context bs e → WfType (s .program) (b .type))
+        → WfType (s .program) (b .type)
+    go true m f g = ⊎-elim (λ (q : b ≡ slot c). rw q (type-wf (s .program) (c .type) .0 (h .type))) f (List·Memᴰ·cases-cons m)
+    go false m f g = g m
+
+context-wf : {s : Code} {xs : List Object} {bs : List Binding} → BindingsOk s xs bs → (e : ℕ) → WfEnv (s .program) (context bs e)
+context-wf ok e = WF-ENV (cond-types ok e)
+
+null-gives : {s : Code} {Γ : List Slot} {w : Want} (e : Expr) → isNull e ≡ true → Gives s Γ e w
+null-gives (null n) h = gives-null
+null-gives (var n x) h = absurd (let z : _≡_ {A = ℕ} 0 1 = cc in omega arith)
+null-gives (select n x f) h = absurd (let z : _≡_ {A = ℕ} 0 1 = cc in omega arith)
+null-gives (update n x f a) h = absurd (let z : _≡_ {A = ℕ} 0 1 = cc in omega arith)
+null-gives (call n x m a) h = absurd (let z : _≡_ {A = ℕ} 0 1 = cc in omega arith)
+null-gives (bind n x a b) h = absurd (let z : _≡_ {A = ℕ} 0 1 = cc in omega arith)
+null-gives (new n c) h = absurd (let z : _≡_ {A = ℕ} 0 1 = cc in omega arith)
+null-gives (cast n t a) h = absurd (let z : _≡_ {A = ℕ} 0 1 = cc in omega arith)
+null-gives (fork n a b c) h = absurd (let z : _≡_ {A = ℕ} 0 1 = cc in omega arith)
+null-gives (lock n x a) h = absurd (let z : _≡_ {A = ℕ} 0 1 = cc in omega arith)
+
+meets-sub : {s : Code} {t u : ℕ} → Meets s t (upto u) → Sub (s .program) t u
+meets-sub (meets-type b) = b
+
+fits-object : {s : Code} {xs : List Object} {o : ℕ} {w : Want} → Fits s xs (ref o) w → (x : Object) × (object xs o ≡ some x) × Meets s (x .class) w
+fits-object (fits-ref {x = x} h m) = (x, h, m)
+
+fields-both : {s : Code} {xs : List Object} {d : Slot} {ds : List Slot} {v : Value} {l : List Value} → FieldsOk s xs (d ∷ ds) (v ∷ l) → Fits s xs v (upto (d .type)) × FieldsOk s xs ds l
+fields-both (a-field f fs) = (f, fs)
+
+fields-short : {s : Code} {xs : List Object} {d : Slot} {ds : List Slot} → FieldsOk s xs (d ∷ ds) [] → ⊥
+fields-short f = elim f [ ]
+
+fields-long : {s : Code} {xs : List Object} {v : Value} {l : List Value} → FieldsOk s xs [] (v ∷ l) → ⊥
+fields-long f = elim f [ ]
+
+bindings-both : {s : Code} {xs : List Object} {b : Binding} {bs : List Binding} → BindingsOk s xs (b ∷ bs) → BindingOk s xs (length bs) b × BindingsOk s xs bs
+bindings-both (a-binding h ok) = (h, ok)
+
+judged-typed : {p : Program} {Γ : List Slot} {e : Expr} {t : ℕ} {r : Answer} → Judged p Γ e r → r ≡ Typed t → Infer p Γ e t × IsType p t
+judged-typed {t = t} (types {t = u} h i) e = let q : u ≡ t = cc in (rw q at h, rw q at i)
+judged-typed (refuses h) e = absurd (let z : _≡_ {A = ℕ} 0 1 = cc in omega arith)
+
+call-awaits : {s : Code} {Γ : List Slot} {x m c : ℕ} {a : Point} (g : Signature) → typeIn Γ x ≡ some c → MsigIn (s .program) c g → g .name ≡ m → Awaits s Γ (n-call x m a) (g .param) (g .result)
+call-awaits g h i n = rw (← n) (a-call h i)
+
+cast-view : (n : Node) (t : ℕ) → castType n ≡ some t → (a : Point) × (n ≡ n-cast t a)
+cast-view n-null t h = absurd (Option·none-ne-some _ h)
+cast-view (n-var x) t h = absurd (Option·none-ne-some _ h)
+cast-view (n-select x f) t h = absurd (Option·none-ne-some _ h)
+cast-view (n-update x f a) t h = absurd (Option·none-ne-some _ h)
+cast-view (n-call x m a) t h = absurd (Option·none-ne-some _ h)
+cast-view (n-bind x a b) t h = absurd (Option·none-ne-some _ h)
+cast-view (n-new c) t h = absurd (Option·none-ne-some _ h)
+cast-view (n-cast u a) t h = (a, cc)
+cast-view (n-fork a b c) t h = absurd (Option·none-ne-some _ h)
+cast-view (n-lock x a) t h = absurd (Option·none-ne-some _ h)
+
+module _ {s : Code} {start : ℕ} (acc : Accepted s start) where
+  decides-meets : (t : ℕ) (w : Want) → IsType (s .program) t → Decides (Meets s t w) (meetsTest s t w)
+  decides-meets t any i = holds meets-any
+  decides-meets t (upto u) i = decides-as meets-type meets-sub (decides-below (s .program) (acc .regular) t u i)
+
+  module _ (xs : List Object) (classes : Classes s xs) where
+    decides-fits : (v : Value) (w : Want) → Decides (Fits s xs v w) (fitsTest s xs v w)
+    decides-fits nil w = holds fits-nil
+    decides-fits (ref o) w = go (object xs o) refl
+      where
+        go : (q : Option Object) → object xs o ≡ q → Decides (Fits s xs (ref o) w) (objectTest s w q)
+        go none e = fails (λ f. let q = fits-object f in let z : _≡_ {A = ℕ} 0 1 = cc (q .1) in omega arith)
+        go (some x) e =
+            decides-as (fits-ref e) (λ f. let q = fits-object f in let i : q .0 ≡ x = cc (q .1) in rw i at (q .2)) (decides-meets (x .class) w (classes o x e .last))
+
+    decides-fields : (ds : List Slot) (l : List Value) → Decides (FieldsOk s xs ds l) (fieldsTest s xs ds l)
+    decides-fields [] [] = holds no-fields
+    decides-fields [] (v ∷ l) = fails fields-long
+    decides-fields (d ∷ ds) [] = fails fields-short
+    decides-fields (d ∷ ds) (v ∷ l) = decides-as (λ h. a-field (h .0) (h .1)) fields-both (decides-and (decides-fits v (upto (d .type))) (decides-fields ds l))
+
+    decides-binding : (older : ℕ) (b : Binding) → Decides (BindingOk s xs older b) (bindingTest s xs older b)
+    decides-binding older b =
+        decides-as
+        (λ h. record { name = h .0; type = h .1 .0; link = h .1 .1 .0; value = h .1 .1 .1 })
+        (λ h. (h .name, (h .type, (h .link, h .value))))
+        (decides-and (decides-lt (b .name) 65536)
+        (decides-and (decides-le (b .type) (length (s .program .interfaces) + length (s .program .classes))) (decides-and (decides-le (b .link) older) (decides-fits (b .value) (upto (b .type))))))
+
+    decides-bindings : (bs : List Binding) → Decides (BindingsOk s xs bs) (bindingsTest s xs bs)
+    decides-bindings [] = holds no-bindings
+    decides-bindings (b ∷ bs) = decides-as (λ h. a-binding (h .0) (h .1)) bindings-both (decides-and (decides-binding (length bs) b) (decides-bindings bs))
+
+  decides-stores : (st : Stores) → Decides (StoresOk s st) (storesTest s st)
+  decides-stores st =
+      decides-as
+      (λ h. record { bindings = h .1 .1; heap = λ o x e. record { class = h .0 o x e; fields = h .1 .0 o x e } })
+      (λ h. (λ o x e. h .heap o x e .class, (λ o x e. h .heap o x e .fields, h .bindings)))
+      (decides-then (decides-every _ (classTest s) (st .objects) (decides-class s))
+      (λ classes.
+      decides-and (decides-every _ _ (st .objects) (λ x. decides-fields (st .objects) classes (fieldsOf (s .program) (x .class)) (x .fields))) (decides-bindings (st .objects) classes (st .bindings))))
+
+  -- an expression
+  gives-back : {Γ : List Slot} {e : Expr} {t : ℕ} {w : Want} → Gives s Γ e w → isNull e ≡ false → inferred (s .program) Γ e ≡ Typed t → Meets s t w
+  gives-back gives-null n i = absurd (let z : _≡_ {A = ℕ} 0 1 = cc in omega arith)
+  gives-back {t = t} (gives-type {t = u} h m) n i = let k = infer-computes acc h in let q : u ≡ t = cc in rw q at m
+
+  gives-never : {Γ : List Slot} {e : Expr} {w : Want} → Gives s Γ e w → isNull e ≡ false → ((t : ℕ) → inferred (s .program) Γ e ≡ Typed t → ⊥) → ⊥
+  gives-never gives-null n i = let z : _≡_ {A = ℕ} 0 1 = cc in omega arith
+  gives-never (gives-type h m) n i = i _ (infer-computes acc h)
+
+  gives-judged : {Γ : List Slot} {e : Expr} {r : Answer} → Judged (s .program) Γ e r → inferred (s .program) Γ e ≡ r → (w : Want) → isNull e ≡ false → Decides (Gives s Γ e w) (answerTest s r w)
+  gives-judged (types {t = t} h i) e w n = decides-as (gives-type h) (λ g. gives-back g n e) (decides-meets t w i)
+  gives-judged (refuses h) e w n = fails (λ g. gives-never g n (λ t k. let z : _≡_ {A = ℕ} 0 1 = cc in omega arith))
+
+  decides-gives : (Γ : List Slot) (e : Expr) (w : Want) → WfEnv (s .program) Γ → Formed (s .program) e → Decides (Gives s Γ e w) (givesTest s Γ e w)
+  decides-gives Γ e w env f = go (isNull e) refl
+    where
+      go : (q : Bool) → isNull e ≡ q → Decides (Gives s Γ e w) (q || answerTest s (inferred (s .program) Γ e) w)
+      go true n = holds (null-gives e n)
+      go false n = gives-judged (judged (s .program) (acc .regular) Γ e env f) refl w n
+
+  decides-at : (Γ : List Slot) (a : Point) (w : Want) → WfEnv (s .program) Γ → Decides (At s Γ a w) (atTest s Γ a w)
+  decides-at Γ a w env =
+      decides-as (λ h. record { node = h .0; gives = h .1 }) (λ h. (h .node, h .gives))
+      (decides-then (decides-lt a (s .size)) (λ l. decides-gives Γ (s .expr a) w env (acc .formed a l)))
+
+  -- a node that waits
+  inferred-typed : (Γ : List Slot) (e : Expr) (t : ℕ) → WfEnv (s .program) Γ → Formed (s .program) e → inferred (s .program) Γ e ≡ Typed t → Infer (s .program) Γ e t × IsType (s .program) t
+  inferred-typed Γ e t env f h = judged-typed (judged (s .program) (acc .regular) Γ e env f) h
+
+  turn-sound : (Γ : List Slot) (i : Point) (n : Node) → WfEnv (s .program) Γ → ((q : Point) → q ∈ parts n → Later s i q) → (k : Turn) → turn s Γ n ≡ some k
+      → Awaits s Γ n (k .wanted) (k .gives) × IsType (s .program) (k .gives)
+  turn-sound Γ i n-null env y k h = absurd (Option·none-ne-some _ h)
+  turn-sound Γ i (n-var x) env y k h = absurd (Option·none-ne-some _ h)
+  turn-sound Γ i (n-select x f) env y k h = absurd (Option·none-ne-some _ h)
+  turn-sound Γ i (n-update x f a) env y k h =
+      let p = given-some (typeIn Γ x) _ k h in
+      let q = given-some (fieldIn (s .program) (p .0) f) _ k (p .2) in
+      let e = some-same (record { wanted = q .0; gives = 0 }) k (q .2) in
+      rw (← e) (a-write (p .1) (field-in (s .program) (acc .regular) (p .0) f (q .0) .0 (q .1)), omega arith)
+  turn-sound Γ i (n-call x m a) env y k h =
+      let p = given-some (typeIn Γ x) _ k h in
+      let q = given-some (methodIn (s .program) (p .0) m) _ k (p .2) in
+      let e = some-same (record { wanted = q .0 .param; gives = q .0 .result }) k (q .2) in
+      let j = method-in (s .program) (acc .regular) (p .0) m (q .0) (q .1) in
+      rw (← e) (call-awaits (q .0) (p .1) (j .0) (j .1), signature-types (s .program) (acc .regular) (j .0) .result)
+  turn-sound Γ i (n-bind x a b) env y k h =
+      let p = typed-some (inferred (s .program) Γ (s .expr a)) _ k h in
+      let q = typed-some (inferred (s .program) (record { name = x; type = p .0 } ∷ Γ) (s .expr b)) _ k (p .2) in
+      let e = some-same (record { wanted = p .0; gives = q .0 }) k (q .2) in
+      let u = inferred-typed Γ (s .expr a) (p .0) env (acc .formed a (y a first .there)) (p .1) in
+      let v = inferred-typed (record { name = x; type = p .0 } ∷ Γ) (s .expr b) (q .0) (env-more (s .program) Γ x (p .0) env (u .1)) (acc .formed b (y b second .there)) (q .1) in
+      rw (← e) (a-let (u .0) (v .0), v .1)
+  turn-sound Γ i (n-new c) env y k h = absurd (Option·none-ne-some _ h)
+  turn-sound Γ i (n-cast t a) env y k h = absurd (Option·none-ne-some _ h)
+  turn-sound Γ i (n-fork a b c) env y k h = absurd (Option·none-ne-some _ h)
+  turn-sound Γ i (n-lock x a) env y k h = absurd (Option·none-ne-some _ h)
+
+  turn-complete : {Γ : List Slot} {t u : ℕ} (n : Node) → Awaits s Γ n t u → turn s Γ n ≡ some (record { wanted = t; gives = u })
+  turn-complete (n-bind x a b) (a-let p q) = rw (infer-computes acc p, infer-computes acc q)
+  turn-complete (n-update x f a) (a-write {c = c} {t = t} h d) = rw (h, field-in (s .program) (acc .regular) c f t .1 d)
+  turn-complete (n-call x m a) (a-call {c = c} h d) = rw (h, method-only (s .program) (acc .regular) (rules-function (acc .typed)) c _ d)
+
+  -- frames
+  cast-type : (n a : Point) (t : ℕ) → n < s .size → s .view n ≡ n-cast t a → IsType (s .program) t
+  cast-type n a t l e = let f : Formed (s .program) (cast n t (s .expr a)) = rw (acc .built n l, e) at (acc .formed n l) in f .0
+
+  module _ (bs : List Binding) (env : (e : ℕ) → WfEnv (s .program) (context bs e)) where
+    expects-sound : (w u : Want) (fs : List Frame) → expects s bs w fs ≡ some u → FramesOk s bs w fs u
+    expects-sound w u [] h = rw (some-same w u h) no-frames
+    expects-sound w u (awaits n e ∷ fs) h =
+        let p = given-some (expects s bs w fs) _ u h in
+        let j = only-some (ltb n (s .size)) _ u (p .2) in
+        let q = only-some (leb e (length bs)) _ u (j .1) in
+        let i = given-some (turn s (context bs e) (s .view n)) _ u (q .1) in
+        let k = only-some (meetsTest s (i .0 .gives) (p .0)) (some (upto (i .0 .wanted))) u (i .2) in
+        let l = ltb-true n (s .size) (j .0) in
+        let a = turn-sound (context bs e) n (s .view n) (env e) (acc .in-order n l) (i .0) (i .1) in
+        rw (← some-same (upto (i .0 .wanted)) u (k .1))
+        (a-node l (leb-true e (length bs) (q .0)) (a .0) (says-yes (decides-meets (i .0 .gives) (p .0) (a .1)) (k .0)) (expects-sound w (p .0) fs (p .1)))
+    expects-sound w u (casts n ∷ fs) h =
+        let p = given-some (expects s bs w fs) _ u h in
+        let j = only-some (ltb n (s .size)) _ u (p .2) in
+        let i = given-some (castType (s .view n)) _ u (j .1) in
+        let k = only-some (meetsTest s (i .0) (p .0)) (some (upto (i .0))) u (i .2) in
+        let l = ltb-true n (s .size) (j .0) in
+        let v = cast-view (s .view n) (i .0) (i .1) in
+        rw (← some-same (upto (i .0)) u (k .1))
+        (a-cast l (v .1) (says-yes (decides-meets (i .0) (p .0) (cast-type n (v .0) (i .0) l (v .1))) (k .0)) (expects-sound w (p .0) fs (p .1)))
+    expects-sound w u (locks o ∷ fs) h = a-lock (expects-sound w u fs h)
+
+    meets-complete : {n : Point} (e : ℕ) {t u : ℕ} {v : Want} → n < s .size → Awaits s (context bs e) (s .view n) t u → Meets s u v → meetsTest s u v ≡ true
+    meets-complete {n} e {t} {u} {v} l a m =
+        yes-said (decides-meets u v (turn-sound (context bs e) n (s .view n) (env e) (acc .in-order n l) (record { wanted = t; gives = u }) (turn-complete (s .view n) a) .1)) m
+
+    expects-complete : {w u : Want} {fs : List Frame} → FramesOk s bs w fs u → expects s bs w fs ≡ some u
+    expects-complete no-frames = refl
+    expects-complete (a-node {n = n} {e = e} l h p m r) =
+        rw (expects-complete r, lt-ltb n (s .size) l, le-leb e (length bs) h, turn-complete (s .view n) p, meets-complete e l p m)
+    expects-complete (a-cast {n = n} {a = a} {t = t} {v = v} l h m r) =
+        rw (expects-complete r, lt-ltb n (s .size) l, h, yes-said (decides-meets t v (cast-type n a t l h)) m)
+    expects-complete (a-lock r) = expects-complete r
+
+    -- something of what the frames wait for
+    decides-want : (P : Want → Type 0) (test : Want → Bool) (w : Want) (fs : List Frame) → ((v : Want) → Decides (P v) (test v))
+        → Decides ((v : Want) × FramesOk s bs w fs v × P v) (wantTest (expects s bs w fs) test)
+    decides-want P test w fs d = go (expects s bs w fs) refl
+      where
+        go : (o : Option Want) → expects s bs w fs ≡ o → Decides ((v : Want) × FramesOk s bs w fs v × P v) (wantTest o test)
+        go none e = fails (λ h. let q = expects-complete (h .1) in let z : _≡_ {A = ℕ} 0 1 = cc in omega arith)
+        go (some v) e =
+            decides-as (λ x. (v, expects-sound w v fs e, x)) (λ h. let q = expects-complete (h .1) in let i : h .0 ≡ v = cc in rw i at (h .2)) (d v)
+
+  -- trees
+  module _ (st : Stores) (ok : StoresOk s st) where
+    env-at : (e : ℕ) → WfEnv (s .program) (context (st .bindings) e)
+    env-at = context-wf (ok .bindings)
+
+    fits-at : (v : Value) (w : Want) → Decides (Fits s (st .objects) v w) (fitsTest s (st .objects) v w)
+    fits-at = decides-fits (st .objects) (λ o x e. ok .heap o x e .class)
+
+    running-parts : {w : Want} {a : Point} {e : ℕ} {fs : List Frame} → TreeOk s st w (running a e fs)
+        → (e ≤ length (st .bindings)) × ((v : Want) × FramesOk s (st .bindings) w fs v × At s (context (st .bindings) e) a v)
+    running-parts (running-ok {v = v} le g r) = (le, (v, r, g))
+
+    returning-parts : {w : Want} {x : Value} {fs : List Frame} → TreeOk s st w (returning x fs) → (v : Want) × FramesOk s (st .bindings) w fs v × Fits s (st .objects) x v
+    returning-parts (returning-ok {v = v} f r) = (v, r, f)
+
+    join-parts : {w : Want} {a : Point} {e : ℕ} {fs : List Frame} {l r : Tree} → TreeOk s st w (join fs a e l r)
+        → (e ≤ length (st .bindings)) × (((v : Want) × FramesOk s (st .bindings) w fs v × At s (context (st .bindings) e) a v) × (TreeOk s st any l × TreeOk s st any r))
+    join-parts (join-ok {v = v} le g r x y) = (le, ((v, r, g), (x, y)))
+
+    decides-tree : (w : Want) (t : Tree) → Decides (TreeOk s st w t) (treeTest s st w t)
+    decides-tree w (running a e fs) =
+        decides-as (λ h. running-ok (h .0) (h .1 .2) (h .1 .1)) running-parts
+        (decides-and (decides-le e (length (st .bindings))) (decides-want (st .bindings) env-at _ _ w fs (λ v. decides-at (context (st .bindings) e) a v (env-at e))))
+    decides-tree w (returning x fs) = decides-as (λ h. returning-ok (h .2) (h .1)) returning-parts (decides-want (st .bindings) env-at _ _ w fs (λ v. fits-at x v))
+    decides-tree w failed = holds failed-ok
+    decides-tree w (join fs a e l r) =
+        decides-as (λ h. join-ok (h .0) (h .1 .0 .2) (h .1 .0 .1) (h .1 .1 .0) (h .1 .1 .1)) join-parts
+        (decides-and (decides-le e (length (st .bindings)))
+        (decides-and (decides-want (st .bindings) env-at _ _ w fs (λ v. decides-at (context (st .bindings) e) a v (env-at e))) (decides-and (decides-tree any l) (decides-tree any r))))
+
+-- locks
+lock-listed : (o : ℕ) (t : Tree) → 1 ≤ lockCount o t → o ∈ lockList t
+lock-listed o (running a e fs) h = held-in o fs h
+lock-listed o (returning v fs) h = held-in o fs h
+lock-listed o failed h = absurd (omega arith)
+lock-listed o (join fs a e l r) h = go (decLt 0 (lockFrames o fs)) (decLt 0 (lockCount o l)) (lock-listed o l) (lock-listed o r)
+  where
+    go : Dec (0 < lockFrames o fs) → Dec (0 < lockCount o l) → (1 ≤ lockCount o l → o ∈ lockList l) → (1 ≤ lockCount o r → o ∈ lockList r) → o ∈ held fs ++ (lockList l ++ lockList r)
+    go (yes k) d f g = Memᴰ·append-left (lockList l ++ lockList r) (held-in o fs k)
+    go (no k) (yes d) f g = Memᴰ·append-right (held fs) (Memᴰ·append-left (lockList r) (f d))
+    go (no k) (no d) f g = Memᴰ·append-right (held fs) (Memᴰ·append-right (lockList l) (g (omega arith)))
+
+decides-distinct : (xs : List Object) (t : Tree) → Decides ((o : ℕ) → lockCount o t ≤ shutAt xs o) (distinctTest xs t)
+decides-distinct xs t = decides-as all (λ h o m. h o) (decides-all (λ o. lockCount o t ≤ shutAt xs o) _ (lockList t) (λ o. decides-le (lockCount o t) (shutAt xs o)))
+  where
+    all : ((o : ℕ) → o ∈ lockList t → lockCount o t ≤ shutAt xs o) → (o : ℕ) → lockCount o t ≤ shutAt xs o
+    all h o = go (decLt 0 (lockCount o t))
+      where
+        go : Dec (0 < lockCount o t) → lockCount o t ≤ shutAt xs o
+        go (yes k) = h o (lock-listed o t k)
+        go (no k) = omega arith
+
+below-listed : (n i : ℕ) → i < n → i ∈ numbersBelow n
+below-listed zero i h = absurd (omega arith)
+below-listed (suc n) i h = go (ℕ-discrete i n) (below-listed n i)
+  where
+    go : Dec (i ≡ n) → (i < n → i ∈ numbersBelow n) → i ∈ n ∷ numbersBelow n
+    go (yes e) f = List·Memᴰ·head e
+    go (no e) f = List·Memᴰ·tail (f (omega arith))
+
+shut-beyond : (xs : List Object) (o : ℕ) → length xs ≤ o → shutAt xs o ≡ 0
+shut-beyond [] o h = refl
+shut-beyond (x ∷ xs) zero h = absurd (omega arith)
+shut-beyond (x ∷ xs) (suc o) h = shut-beyond xs o (omega arith)
+
+decides-covered : (xs : List Object) (t : Tree) → Decides (failures t ≡ 0 → (o : ℕ) → shutAt xs o ≤ lockCount o t) (coveredTest xs t)
+decides-covered xs t =
+    decides-as to back
+    (decides-or (decides-not (decides-eq (failures t) 0)) (decides-all (λ o. shutAt xs o ≤ lockCount o t) _ (numbersBelow (length xs)) (λ o. decides-le (shutAt xs o) (lockCount o t))))
+  where
+    all : ((o : ℕ) → o ∈ numbersBelow (length xs) → shutAt xs o ≤ lockCount o t) → (o : ℕ) → shutAt xs o ≤ lockCount o t
+    all h o = go (decLt o (length xs))
+      where
+        go : Dec (o < length xs) → shutAt xs o ≤ lockCount o t
+        go (yes k) = h o (below-listed (length xs) o k)
+        go (no k) = omega (arith, shut-beyond xs o (omega arith))
+
+    to : ((failures t ≡ 0 → ⊥) ⊎ ((o : ℕ) → o ∈ numbersBelow (length xs) → shutAt xs o ≤ lockCount o t)) → failures t ≡ 0 → (o : ℕ) → shutAt xs o ≤ lockCount o t
+    to (inl n) z o = absurd (n z)
+    to (inr h) z o = all h o
+
+    back : (failures t ≡ 0 → (o : ℕ) → shutAt xs o ≤ lockCount o t) → (failures t ≡ 0 → ⊥) ⊎ ((o : ℕ) → o ∈ numbersBelow (length xs) → shutAt xs o ≤ lockCount o t)
+    back h = go (ℕ-discrete (failures t) 0)
+      where
+        go : Dec (failures t ≡ 0) → (failures t ≡ 0 → ⊥) ⊎ ((o : ℕ) → o ∈ numbersBelow (length xs) → shutAt xs o ≤ lockCount o t)
+        go (yes e) = inr (λ o m. h e o)
+        go (no e) = inl e
+
+decides-within : (lim : Places) (c : Config) → Decides (Within lim c) (withinTest lim c)
+decides-within lim c =
+    decides-as
+    (λ h. record { objects = h .0; bindings = h .1 .0; frames = h .1 .1 .0; threads = h .1 .1 .1 })
+    (λ h. (h .objects, (h .bindings, (h .frames, h .threads))))
+    (decides-and (decides-le _ (lim .objects)) (decides-and (decides-le _ (lim .bindings)) (decides-and (decides-le _ (lim .frames)) (decides-le _ (lim .threads)))))
+
+-- Question 21: the test says whether the configuration is well formed for this script.
+pub decides-well-formed : {s : Code} {start : ℕ} → Accepted s start → (lim : Places) (c : Config) → Decides (WellFormed s lim start c) (wellFormedTest s lim start c)
+unfolding wellFormedTest
+decides-well-formed {s} {start} acc lim c =
+    decides-as
+    (λ h. record { formed = record { stores = h .0; tree = h .1 .0; distinct = h .1 .1 .0; covered = h .1 .1 .1 .0 }; within = h .1 .1 .1 .1 })
+    (λ h. (h .formed .stores, (h .formed .tree, (h .formed .distinct, (h .formed .covered, h .within)))))
+    (decides-then (decides-stores acc (c .stores))
+    (λ ok.
+    decides-and (decides-tree acc (c .stores) ok (upto start) (c .tree))
+    (decides-and (decides-distinct (c .stores .objects) (c .tree)) (decides-and (decides-covered (c .stores .objects) (c .tree)) (decides-within lim c)))))

@@ -1,0 +1,164 @@
+-- Question 21 as a computed answer: "Is the block a well-formed configuration of this script?", of a configuration. `proofs/Decide.antt` shows that it decides `WellFormed`.
+use Prim.Native.Nat.{ℕ, zero, suc, _+_}
+use mathlib.Core.Bool.{Bool, true, false, not, _&&_, _||_}
+use mathlib.Core.List.{List, [], _∷_, _++_}
+use mathlib.Core.Option.{Option, none, some}
+use lib.Dec.{eqb, leb, ltb}
+use lib.ListN.{length}
+use Rattle.script.specs.Questions.{allOf}
+use Rattle.script.specs.Syntax.{Point, Node, n-null, n-var, n-select, n-update, n-call, n-bind, n-new, n-cast, n-fork, n-lock, Expr, isNull, Slot}
+use Rattle.typing.specs.declared.Answer.{Answer}
+use Rattle.typing.specs.declared.Answer.the-variants.{Typed, Faulty}
+use Rattle.typing.specs.Members.{below, typeIn, fieldIn, methodIn}
+use Rattle.typing.specs.Typing.{inferred}
+use Rattle.machine.specs.Config.{Code, Value, nil, ref, Object, Binding, Stores, Frame, awaits, casts, locks, Tree, running, returning, failed, join, Config}
+use Rattle.machine.specs.Machine.{fieldsOf, context, object, Places, frameCount, threadCount}
+use Rattle.machine.specs.WellFormed.{Want, any, upto, lockCount, failures, shutAt}
+use Rattle.machine.specs.ReadAs.{held}
+
+-- Go on with what is found, with a type, or where a test passes.
+abbrev pub given : {A B : Type 0} → Option A → (A → Option B) → Option B
+given none f = none
+given (some a) f = f a
+
+abbrev pub ifTyped : {B : Type 0} → Answer → (ℕ → Option B) → Option B
+ifTyped (Typed t) f = f t
+ifTyped (Faulty q n) f = none
+
+abbrev pub only : {A : Type 0} → Bool → Option A → Option A
+only true o = o
+only false o = none
+
+-- Meets, Fits, Gives and At
+abbrev pub meetsTest : Code → ℕ → Want → Bool
+meetsTest s t any = true
+meetsTest s t (upto u) = below (s .program) t u
+
+abbrev pub objectTest : Code → Want → Option Object → Bool
+objectTest s w none = false
+objectTest s w (some x) = meetsTest s (x .class) w
+
+abbrev pub fitsTest : Code → List Object → Value → Want → Bool
+fitsTest s xs nil w = true
+fitsTest s xs (ref o) w = objectTest s w (object xs o)
+
+abbrev pub answerTest : Code → Answer → Want → Bool
+answerTest s (Typed t) w = meetsTest s t w
+answerTest s (Faulty q n) w = false
+
+abbrev pub givesTest : Code → List Slot → Expr → Want → Bool
+givesTest s Γ e w = isNull e || answerTest s (inferred (s .program) Γ e) w
+
+abbrev pub atTest : Code → List Slot → Point → Want → Bool
+atTest s Γ a w = ltb a (s .size) && givesTest s Γ (s .expr a) w
+
+-- The stores
+abbrev pub classTest : Code → Object → Bool
+classTest s x = ltb (length (s .program .interfaces)) (x .class) && leb (x .class) (length (s .program .interfaces) + length (s .program .classes))
+
+abbrev pub fieldsTest : Code → List Object → List Slot → List Value → Bool
+fieldsTest s xs [] [] = true
+fieldsTest s xs [] (v ∷ l) = false
+fieldsTest s xs (d ∷ ds) [] = false
+fieldsTest s xs (d ∷ ds) (v ∷ l) = fitsTest s xs v (upto (d .type)) && fieldsTest s xs ds l
+
+abbrev pub everyObject : (Object → Bool) → List Object → Bool
+everyObject test [] = true
+everyObject test (x ∷ xs) = test x && everyObject test xs
+
+abbrev pub bindingTest : Code → List Object → ℕ → Binding → Bool
+bindingTest s xs older b =
+    ltb (b .name) 65536
+    && (leb (b .type) (length (s .program .interfaces) + length (s .program .classes)) && (leb (b .link) older && fitsTest s xs (b .value) (upto (b .type))))
+
+abbrev pub bindingsTest : Code → List Object → List Binding → Bool
+bindingsTest s xs [] = true
+bindingsTest s xs (b ∷ bs) = bindingTest s xs (length bs) b && bindingsTest s xs bs
+
+abbrev pub storesTest : Code → Stores → Bool
+storesTest s st =
+    everyObject (classTest s) (st .objects)
+    && (everyObject (λ x. fieldsTest s (st .objects) (fieldsOf (s .program) (x .class)) (x .fields)) (st .objects) && bindingsTest s (st .objects) (st .bindings))
+
+-- What a waiting node waits for and gives.
+pub record Turn : Type 0 where
+  pub wanted : ℕ
+  pub gives : ℕ
+
+abbrev pub turns : ℕ → ℕ → Option Turn
+turns t u = some (record { wanted = t; gives = u })
+
+abbrev pub turn : Code → List Slot → Node → Option Turn
+turn s Γ n-null = none
+turn s Γ (n-var x) = none
+turn s Γ (n-select x f) = none
+turn s Γ (n-update x f a) = given (typeIn Γ x) (λ c. given (fieldIn (s .program) c f) (λ t. turns t 0))
+turn s Γ (n-call x m a) = given (typeIn Γ x) (λ c. given (methodIn (s .program) c m) (λ g. turns (g .param) (g .result)))
+turn s Γ (n-bind x a b) =
+    ifTyped (inferred (s .program) Γ (s .expr a)) (λ t. ifTyped (inferred (s .program) (record { name = x; type = t } ∷ Γ) (s .expr b)) (λ u. turns t u))
+turn s Γ (n-new c) = none
+turn s Γ (n-cast t a) = none
+turn s Γ (n-fork a b c) = none
+turn s Γ (n-lock x a) = none
+
+abbrev pub castType : Node → Option ℕ
+castType n-null = none
+castType (n-var x) = none
+castType (n-select x f) = none
+castType (n-update x f a) = none
+castType (n-call x m a) = none
+castType (n-bind x a b) = none
+castType (n-new c) = none
+castType (n-cast t a) = some t
+castType (n-fork a b c) = none
+castType (n-lock x a) = none
+
+-- What the frames wait for, if they are typed: an expectation goes up from the bottom.
+abbrev pub expects : Code → List Binding → Want → List Frame → Option Want
+expects s bs w [] = some w
+expects s bs w (awaits n e ∷ fs) =
+    given (expects s bs w fs)
+    (λ v. only (ltb n (s .size)) (only (leb e (length bs)) (given (turn s (context bs e) (s .view n)) (λ k. only (meetsTest s (k .gives) v) (some (upto (k .wanted)))))))
+expects s bs w (casts n ∷ fs) = given (expects s bs w fs) (λ v. only (ltb n (s .size)) (given (castType (s .view n)) (λ t. only (meetsTest s t v) (some (upto t)))))
+expects s bs w (locks o ∷ fs) = expects s bs w fs
+
+-- The tree
+abbrev pub wantTest : Option Want → (Want → Bool) → Bool
+wantTest none f = false
+wantTest (some v) f = f v
+
+abbrev pub treeTest : Code → Stores → Want → Tree → Bool
+treeTest s st w (running a e fs) = leb e (length (st .bindings)) && wantTest (expects s (st .bindings) w fs) (λ v. atTest s (context (st .bindings) e) a v)
+treeTest s st w (returning x fs) = wantTest (expects s (st .bindings) w fs) (λ v. fitsTest s (st .objects) x v)
+treeTest s st w failed = true
+treeTest s st w (join fs a e l r) =
+    leb e (length (st .bindings))
+    && (wantTest (expects s (st .bindings) w fs) (λ v. atTest s (context (st .bindings) e) a v) && (treeTest s st any l && treeTest s st any r))
+
+-- The locks
+abbrev pub lockList : Tree → List ℕ
+lockList (running a e fs) = held fs
+lockList (returning v fs) = held fs
+lockList failed = []
+lockList (join fs a e l r) = held fs ++ (lockList l ++ lockList r)
+
+abbrev pub distinctTest : List Object → Tree → Bool
+distinctTest xs t = allOf (λ o. leb (lockCount o t) (shutAt xs o)) (lockList t)
+
+abbrev pub numbersBelow : ℕ → List ℕ
+numbersBelow zero = []
+numbersBelow (suc n) = n ∷ numbersBelow n
+
+abbrev pub coveredTest : List Object → Tree → Bool
+coveredTest xs t = not (eqb (failures t) 0) || allOf (λ o. leb (shutAt xs o) (lockCount o t)) (numbersBelow (length xs))
+
+abbrev pub withinTest : Places → Config → Bool
+withinTest lim c =
+    leb (length (c .stores .objects)) (lim .objects)
+    && (leb (length (c .stores .bindings)) (lim .bindings) && (leb (frameCount (c .tree)) (lim .frames) && leb (threadCount (c .tree)) (lim .threads)))
+
+unfoldable pub wellFormedTest : Code → Places → ℕ → Config → Bool
+wellFormedTest s lim t c =
+    storesTest s (c .stores)
+    && (treeTest s (c .stores) (upto t) (c .tree)
+    && (distinctTest (c .stores .objects) (c .tree) && (coveredTest (c .stores .objects) (c .tree) && withinTest lim c)))

@@ -1,0 +1,17 @@
+pub mod Config
+pub mod Machine
+pub mod WellFormed
+pub mod Accepted
+pub mod Standing
+pub mod Steps
+pub mod ReadAs
+pub mod Silent
+pub mod Runs
+pub mod Asks
+pub mod OnNull
+pub mod Short
+pub mod Reach
+pub mod Decide
+pub mod Promise
+pub mod Calls
+pub mod Samples

@@ -1,0 +1,30 @@
+-- What demand 3 says of a configuration, and of what stays from one to another.
+use Prim.Native.Nat.{ℕ, _≤_}
+use mathlib.Core.Path.{_≡_}
+use mathlib.Core.List.{List, _++_}
+use mathlib.Core.Option.{some}
+use Rattle.script.specs.Lists.{_∈_}
+use Rattle.typing.specs.Published.{FieldIn, MsigIn}
+use Rattle.machine.specs.Config.{Code, Value, Object, Binding, Config}
+use Rattle.machine.specs.Machine.{fieldsOf, object, fieldValue, Places, still, Path, choice}
+use Rattle.machine.specs.WellFormed.{upto, Fits}
+use Rattle.machine.specs.Standing.{heldBy, End}
+use Rattle.machine.specs.Asks.{AsksField, AsksMethod}
+
+pub record Promised (s : Code) (lim : Places) (c : Config) : Type 0 where
+  -- every read, waiting write and waiting call due on an object names a field or method that its class has
+  pub field-asked : (f : ℕ) (y : Object) (p : Path) → AsksField s (c .stores) f y (c .tree) p → (u : ℕ) × FieldIn (s .program) (y .class) f u
+  pub method-asked : (m : ℕ) (y : Object) (p : Path) → AsksMethod s (c .stores) m y (c .tree) p → (t u : ℕ) × MsigIn (s .program) (y .class) (record { name = m; param = t; result = u })
+  -- every binding and field holds null or an object whose class is below its type
+  pub binding-typed : (b : Binding) → b ∈ c .stores .bindings → Fits s (c .stores .objects) (b .value) (upto (b .type))
+  pub field-typed : (o : ℕ) (y : Object) (f u : ℕ) (v : Value) → object (c .stores .objects) o ≡ some y → FieldIn (s .program) (y .class) f u
+      → fieldValue (fieldsOf (s .program) (y .class)) (y .fields) f ≡ some v → Fits s (c .stores .objects) v (upto u)
+  -- no two threads hold one lock
+  pub exclusive : (o : ℕ) (p q : Path) → 1 ≤ heldBy o 0 (c .tree) p → 1 ≤ heldBy o 0 (c .tree) q → p ≡ q
+  -- if no position can move, it is one of the three ends
+  pub ended : ((n : ℕ) → choice s lim c n ≡ still) → (j : ℕ) × End s c j
+
+-- A binding once there keeps its name, type, value and link: the older bindings stand behind.
+pub record Kept (c d : Config) : Type 0 where
+  pub added : List Binding
+  pub there : d .stores .bindings ≡ added ++ c .stores .bindings

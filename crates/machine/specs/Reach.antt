@@ -1,0 +1,52 @@
+-- How a published step is reached: one Run makes silent moves, and then the step.
+use Prim.Native.Nat.{ℕ, suc, _+_, _*_, _≤_, _<_}
+use mathlib.Core.Path.{_≡_}
+use mathlib.Core.Bool.{Bool, true, false, cond}
+use mathlib.Core.List.{List, [], _∷_, _++_}
+use mathlib.Core.Logic.{_⊎_}
+use mathlib.Core.Option.{some}
+use lib.ListN.{length}
+use Rattle.limits.specs.Limits.{CHOICES, SILENT}
+use Rattle.script.specs.Lists.{_∈_}
+use Rattle.machine.specs.Config.{Code, Stores, Tree, Config}
+use Rattle.machine.specs.Machine.{Places, moved, Path, here, left, right, move, locate}
+use Rattle.machine.specs.ReadAs.{Reading, reading}
+use Rattle.machine.specs.Silent.{part, quietIn}
+use Rattle.machine.specs.Runs.{report}
+
+-- How often a place is among others.
+abbrev pub samePlace : Path → Path → Bool
+samePlace here here = true
+samePlace here (left q) = false
+samePlace here (right q) = false
+samePlace (left p) here = false
+samePlace (left p) (left q) = samePlace p q
+samePlace (left p) (right q) = false
+samePlace (right p) here = false
+samePlace (right p) (left q) = false
+samePlace (right p) (right q) = samePlace p q
+
+abbrev pub visits : Path → List Path → ℕ
+visits p [] = 0
+visits p (q ∷ ps) = cond (samePlace p q) (suc (visits p ps)) (visits p ps)
+
+-- `Quietly s lim c ns ps d`: from c these choices name these places, whose moves are silent, and lead to d.
+pub data Quietly (s : Code) (lim : Places) : Config → List ℕ → List Path → Config → Type 0 where
+  no-choice : {c : Config} → Quietly s lim c [] [] c
+  a-choice : {c d : Config} {st : Stores} {t : Tree} {n : ℕ} {ns : List ℕ} {p : Path} {ps : List Path} → locate (c .tree) n ≡ some p → quietIn s (part (c .tree) p) ≡ true → move s lim c p ≡ moved st t
+      → Quietly s lim (record { stores = st; tree = t }) ns ps d → Quietly s lim c (n ∷ ns) (p ∷ ps) d
+
+-- A choice list with which one Run makes silent moves ("at most 1,024" of any one thread) and then a move to what reads as q, unless that Run meets a full store.
+pub record OneRun (s : Code) (lim : Places) (c : Config) (q : Reading) : Type 0 where
+  pub silent : List ℕ
+  pub places : List Path
+  pub last : ℕ
+  pub middle : Config
+  pub quietly : Quietly s lim c silent places middle
+  pub rows : (p : Path) → visits p places ≤ SILENT
+  pub unread : reading s middle ≡ reading s c
+  pub short : suc (length silent) ≤ CHOICES
+  -- every choice is below twice the threads of a full tree, less one: below 63
+  pub bytes : (n : ℕ) → n ∈ silent ++ (last ∷ []) → n + 1 < 2 * lim .threads
+  pub ends : (4 ≤ report s lim c (silent ++ (last ∷ [])) .stop)
+      ⊎ ((report s lim c (silent ++ (last ∷ [])) .moves ≡ suc (length silent)) × (reading s (report s lim c (silent ++ (last ∷ [])) .config) ≡ q))

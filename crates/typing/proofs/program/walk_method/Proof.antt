@@ -1,0 +1,61 @@
+use mathlib.Core.Path.{ap}
+use native.Mathlib.Omega.{arith}
+use lib.ListN.{length}
+use Rattle.typing.proofs.InferLaws.{type-small}
+use Rattle.typing.proofs.WalkLaws as laws
+use borrow.Author.Needs.{needs}
+use Rattle.typing.proofs.program.walk_method.Statement.{statement}
+use Rattle.typing.proofs.program.walk_method.Tie as tie
+
+record-word-requires : tie.Need-record-word-requires
+record-word-requires c κs = search needs
+
+record-word-requires-2 : tie.Need-record-word-requires-2
+record-word-requires-2 c κs = search needs
+
+record-word-requires-3 : tie.Need-record-word-requires-3
+record-word-requires-3 c κs = search needs
+
+add-env : tie.Need-add-env
+add-env c = omega (arith, type-small (c .before .before .before .before .before .before .before .pre .0 .within) _ (c .before .before .before .before .before .before .before .pre .1))
+
+slice-write-env : tie.Need-slice-write-env
+slice-write-env c = search needs
+
+add-env-2 : tie.Need-add-env-2
+add-env-2 c = omega (arith, laws.param-small (c .before .before .before .before .before .before .before .pre .0) _ _ (c .before .before .before .before .before .before .before .pre .1) (c .before .before .before .before .before .before .before .pre .2) _ (c .before .before .record-word .ensures .0))
+
+slice-write-env-2 : tie.Need-slice-write-env-2
+slice-write-env-2 c = search needs
+
+check-requires : tie.Need-check-requires
+check-requires c κs = laws.body-at (c .before .before .before .before .before .before .before .before .pre .0) _ _ (c .before .before .before .before .before .before .before .before .pre .1) (c .before .before .before .before .before .before .before .before .pre .2) _ _ (c .before .before .before .record-word .ensures .0) (c .before .record-word3 .ensures .0)
+
+slice-write-env-3 : tie.Need-slice-write-env-3
+slice-write-env-3 c = search needs
+
+slice-write-env-4 : tie.Need-slice-write-env-4
+slice-write-env-4 c = laws.this-there (c .before .before .before .before .before .before .before .before .before .before .before .pre .0) _ _ (c .before .before .check .ensures .1)
+
+same-length : tie.Need-same-length
+same-length c = ap length (laws.unbound-again (c .before .before .before .before .before .before .before .before .before .before .before .pre .0) _ _ (c .before .before .check .ensures .1))
+
+returns : tie.Need-returns
+returns c = (laws.body-checked (c .before .before .before .before .before .before .before .before .before .before .before .pre .0) _ _ (c .before .before .before .before .before .before .before .before .before .before .before .pre .1) (c .before .before .before .before .before .before .before .before .before .before .before .pre .2) _ _ _ _ (c .before .before .before .before .before .before .record-word .ensures .0) (c .before .before .before .before .before .record-word2 .ensures .0) (c .before .before .before .before .record-word3 .ensures .0) (c .before .before .check .ensures .0), laws.unbound-again (c .before .before .before .before .before .before .before .before .before .before .before .pre .0) _ _ (c .before .before .check .ensures .1))
+
+pub walk-method-spec : {M : Type 1} → statement M
+walk-method-spec =
+    tie.close
+    (tie.spec
+    record-word-requires
+    record-word-requires-2
+    record-word-requires-3
+    add-env
+    slice-write-env
+    add-env-2
+    slice-write-env-2
+    check-requires
+    slice-write-env-3
+    slice-write-env-4
+    same-length
+    returns)

@@ -1,0 +1,68 @@
+-- What the code of the walk is lent: tables that say where runs begin, which forks share a variable, and which variables are bound.
+use Prim.Native.Nat.{ℕ, suc, _+_, _<_, _≤_}
+use mathlib.Core.Path.{_≡_}
+use mathlib.Core.Bool.{Bool, true, false}
+use mathlib.Core.List.{List}
+use mathlib.Core.Option.{Option, none, some}
+use lib.ListN.{length, getD}
+use Rattle.limits.specs.Limits.{INTERFACES, CLASSES, NODES}
+use Rattle.script.specs.declared.Section.the-variants.{Interfaces as interfaces, Classes as classes, Nodes as nodes}
+use Rattle.script.specs.Lists.{sumBelow}
+use Rattle.script.specs.Section.{countOf}
+use Rattle.script.specs.Syntax.{Point, Node, n-null, n-var, n-select, n-update, n-call, n-bind, n-new, n-cast, n-fork, n-lock, Slot, Signature, Program}
+use Rattle.script.specs.Reading.{viewAt, exprAt, ownSignatures, ownFields, ownMethods}
+use Rattle.typing.specs.declared.Member.{Member}
+use Rattle.typing.specs.declared.Member.the-variants.{Types, Missing}
+use Rattle.typing.specs.Members.{typeIn}
+use Rattle.typing.specs.Typing.{fv, shares}
+use Rattle.typing.specs.Published.{WfEnv}
+
+-- Where the run of each owner begins: signatures of interface o at o, fields of class c at 64 + c, methods of class c at 128 + c.
+pub record Starts (s table : List ℕ) : Type 0 where
+  pub size : length table ≡ INTERFACES + CLASSES + CLASSES
+  pub signatures : (o : ℕ) → o < countOf s interfaces → getD table o 0 ≡ sumBelow (ownSignatures s) o
+  pub fields : (c : ℕ) → c < countOf s classes → getD table (INTERFACES + c) 0 ≡ sumBelow (ownFields s) c
+  pub methods : (c : ℕ) → c < countOf s classes → getD table (INTERFACES + CLASSES + c) 0 ≡ sumBelow (ownMethods s) c
+
+-- 1 for true, 0 for false.
+abbrev pub flagOf : Bool → ℕ
+flagOf true = 1
+flagOf false = 0
+
+-- Whether the asyncs of each fork share a variable.
+pub record Forks (s table : List ℕ) : Type 0 where
+  pub size : length table ≡ NODES
+  pub flags : (n a b c : ℕ) → n < countOf s nodes → viewAt s n ≡ n-fork a b c → getD table n 0 ≡ flagOf (shares (fv (exprAt s a)) (fv (exprAt s b)))
+
+-- What a method look-up finds, as the code says it.
+abbrev pub memberOf : Option Signature → Member
+memberOf none = Missing
+memberOf (some g) = Types (g .param) (g .result)
+
+-- The type of a variable in the table of an environment: 0 where it is not bound, else its type and 1 more.
+abbrev pub boundWord : Option ℕ → ℕ
+boundWord none = 0
+boundWord (some t) = suc t
+
+-- The table of an environment: a word for each variable name below its length.
+pub record EnvIs (p : Program) (table : List ℕ) (Γ : List Slot) : Type 0 where
+  pub types : WfEnv p Γ
+  pub holds : (x : ℕ) → x < length table → getD table x 0 ≡ boundWord (typeIn Γ x)
+
+-- The variable that a node names is below a bound.
+abbrev pub NamesBelow : ℕ → Node → Type 0
+NamesBelow m n-null = Unit {0}
+NamesBelow m (n-var x) = x < m
+NamesBelow m (n-select x f) = x < m
+NamesBelow m (n-update x f p) = x < m
+NamesBelow m (n-call x n p) = x < m
+NamesBelow m (n-bind x p q) = x < m
+NamesBelow m (n-new c) = Unit {0}
+NamesBelow m (n-cast t p) = Unit {0}
+NamesBelow m (n-fork p q r) = Unit {0}
+NamesBelow m (n-lock x p) = x < m
+
+-- Every variable of the script is below the bound, and so are `this` and the parameter.
+pub record Named (s : List ℕ) (m : ℕ) : Type 0 where
+  pub low : 2 ≤ m
+  pub names : (n : Point) → n < countOf s nodes → NamesBelow m (viewAt s n)

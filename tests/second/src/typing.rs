@@ -1,0 +1,171 @@
+//! Questions 11 to 15: the bidirectional typing of Figure 11, as one walk over the bodies in
+//! method order and then the start. "The first no counts, at that node."
+
+use crate::expr::Expr;
+use crate::script::{Script, Section};
+use crate::types::{Type, Types, UNIT};
+use crate::{Question, Refusal};
+
+const THIS: usize = 0;
+const PARAMETER: usize = 1;
+
+/// The start's type, if the bodies and the start are well typed.
+pub fn start_type(script: &Script, types: &Types, mut expressions: Vec<Expr>) -> Result<Type, Refusal> {
+    let variables = renumber_variables(&mut expressions);
+    let sharing = sharing_forks(&expressions, variables);
+    let mut typer = Typer { script, types, expressions: &expressions, sharing, environment: vec![None; variables] };
+    for (index, run) in script.method_runs().enumerate() {
+        for &[_, parameter, result, body] in &script.methods[run] {
+            typer.environment[THIS] = Some(script.class_type(index));
+            typer.environment[PARAMETER] = Some(parameter);
+            typer.check(body, result)?; // "Bodies are checked against the result type"
+        }
+    }
+    typer.environment.fill(None); // "the start is inferred with no variable"
+    typer.infer(0)
+}
+
+struct Typer<'a> {
+    script: &'a Script,
+    types: &'a Types<'a>,
+    expressions: &'a [Expr],
+    /// By node: a fork whose asyncs share a free variable.
+    sharing: Vec<bool>,
+    /// By variable, the type of its nearest binding.
+    environment: Vec<Option<Type>>,
+}
+
+impl Typer<'_> {
+    /// Γ ⊢ e ⇒ t. "Fork sharing, target variable, field or method, parts in running order."
+    fn infer(&mut self, node: u16) -> Result<Type, Refusal> {
+        match self.expressions[node as usize] {
+            Expr::Null => Err(self.refusal(Question::InferredNull, node)),
+            Expr::Variable { variable } => self.bound(variable, node),
+            Expr::Read { target, field } => self.field(target, field, node),
+            Expr::Write { target, field, value } => {
+                let wanted = self.field(target, field, node)?;
+                self.check(value, wanted)?;
+                Ok(UNIT)
+            }
+            Expr::Call { target, method, argument } => {
+                let ty = self.bound(target, node)?;
+                let signature = self.types.method(ty, method).ok_or_else(|| self.refusal(Question::Member, node))?;
+                self.check(argument, signature.parameter)?;
+                Ok(signature.result)
+            }
+            Expr::Let { variable, bound, body } => {
+                let ty = self.infer(bound)?;
+                let outer = self.environment[variable as usize].replace(ty);
+                let result = self.infer(body);
+                self.environment[variable as usize] = outer;
+                result
+            }
+            Expr::New { class } => Ok(class),
+            Expr::Cast { ty, operand } => {
+                self.check(operand, ty)?;
+                Ok(ty)
+            }
+            Expr::Fork { left, right, last } => {
+                if self.sharing[node as usize] {
+                    return Err(self.refusal(Question::Sharing, node));
+                }
+                self.infer(left)?;
+                self.infer(right)?;
+                self.infer(last)
+            }
+            Expr::Lock { target, body } => {
+                self.bound(target, node)?; // "a lock target may have any type"
+                self.infer(body)
+            }
+        }
+    }
+
+    /// Γ ⊢ e ⇐ t. "A null is checked against any type", "every other node is checked by inferring
+    /// and asking whether the result is below the wanted type"; if not, that node is at fault.
+    fn check(&mut self, node: u16, wanted: Type) -> Result<(), Refusal> {
+        if let Expr::Null = self.expressions[node as usize] {
+            return Ok(());
+        }
+        let ty = self.infer(node)?;
+        if self.types.below(ty, wanted) {
+            Ok(())
+        } else {
+            Err(self.refusal(Question::Fits, node))
+        }
+    }
+
+    fn bound(&self, variable: u16, node: u16) -> Result<Type, Refusal> {
+        self.environment[variable as usize].ok_or_else(|| self.refusal(Question::Bound, node))
+    }
+
+    fn field(&self, target: u16, field: u16, node: u16) -> Result<Type, Refusal> {
+        let ty = self.bound(target, node)?;
+        self.types.field(ty, field).ok_or_else(|| self.refusal(Question::Member, node))
+    }
+
+    fn refusal(&self, question: Question, node: u16) -> Refusal {
+        self.script.refusal(question, Section::Nodes, node as usize)
+    }
+}
+
+/// Numbers the variables of the script from 0 without gaps (0 and 1 stay), so that environments
+/// and sets of variables are small arrays, and says how many there are.
+fn renumber_variables(expressions: &mut [Expr]) -> usize {
+    let mut names = vec![THIS as u16, PARAMETER as u16];
+    names.extend(expressions.iter_mut().filter_map(|expr| expr.variable_mut().copied()));
+    names.sort_unstable();
+    names.dedup();
+    for variable in expressions.iter_mut().filter_map(Expr::variable_mut) {
+        *variable = names.partition_point(|name| name < variable) as u16;
+    }
+    names.len()
+}
+
+/// Question 15 for every fork at once. Parts have larger numbers than their node, so going down
+/// the numbers each set of free variables is made once, from those of its parts.
+fn sharing_forks(expressions: &[Expr], variables: usize) -> Vec<bool> {
+    let mut sharing = vec![false; expressions.len()];
+    if !expressions.iter().any(|expr| matches!(expr, Expr::Fork { .. })) {
+        return sharing;
+    }
+    let width = variables.div_ceil(64);
+    let mut free = vec![0u64; expressions.len() * width];
+    for (node, expr) in expressions.iter().enumerate().rev() {
+        let (earlier, later) = free.split_at_mut((node + 1) * width);
+        let own = &mut earlier[node * width..];
+        let of = |part: u16| &later[(part as usize - node - 1) * width..][..width];
+        match *expr {
+            Expr::Null | Expr::New { .. } => {}
+            Expr::Variable { variable } | Expr::Read { target: variable, .. } => insert(own, variable),
+            Expr::Write { target, value: part, .. }
+            | Expr::Call { target, argument: part, .. }
+            | Expr::Lock { target, body: part } => {
+                unite(own, of(part));
+                insert(own, target);
+            }
+            Expr::Cast { operand, .. } => unite(own, of(operand)),
+            Expr::Let { variable, bound, body } => {
+                unite(own, of(body));
+                own[variable as usize / 64] &= !(1 << (variable % 64));
+                unite(own, of(bound));
+            }
+            Expr::Fork { left, right, last } => {
+                sharing[node] = of(left).iter().zip(of(right)).any(|(left, right)| left & right != 0);
+                for part in [left, right, last] {
+                    unite(own, of(part));
+                }
+            }
+        }
+    }
+    sharing
+}
+
+fn insert(set: &mut [u64], variable: u16) {
+    set[variable as usize / 64] |= 1 << (variable % 64);
+}
+
+fn unite(set: &mut [u64], other: &[u64]) {
+    for (word, other) in set.iter_mut().zip(other) {
+        *word |= other;
+    }
+}
