@@ -13,7 +13,7 @@ use Rattle.script.specs.Asking.{numberOf}
 use Rattle.typing.specs.declared.Verdict.the-variants.{Accepted, Refused}
 use Rattle.typing.specs.Check.{checkOf}
 use Rattle.machine.specs.Config.{Config, codeOf}
-use Rattle.machine.specs.Machine.{limits, initial}
+use Rattle.machine.specs.Machine.{limits, full, Path, move, initial}
 use Rattle.machine.specs.WellFormed.{WellFormed}
 use Rattle.machine.specs.Runs.{Report, report, Runs, Stopped}
 use Rattle.machine.specs.ReadAs.{Reading, reading}
@@ -84,14 +84,16 @@ pub record KeepsBytes (before after : List ℕ) : Type 0 where
   pub long : length after ≡ length before
   pub small : ((x : ℕ) → x ∈ before → x < 256) → (x : ℕ) → x ∈ after → x < 256
 
--- One Run from a block that holds c to one that reads as q: the machine's silent choices and then the one for the published step.
-pub record ReachedBy (s : List ℕ) (t : ℕ) (b : List ℕ) (c : Config) (q : Reading) : Type 0 where
-  pub by : OneRun (codeOf s) limits c q
+-- "each open published step can be reached by choices, unless a store is full": one Run from a block that holds c to one that reads as q, with the machine's silent choices and then the one for the
+-- published step at the place p.
+pub record ReachedBy (s : List ℕ) (t : ℕ) (b : List ℕ) (c : Config) (q : Reading) (p : Path) : Type 0 where
+  pub by : OneRun (codeOf s) limits c q p
   pub choices : List ℕ
   pub are : choices ≡ by .silent ++ (by .last ∷ [])
   pub few : length choices ≤ CHOICES
   pub positions : (n : ℕ) → n ∈ choices → n < FLAGS
   pub config : Config
   pub holds : Holds s t (runOf s b choices .block) config
-  -- a store has too few places left for a move on the way, or every choice made its move
-  pub ends : (4 ≤ runOf s b choices .stop) ⊎ ((runOf s b choices .moves ≡ length choices) × (reading (codeOf s) config ≡ q))
+  -- a store has too few places left for the move due at p, or every choice made its move
+  pub ends : ((4 ≤ runOf s b choices .stop) × (move (codeOf s) limits (by .middle) p ≡ full (runOf s b choices .stop)))
+      ⊎ ((runOf s b choices .moves ≡ length choices) × (reading (codeOf s) config ≡ q))

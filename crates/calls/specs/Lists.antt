@@ -1,14 +1,15 @@
 -- "The list in demand 3", of byte lists: calls with one script on one block, each getting the block as the last left it.
-use Prim.Native.Nat.{ℕ, _<_, _≤_, _+_}
+use Prim.Native.Nat.{ℕ, suc, _<_, _≤_, _+_}
 use mathlib.Core.Path.{_≡_}
-use mathlib.Core.List.{List, [], _∷_}
+use mathlib.Core.List.{List, _∷_}
 use lib.ListN.{length, take}
 use Rattle.limits.specs.Limits.{BLOCK}
 use Rattle.script.specs.Lists.{_∈_}
 use Rattle.machine.specs.Config.{Config, codeOf}
-use Rattle.machine.specs.Calls.{Claimed}
+use Rattle.machine.specs.Promise.{Kept}
+use Rattle.machine.specs.Calls.{Claimed, FailsOnNull}
 use Rattle.calls.specs.Calls.{Ran, startOf, offerOf, runOf}
-use Rattle.calls.specs.Answers.{Holds}
+use Rattle.calls.specs.Answers.{Holds, Stands}
 
 -- A call with the other buffer lent to it, of any length and with any bytes: Offer's flags, Run's choices.
 pub data Lent : Type 0 where
@@ -22,18 +23,39 @@ blockAfter s b to-start = startOf s b .block
 blockAfter s b (to-offer fl) = offerOf s b fl .block
 blockAfter s b (to-run ns) = runOf s b ns .block
 
--- `Had s b calls e`: the list, begun at block b, has block e "at the first block, at every point between moves .., and after every call".
-pub data Had (s : List ℕ) : List ℕ → List Lent → List ℕ → Type 0 where
-  first-block : {b : List ℕ} {calls : List Lent} → Had s b calls b
-  -- "the block that it would leave with only its first n choices, for each n from 0 to the choices read"
-  between-moves : {b : List ℕ} {calls : List Lent} (ns : List ℕ) (n : ℕ) → n ≤ runOf s b ns .read → Had s b (to-run ns ∷ calls) (runOf s b (take n ns) .block)
-  after-call : {b e : List ℕ} {calls : List Lent} (call : Lent) → Had s (blockAfter s b call) calls e → Had s b (call ∷ calls) e
+-- The calls that a list is followed past: any call, or any but Start (until the next Start).
+abbrev pub AnyLent : Lent → Type 0
+AnyLent call = Unit {0}
 
--- Lists without a Start.
-pub data Startless : List Lent → Type 0 where
-  no-lent : Startless []
-  offer-next : {fl : List ℕ} {calls : List Lent} → Startless calls → Startless (to-offer fl ∷ calls)
-  run-next : {ns : List ℕ} {calls : List Lent} → Startless calls → Startless (to-run ns ∷ calls)
+abbrev pub NotToStart : Lent → Type 0
+NotToStart to-start = ⊥
+NotToStart (to-offer fl) = Unit {0}
+NotToStart (to-run ns) = Unit {0}
+
+-- `Had s Past b calls e`: the list, begun at block b and followed past such calls, has block e "at the first block, at every point between moves .., and after every call".
+pub data Had (s : List ℕ) (Past : Lent → Type 0) : List ℕ → List Lent → List ℕ → Type 0 where
+  first-block : {b : List ℕ} {calls : List Lent} → Had s Past b calls b
+  -- "the block that it would leave with only its first n choices, for each n from 0 to the choices read"
+  between-moves : {b : List ℕ} {calls : List Lent} (ns : List ℕ) (n : ℕ) → n ≤ runOf s b ns .read → Had s Past b (to-run ns ∷ calls) (runOf s b (take n ns) .block)
+  after-call : {b e : List ℕ} {calls : List Lent} (call : Lent) → Past call → Had s Past (blockAfter s b call) calls e → Had s Past b (call ∷ calls) e
+
+-- `HadLater s b calls d e`: the list, begun at block b, has block d, and at that point or later, with no Start between, block e.
+pub data HadLater (s : List ℕ) : List ℕ → List Lent → List ℕ → List ℕ → Type 0 where
+  from-block : {b e : List ℕ} {calls : List Lent} → Had s NotToStart b calls e → HadLater s b calls b e
+  -- both between moves of one Run
+  in-one-run : {b : List ℕ} {calls : List Lent} (ns : List ℕ) (m n : ℕ) → m ≤ n → n ≤ runOf s b ns .read
+      → HadLater s b (to-run ns ∷ calls) (runOf s b (take m ns) .block) (runOf s b (take n ns) .block)
+  -- d between moves of a Run, e after it
+  past-run : {b e : List ℕ} {calls : List Lent} (ns : List ℕ) (m : ℕ) → m ≤ runOf s b ns .read → Had s NotToStart (runOf s b ns .block) calls e
+      → HadLater s b (to-run ns ∷ calls) (runOf s b (take m ns) .block) e
+  both-after : {b d e : List ℕ} {calls : List Lent} (call : Lent) → HadLater s (blockAfter s b call) calls d e → HadLater s b (call ∷ calls) d e
+
+-- `HadNext s b calls d e`: two neighbours in the list, e with one choice more than d, or by a Start. (Offer and refused calls leave the block as it was.)
+pub data HadNext (s : List ℕ) : List ℕ → List Lent → List ℕ → List ℕ → Type 0 where
+  one-choice : {b : List ℕ} {calls : List Lent} (ns : List ℕ) (n : ℕ) → suc n ≤ runOf s b ns .read
+      → HadNext s b (to-run ns ∷ calls) (runOf s b (take n ns) .block) (runOf s b (take (suc n) ns) .block)
+  one-start : {b : List ℕ} {calls : List Lent} → HadNext s b (to-start ∷ calls) b (startOf s b .block)
+  next-after : {b d e : List ℕ} {calls : List Lent} (call : Lent) → HadNext s (blockAfter s b call) calls d e → HadNext s b (call ∷ calls) d e
 
 -- What demand 3 claims of a block that the list has: it is 49,152 bytes, and stands for a configuration that is well formed and of which the machine's claim holds.
 pub record ClaimedOf (s : List ℕ) (t : ℕ) (b : List ℕ) : Type 0 where
@@ -42,6 +64,20 @@ pub record ClaimedOf (s : List ℕ) (t : ℕ) (b : List ℕ) : Type 0 where
   pub claimed : Claimed (codeOf s) t config
   pub long : length b ≡ BLOCK
   pub small : (x : ℕ) → x ∈ b → x < 256
+
+-- Two blocks stand for configurations, and what is said of those holds.
+pub record OfBoth (s : List ℕ) (t : ℕ) (Said : Config → Config → Type 0) (d e : List ℕ) : Type 0 where
+  pub earlier : Stands s t d
+  pub later : Stands s t e
+  pub said : {x y : Config} → Holds s t d x → Holds s t e y → Said x y
+
+-- Demand 3, of a list of calls begun at block b: "one claim about the list, not a claim per call".
+pub record DemandThreeOf (s : List ℕ) (t : ℕ) (b : List ℕ) (calls : List Lent) : Type 0 where
+  pub claimed : {e : List ℕ} → Had s AnyLent b calls e → ClaimedOf s t e
+  -- "Objects and bindings are never freed": a binding once there keeps its name, type, value and link until the next Start
+  pub kept : {d e : List ℕ} → HadLater s b calls d e → OfBoth s t Kept d e
+  -- "no move makes a thread failed except at a null target or by a failed side"
+  pub fails : {d e : List ℕ} → HadNext s b calls d e → OfBoth s t (FailsOnNull (codeOf s)) d e
 
 -- A Run that goes on where another stopped, the counts added.
 abbrev pub runOnto : Ran → Ran → Ran

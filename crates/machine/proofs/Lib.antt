@@ -13,6 +13,7 @@ pub mod Unplug
 pub mod Steps
 pub mod Within
 pub mod Run
+pub mod Stays
 pub mod Silent
 pub mod OnNull
 pub mod Asks

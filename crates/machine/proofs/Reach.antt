@@ -3,7 +3,7 @@ use Prim.Native.Nat.{ℕ, zero, suc, _+_, _-_, _≤_, _<_}
 use native.Mathlib.Omega.{arith}
 use mathlib.Core.Path.{_≡_, refl, sym, _∙_, ap}
 use mathlib.Core.Logic.{_⊎_, inl, inr, ⊎-elim}
-use mathlib.Core.Bool.{true}
+use mathlib.Core.Bool.{true, false}
 use mathlib.Core.List.{List, [], _∷_, _++_}
 use mathlib.Core.Option.{some}
 use lib.ListN.{length}
@@ -16,9 +16,10 @@ use Rattle.machine.specs.Machine.{context, oneIf, lockFrames, Places, sp
 use Rattle.machine.specs.WellFormed.{Want, any, upto, meets-type, Fits, fits-nil, Gives, gives-type, At, StoresOk, a-let, a-write, a-call, FramesOk, a-node, a-cast, TreeOk, running-ok, returning-ok, join-ok, lockCount, shutAt}
 use Rattle.machine.specs.Accepted.{Later, Accepted}
 use Rattle.machine.specs.Standing.{Waits, waits}
-use Rattle.machine.specs.Steps.{PVar, fresh, PExpr, p-value, p-lock, close, fill, PTree, p-thread, p-join, p-failed, World, valueOf, Reduce, DYN-EVAL-LOCK, DYN-EVAL-LOCK-REENTRANT, DYN-NPE-LOCK, Step, DYN-EVAL-ASYNC-LEFT, DYN-EVAL-ASYNC-RIGHT, DYN-EVAL-ASYNC-JOIN, DYN-EXCEPTION-ASYNC-LEFT, DYN-EXCEPTION-ASYNC-RIGHT}
+use Rattle.machine.specs.Steps.{PVar, fresh, PExpr, p-value, p-lock, close, fill, PTree, p-thread, p-join, p-failed, World, valueOf, Reduce, DYN-EVAL-LOCK, DYN-EVAL-LOCK-REENTRANT, DYN-NPE-LOCK, Step, reduces, DYN-EVAL-CONTEXT, DYN-EVAL-SPAWN-CONTEXT, DYN-EXCEPTION-CONTEXT, DYN-EVAL-ASYNC-LEFT, DYN-EVAL-ASYNC-RIGHT, DYN-EVAL-ASYNC-JOIN, DYN-EXCEPTION-ASYNC-LEFT, DYN-EXCEPTION-ASYNC-RIGHT}
 use Rattle.machine.specs.ReadAs.{names, hole, plug, held, world, said, read}
 use Rattle.machine.specs.Silent.{quiet, part, quietIn}
+use Rattle.machine.specs.Reach.{site, Near, itself, left-side, right-side, in-left, in-right}
 use Rattle.machine.proofs.Types.{check-gives, let-type}
 use Rattle.machine.proofs.Store.{shutAt-object}
 use Rattle.machine.proofs.Grow.{Grows, grows-same}
@@ -28,11 +29,11 @@ use Rattle.machine.proofs.Names.{variable, read-grow}
 use Rattle.machine.proofs.Steps.{Exact, published, in-held, give-step, make-step, spawn-step, lock-step, select-step, resume-step, last-grow}
 use Rattle.machine.proofs.Unplug.{outs, unplug, Redex, r-var, r-new, r-fork, r-lock, r-select, r-hole, tag, fill-tag, value-stuck, only-reduce, redex-active, determined}
 
--- So many silent moves.
-pub data Silently (s : Code) (lim : Places) (st : Stores) (above : List Frame) : Tree → Tree → ℕ → Type 0 where
-  at-once : {t : Tree} → Silently s lim st above t t 0
-  after : {t u v : Tree} {n : ℕ} (p : Path) → moveAt s (spare lim st t) st above t p ≡ moved st u → quietIn s (part t p) ≡ true
-      → Silently s lim st above u v n → Silently s lim st above t v (suc n)
+-- So many silent moves, at places of this kind.
+pub data Silently (s : Code) (lim : Places) (st : Stores) (above : List Frame) (on : Path → Type 0) : Tree → Tree → ℕ → Type 0 where
+  at-once : {t : Tree} → Silently s lim st above on t t 0
+  after : {t u v : Tree} {n : ℕ} (p : Path) → on p → moveAt s (spare lim st t) st above t p ≡ moved st u → quietIn s (part t p) ≡ true
+      → Silently s lim st above on u v n → Silently s lim st above on t v (suc n)
 
 -- The move at a place leads to this published configuration.
 pub record Landed (s : Code) (lim : Places) (st : Stores) (above : List Frame) (t : Tree) (p : Path) (X : World) (T : PTree) : Type 0 where
@@ -42,32 +43,32 @@ pub record Landed (s : Code) (lim : Places) (st : Stores) (above : List Frame) (
   pub worlds : world stores ≡ X
   pub reads : read s (stores .bindings) above tree ≡ T
   pub grows : Grows st stores
+  pub loud : quietIn s (part t p) ≡ false
 
--- After at most k silent moves, a move leads there, or is stopped by a full store.
-pub record Reached (s : Code) (lim : Places) (st : Stores) (above : List Frame) (t : Tree) (X : World) (T : PTree) (k : ℕ) : Type 0 where
+-- After at most k silent moves near a place, the move at it leads there, or is stopped by a full store.
+pub record Reached (s : Code) (lim : Places) (st : Stores) (above : List Frame) (t : Tree) (X : World) (T : PTree) (k : ℕ) (place : Path) : Type 0 where
   pub middle : Tree
   pub count : ℕ
   pub few : count ≤ k
-  pub silently : Silently s lim st above t middle count
-  pub place : Path
+  pub silently : Silently s lim st above (Near place) t middle count
   pub ends : ((j : ℕ) × (moveAt s (spare lim st middle) st above middle place ≡ full j)) ⊎ Landed s lim st above middle place X T
 
 module _ {s : Code} {lim : Places} {st : Stores} {above : List Frame} {X : World} {T : PTree} where
-  first-silent : {t u : Tree} {k : ℕ} (p : Path) → moveAt s (spare lim st t) st above t p ≡ moved st u → quietIn s (part t p) ≡ true
-      → Reached s lim st above u X T k → Reached s lim st above t X T (suc k)
-  first-silent p m e r = record { middle = r .middle; count = suc (r .count); few = omega (arith, r .few); silently = after p m e (r .silently); place = r .place; ends = r .ends }
+  first-silent : {t u : Tree} {k : ℕ} → moveAt s (spare lim st t) st above t here ≡ moved st u → quietIn s (part t here) ≡ true
+      → Reached s lim st above u X T k here → Reached s lim st above t X T (suc k) here
+  first-silent m e r = record { middle = r .middle; count = suc (r .count); few = omega (arith, r .few); silently = after here itself m e (r .silently); ends = r .ends }
 
-  at-most : {t : Tree} {k : ℕ} (l : ℕ) → k ≤ l → Reached s lim st above t X T k → Reached s lim st above t X T l
-  at-most l h r = record { middle = r .middle; count = r .count; few = omega (arith, r .few); silently = r .silently; place = r .place; ends = r .ends }
+  at-most : {t : Tree} {k : ℕ} {p : Path} (l : ℕ) → k ≤ l → Reached s lim st above t X T k p → Reached s lim st above t X T l p
+  at-most l h r = record { middle = r .middle; count = r .count; few = omega (arith, r .few); silently = r .silently; ends = r .ends }
 
 -- a thread at a redex
 land : {s : Code} {w : Want} {Q : Type 0} (lim : Places) (st : Stores) (above : List Frame) (t : Tree) (L : List ℕ) (fs : List Frame) (a : PExpr)
-    → Redex a → read s (st .bindings) above t ≡ p-thread L (plug s (st .bindings) fs a) → (o : Outcome) → moveAt s (spare lim st t) st above t here ≡ o
+    → Redex a → quietIn s (part t here) ≡ false → read s (st .bindings) above t ≡ p-thread L (plug s (st .bindings) fs a) → (o : Outcome) → moveAt s (spare lim st t) st above t here ≡ o
     → Judged s w st t Q o → Exact s st above t o → {X : World} {T : PTree}
-    → (Q → ⊥) → Step (s .program) (world st) (read s (st .bindings) above t) X T → Reached s lim st above t X T 0
-land lim st above t L fs a r e still m (no-move q) x n h = absurd (n q)
-land lim st above t L fs a r e (full k) m j x n h = record { middle = t; count = 0; few = omega arith; silently = at-once; place = here; ends = inl (k, m) }
-land {s} lim st above t L fs a r e (moved su u) m (a-move f) (published k) {X} {T} n h =
+    → (Q → ⊥) → Step (s .program) (world st) (read s (st .bindings) above t) X T → Reached s lim st above t X T 0 here
+land lim st above t L fs a r q e still m (no-move z) x n h = absurd (n z)
+land lim st above t L fs a r q e (full k) m j x n h = record { middle = t; count = 0; few = omega arith; silently = at-once; ends = inl (k, m) }
+land {s} lim st above t L fs a r q e (moved su u) m (a-move f) (published k) {X} {T} n h =
     let i = unplug s (st .bindings) fs a (redex-active r) (rw e at h) in
     let j = unplug s (st .bindings) fs a (redex-active r) (rw e at k) in
     let d = determined (only-reduce r (j .step)) (only-reduce r (i .step)) in
@@ -76,7 +77,6 @@ land {s} lim st above t L fs a r e (moved su u) m (a-move f) (published k) {X} {
       count = 0;
       few = omega arith;
       silently = at-once;
-      place = here;
       ends =
           inr
           (record {
@@ -86,6 +86,7 @@ land {s} lim st above t L fs a r e (moved su u) m (a-move f) (published k) {X} {
             worlds = d .0;
             reads = j .whole ∙ ap (outs s (st .bindings) fs) (d .1) ∙ sym (i .whole);
             grows = f .grows;
+            loud = q;
           });
     }
 
@@ -111,10 +112,10 @@ node-expr {s} acc a y n i = acc .built a y ∙ ap (build a (s .expr)) i
 module _ {s : Code} {start : ℕ} {st : Stores} (ok : StoresOk s st) (acc : Accepted s start) (lim : Places) (above : List Frame) {X : World} {T : PTree} where
   resume-reach : {w : Want} (fs : List Frame) (x : Value) (v : Want) → FramesOk s (st .bindings) w fs v → Fits s (st .objects) x v
       → ((o : ℕ) → lockFrames o above + lockFrames o fs ≤ shutAt (st .objects) o)
-      → Step (s .program) (world st) (read s (st .bindings) above (returning x fs)) X T → Reached s lim st above (returning x fs) X T 0
+      → Step (s .program) (world st) (read s (st .bindings) above (returning x fs)) X T → Reached s lim st above (returning x fs) X T 0 here
   resume-reach [] x v r f d h = absurd (value-stuck x refl h)
   resume-reach (g ∷ fs) x v r f d h =
-      land lim st above (returning x (g ∷ fs)) (held ((g ∷ fs) ++ above)) fs (fill (hole s (st .bindings) g) (p-value x)) (r-hole (hole s (st .bindings) g) x refl) refl _ refl
+      land lim st above (returning x (g ∷ fs)) (held ((g ∷ fs) ++ above)) fs (fill (hole s (st .bindings) g) (p-value x)) (r-hole (hole s (st .bindings) g) x refl) refl refl _ refl
       (resume-good ok acc (spare lim st (returning x (g ∷ fs))) x (g ∷ fs) v r f (λ o. omega (arith, d o)))
       (resume-step ok acc (spare lim st (returning x (g ∷ fs))) above (g ∷ fs) x v r d) (λ e. no-cons e) h
     where
@@ -124,11 +125,11 @@ module _ {s : Code} {start : ℕ} {st : Stores} (ok : StoresOk s st) (acc : Acce
   module _ {w : Want} (a : Point) (fs : List Frame) (e : ℕ) (v : Want) (r : FramesOk s (st .bindings) w fs v) (le : e ≤ length (st .bindings)) (y : a < s .size) where
     -- a thread at a node that is no silent move
     redex-reach : (n : Node) → s .view a ≡ n → ((q : Point) → q ∈ parts n → Later s a q) → Gives s (context (st .bindings) e) (build a (s .expr) n) v
-        → Redex (close (names (st .bindings) e) (build a (s .expr) n)) → Exact s st above (running a e fs) (run s (spare lim st (running a e fs)) st above fs e a n)
-        → Step (s .program) (world st) (read s (st .bindings) above (running a e fs)) X T → Reached s lim st above (running a e fs) X T 0
-    redex-reach n i u g x z h =
+        → Redex (close (names (st .bindings) e) (build a (s .expr) n)) → quiet n ≡ false → Exact s st above (running a e fs) (run s (spare lim st (running a e fs)) st above fs e a n)
+        → Step (s .program) (world st) (read s (st .bindings) above (running a e fs)) X T → Reached s lim st above (running a e fs) X T 0 here
+    redex-reach n i u g x c z h =
         let b = node-expr acc a y n i in
-        land lim st above (running a e fs) (held (fs ++ above)) fs (close (names (st .bindings) e) (build a (s .expr) n)) x
+        land lim st above (running a e fs) (held (fs ++ above)) fs (close (names (st .bindings) e) (build a (s .expr) n)) x (rw i c)
         (ap (λ (z : Expr). p-thread (held (fs ++ above)) (plug s (st .bindings) fs (close (names (st .bindings) e) z))) b)
         (run s (spare lim st (running a e fs)) st above fs e a n) (ap (run s (spare lim st (running a e fs)) st above fs e a) i)
         (run-good ok acc (spare lim st (running a e fs)) above fs a v r e le n y i u g) z (λ q. waits-stuck s a (q .1) (rw b at h)) h
@@ -136,40 +137,39 @@ module _ {s : Code} {start : ℕ} {st : Stores} (ok : StoresOk s st) (acc : Acce
     -- a part is run first
     descend-reach : (k : ℕ) (b : Point) (f : Frame) (n : Node) → s .view a ≡ n → quiet n ≡ true → run s (spare lim st (running a e fs)) st above fs e a n ≡ descend st fs e f b (spare lim st (running a e fs) .frames)
         → close (names (st .bindings) e) (build a (s .expr) n) ≡ fill (hole s (st .bindings) f) (said s (st .bindings) e b) → held (f ∷ (fs ++ above)) ≡ held (fs ++ above)
-        → (Step (s .program) (world st) (read s (st .bindings) above (running b e (f ∷ fs))) X T → Reached s lim st above (running b e (f ∷ fs)) X T k)
-        → Step (s .program) (world st) (read s (st .bindings) above (running a e fs)) X T → Reached s lim st above (running a e fs) X T (suc k)
+        → (Step (s .program) (world st) (read s (st .bindings) above (running b e (f ∷ fs))) X T → Reached s lim st above (running b e (f ∷ fs)) X T k here)
+        → Step (s .program) (world st) (read s (st .bindings) above (running a e fs)) X T → Reached s lim st above (running a e fs) X T (suc k) here
     descend-reach k b f n i c m q l rec h = go (spare lim st (running a e fs) .frames) refl
       where
         same-reading : read s (st .bindings) above (running b e (f ∷ fs)) ≡ read s (st .bindings) above (running a e fs)
         same-reading = λ j. p-thread (l j) (plug s (st .bindings) fs (sym (ap (close (names (st .bindings) e)) (node-expr acc a y n i) ∙ q) j))
 
-        go : (z : ℕ) → spare lim st (running a e fs) .frames ≡ z → Reached s lim st above (running a e fs) X T (suc k)
+        go : (z : ℕ) → spare lim st (running a e fs) .frames ≡ z → Reached s lim st above (running a e fs) X T (suc k) here
         go zero z =
             record {
               middle = running a e fs;
               count = 0;
               few = omega arith;
               silently = at-once;
-              place = here;
               ends = inl (6, ap (run s (spare lim st (running a e fs)) st above fs e a) i ∙ m ∙ ap (descend st fs e f b) z);
             }
         go (suc k) z =
-            first-silent here (ap (run s (spare lim st (running a e fs)) st above fs e a) i ∙ m ∙ ap (descend st fs e f b) z) (rw i c) (rec (rw (← same-reading) at h))
+            first-silent (ap (run s (spare lim st (running a e fs)) st above fs e a) i ∙ m ∙ ap (descend st fs e f b) z) (rw i c) (rec (rw (← same-reading) at h))
 
     node-reach : (k : ℕ) (n : Node) → s .view a ≡ n → ((q : Point) → q ∈ parts n → Later s a q) → Gives s (context (st .bindings) e) (build a (s .expr) n) v
         → ((o : ℕ) → lockFrames o above + lockFrames o fs ≤ shutAt (st .objects) o)
         → ((b : Point) (f : Frame) (u : Want) → Later s a b → FramesOk s (st .bindings) w (f ∷ fs) u → At s (context (st .bindings) e) b u → ((o : ℕ) → lockFrames o (f ∷ fs) ≡ lockFrames o fs)
-        → Step (s .program) (world st) (read s (st .bindings) above (running b e (f ∷ fs))) X T → Reached s lim st above (running b e (f ∷ fs)) X T k)
-        → Step (s .program) (world st) (read s (st .bindings) above (running a e fs)) X T → Reached s lim st above (running a e fs) X T (suc k)
+        → Step (s .program) (world st) (read s (st .bindings) above (running b e (f ∷ fs))) X T → Reached s lim st above (running b e (f ∷ fs)) X T k here)
+        → Step (s .program) (world st) (read s (st .bindings) above (running a e fs)) X T → Reached s lim st above (running a e fs) X T (suc k) here
     node-reach k n-null i t g d rec h =
         let b = node-expr acc a y n-null i in
-        first-silent here (ap (run s (spare lim st (running a e fs)) st above fs e a) i) (rw i) (at-most k (omega arith) (resume-reach fs nil v r fits-nil d (rw b at h)))
+        first-silent (ap (run s (spare lim st (running a e fs)) st above fs e a) i) (rw i) (at-most k (omega arith) (resume-reach fs nil v r fits-nil d (rw b at h)))
     node-reach k (n-var x) i t (gives-type (BD-INFER-VAR z j) m) d rec h =
         at-most (suc k) (omega arith)
-        (redex-reach (n-var x) i t (gives-type (BD-INFER-VAR z j) m) r-var (give-step ok acc (spare lim st (running a e fs)) above fs v r e a x _ (node-expr acc a y (n-var x) i) j) h)
+        (redex-reach (n-var x) i t (gives-type (BD-INFER-VAR z j) m) r-var refl (give-step ok acc (spare lim st (running a e fs)) above fs v r e a x _ (node-expr acc a y (n-var x) i) j) h)
     node-reach k (n-select x f) i t (gives-type (BD-INFER-SELECT (BD-INFER-VAR z j) p) m) d rec h =
         at-most (suc k) (omega arith)
-        (redex-reach (n-select x f) i t (gives-type (BD-INFER-SELECT (BD-INFER-VAR {n = a} z j) p) m) r-select (select-step ok acc (spare lim st (running a e fs)) above fs v r e a x f _ _ (node-expr acc a y (n-select x f) i) j p) h)
+        (redex-reach (n-select x f) i t (gives-type (BD-INFER-SELECT (BD-INFER-VAR {n = a} z j) p) m) r-select refl (select-step ok acc (spare lim st (running a e fs)) above fs v r e a x f _ _ (node-expr acc a y (n-select x f) i) j p) h)
     node-reach k (n-update x f b) i t (gives-type (BD-INFER-UPDATE {t = u} (BD-INFER-VAR z j) q p) m) d rec h =
         descend-reach k b (awaits a e) (n-update x f b) i refl refl (rw i) refl
         (rec b (awaits a e) (upto u) (t b first) (a-node {t = u} y le (rw i (a-write j p)) m r) (record { node = t b first .there; gives = check-gives q }) (λ o. refl)) h
@@ -181,20 +181,20 @@ module _ {s : Code} {start : ℕ} {st : Stores} (ok : StoresOk s st) (acc : Acce
         (rec b (awaits a e) (upto n) (t b first) (a-node {t = n} {u = u} y le (rw i (a-let p q)) m r) (record { node = t b first .there; gives = gives-type p (meets-type (T-SUB-EQ (let-type q))) }) (λ o. refl)) h
     node-reach k (n-new c) i t g d rec h =
         at-most (suc k) (omega arith)
-        (redex-reach (n-new c) i t g r-new (make-step ok acc (spare lim st (running a e fs)) above fs v r e a c (node-expr acc a y (n-new c) i) (spare lim st (running a e fs) .objects)) h)
+        (redex-reach (n-new c) i t g r-new refl (make-step ok acc (spare lim st (running a e fs)) above fs v r e a c (node-expr acc a y (n-new c) i) (spare lim st (running a e fs) .objects)) h)
     node-reach k (n-cast n b) i t (gives-type (BD-INFER-CAST c) m) d rec h =
         descend-reach k b (casts a) (n-cast n b) i refl refl (rw i) refl
         (rec b (casts a) (upto n) (t b first) (a-cast y i m r) (record { node = t b first .there; gives = check-gives c }) (λ o. refl)) h
     node-reach k (n-fork p q c) i t g d rec h =
         at-most (suc k) (omega arith)
-        (redex-reach (n-fork p q c) i t g r-fork (spawn-step ok acc (spare lim st (running a e fs)) above fs v r e a p q c (node-expr acc a y (n-fork p q c) i) (spare lim st (running a e fs) .threads)) h)
+        (redex-reach (n-fork p q c) i t g r-fork refl (spawn-step ok acc (spare lim st (running a e fs)) above fs v r e a p q c (node-expr acc a y (n-fork p q c) i) (spare lim st (running a e fs) .threads)) h)
     node-reach k (n-lock x b) i t (gives-type (BD-INFER-LOCK (BD-INFER-VAR z j) p) m) d rec h =
         at-most (suc k) (omega arith)
-        (redex-reach (n-lock x b) i t (gives-type (BD-INFER-LOCK (BD-INFER-VAR {n = a} z j) p) m) r-lock (lock-step ok acc (spare lim st (running a e fs)) above fs v r e a x _ b (node-expr acc a y (n-lock x b) i) j d) h)
+        (redex-reach (n-lock x b) i t (gives-type (BD-INFER-LOCK (BD-INFER-VAR {n = a} z j) p) m) r-lock refl (lock-step ok acc (spare lim st (running a e fs)) above fs v r e a x _ b (node-expr acc a y (n-lock x b) i) j d) h)
 
   run-reach : {w : Want} (k : ℕ) (a : Point) (fs : List Frame) (e : ℕ) (v : Want) → s .size ≤ a + k → FramesOk s (st .bindings) w fs v → e ≤ length (st .bindings)
       → At s (context (st .bindings) e) a v → ((o : ℕ) → lockFrames o above + lockFrames o fs ≤ shutAt (st .objects) o)
-      → Step (s .program) (world st) (read s (st .bindings) above (running a e fs)) X T → Reached s lim st above (running a e fs) X T k
+      → Step (s .program) (world st) (read s (st .bindings) above (running a e fs)) X T → Reached s lim st above (running a e fs) X T k here
   run-reach zero a fs e v z r le g d h = absurd (omega (arith, g .node))
   run-reach (suc k) a fs e v z r le g d h =
       node-reach a fs e v r le (g .node) k (s .view a) refl (acc .in-order a (g .node)) (rw (acc .built a (g .node)) at (g .gives)) d
@@ -231,20 +231,22 @@ module _ (lim : Places) (st : Stores) (fs : List Frame) (a : Point) (e : ℕ) (l
 
 -- moves of a part of a join
 module _ {s : Code} {lim : Places} {st : Stores} (above fs : List Frame) (a : Point) (e : ℕ) where
-  silently-left : {l m : Tree} {n : ℕ} (r : Tree) → Silently s (share lim (length fs + frameCount r) (threadCount r)) st (fs ++ above) l m n → Silently s lim st above (join fs a e l r) (join fs a e m r) n
-  silently-left r at-once = at-once
-  silently-left r (after {t = l} p h k q) =
-      after (left p) (left-outcome lim st fs a e l r s above p _ h) k (silently-left r q)
+  silently-left : {on to : Path → Type 0} {l m : Tree} {n : ℕ} (r : Tree) → ((p : Path) → on p → to (left p))
+      → Silently s (share lim (length fs + frameCount r) (threadCount r)) st (fs ++ above) on l m n → Silently s lim st above to (join fs a e l r) (join fs a e m r) n
+  silently-left r f at-once = at-once
+  silently-left r f (after {t = l} p o h k q) =
+      after (left p) (f p o) (left-outcome lim st fs a e l r s above p _ h) k (silently-left r f q)
 
-  silently-right : (l : Tree) {r m : Tree} {n : ℕ} → Silently s (share lim (length fs + frameCount l) (threadCount l)) st [] r m n → Silently s lim st above (join fs a e l r) (join fs a e l m) n
-  silently-right l at-once = at-once
-  silently-right l (after {t = r} p h k q) =
-      after (right p) (right-outcome lim st fs a e l r s above p _ h) k (silently-right l q)
+  silently-right : {on to : Path → Type 0} (l : Tree) {r m : Tree} {n : ℕ} → ((p : Path) → on p → to (right p))
+      → Silently s (share lim (length fs + frameCount l) (threadCount l)) st [] on r m n → Silently s lim st above to (join fs a e l r) (join fs a e l m) n
+  silently-right l f at-once = at-once
+  silently-right l f (after {t = r} p o h k q) =
+      after (right p) (f p o) (right-outcome lim st fs a e l r s above p _ h) k (silently-right l f q)
 
-silently-then : {s : Code} {lim : Places} {st : Stores} {above : List Frame} {t u v : Tree} {m n : ℕ} → Silently s lim st above t u m → Silently s lim st above u v n
-    → (k : ℕ) × (k ≡ m + n) × Silently s lim st above t v k
+silently-then : {s : Code} {lim : Places} {st : Stores} {above : List Frame} {on : Path → Type 0} {t u v : Tree} {m n : ℕ} → Silently s lim st above on t u m → Silently s lim st above on u v n
+    → (k : ℕ) × (k ≡ m + n) × Silently s lim st above on t v k
 silently-then {n = n} at-once q = (n, omega arith, q)
-silently-then (after p h k r) q = let x = silently-then r q in (suc (x .0), omega (arith, x .1), after p h k (x .2))
+silently-then (after p o h k r) q = let x = silently-then r q in (suc (x .0), omega (arith, x .1), after p o h k (x .2))
 
 -- a tree that reads as a finished thread comes to be one silently
 plug-value : (s : Code) (bs : List Binding) (fs : List Frame) (a : PExpr) (v : Value) → plug s bs fs a ≡ p-value v → (fs ≡ []) × (a ≡ p-value v)
@@ -269,7 +271,7 @@ record Ready (s : Code) (lim : Places) (st : Stores) (above : List Frame) (t : T
   value : Value
   count : ℕ
   few : count ≤ 1
-  silently : Silently s lim st above t (returning value []) count
+  silently : Silently s lim st above (λ p. p ≡ here) t (returning value []) count
   locks : L ≡ held above
 
 ready-running : {s : Code} {lim : Places} {st : Stores} {above : List Frame} {L : List ℕ} (a : Point) (e : ℕ) (fs : List Frame) → L ≡ held (fs ++ above)
@@ -279,7 +281,7 @@ ready-running {s} {lim} {st} {above} a e fs h p n =
       value = nil;
       count = 1;
       few = omega arith;
-      silently = rw p (after {t = running a e []} {u = returning nil []} here (ap (run s (spare lim st (running a e [])) st above [] e a) n) (rw n) at-once);
+      silently = rw p (after {t = running a e []} {u = returning nil []} here refl (ap (run s (spare lim st (running a e [])) st above [] e a) n) (rw n) at-once);
       locks = h ∙ ap (λ (z : List Frame). held (z ++ above)) p;
     }
 
@@ -298,6 +300,27 @@ ready {s} {st = st} acc above (returning x fs) L v ok h =
 ready acc above failed L v ok h = absurd (let z : _≡_ {A = ℕ} 0 1 = cc in omega arith)
 ready acc above (join fs a e l r) L v ok h = absurd (let z : _≡_ {A = ℕ} 0 1 = cc in omega arith)
 
+-- a step of a thread is made at its root, and a failed tree has none
+thread-join : {L : List ℕ} {a c : PExpr} {P Q : PTree} → p-thread L a ≡ p-join P Q c → ⊥
+thread-join h = let z : _≡_ {A = ℕ} 0 1 = cc in omega arith
+
+site-thread : {p : Program} {W X : World} {L : List ℕ} {a : PExpr} {P T : PTree} → P ≡ p-thread L a → (h : Step p W P X T) → site h ≡ here
+site-thread e (reduces h) = refl
+site-thread e (DYN-EVAL-CONTEXT E c h) = refl
+site-thread e (DYN-EVAL-SPAWN-CONTEXT E c h) = refl
+site-thread e (DYN-EXCEPTION-CONTEXT E c h) = refl
+site-thread e (DYN-EVAL-ASYNC-LEFT h) = absurd (thread-join (sym e))
+site-thread e (DYN-EVAL-ASYNC-RIGHT h) = absurd (thread-join (sym e))
+site-thread e DYN-EVAL-ASYNC-JOIN = refl
+site-thread e DYN-EXCEPTION-ASYNC-LEFT = refl
+site-thread e DYN-EXCEPTION-ASYNC-RIGHT = refl
+
+failed-stuck : {p : Program} {W X : World} {T : PTree} → Step p W p-failed X T → ⊥
+failed-stuck h = elim h [ ]
+
+join-parts : {P Q R U : PTree} {a b : PExpr} → p-join P Q a ≡ p-join R U b → (P ≡ R) × (Q ≡ U) × (a ≡ b)
+join-parts h = (cc, cc, cc)
+
 read-failed : (s : Code) (bs : List Binding) (above : List Frame) (t : Tree) → p-failed ≡ read s bs above t → t ≡ failed
 read-failed s bs above (running a e fs) h = cc
 read-failed s bs above (returning x fs) h = cc
@@ -309,69 +332,68 @@ module _ {s : Code} {start : ℕ} {w v : Want} {st : Stores} (acc : Accepted s s
   last-part : PExpr
   last-part = plug s (st .bindings) fs (said s (st .bindings) e a)
 
-  left-reach : {X : World} {T : PTree} {k : ℕ} → Reached s (share lim (length fs + frameCount r) (threadCount r)) st (fs ++ above) l X T k
-      → Reached s lim st above (join fs a e l r) X (p-join T (read s (st .bindings) [] r) last-part) k
+  left-reach : {X : World} {T : PTree} {k : ℕ} {p : Path} → Reached s (share lim (length fs + frameCount r) (threadCount r)) st (fs ++ above) l X T k p
+      → Reached s lim st above (join fs a e l r) X (p-join T (read s (st .bindings) [] r) last-part) k (left p)
   unfolding last-part
-  left-reach {X} {T} q =
+  left-reach {p = p} q =
       record {
         middle = join fs a e (q .middle) r;
         count = q .count;
         few = q .few;
-        silently = silently-left above fs a e r (q .silently);
-        place = left (q .place);
+        silently = silently-left above fs a e r (λ o n. in-left n) (q .silently);
         ends =
-            ⊎-elim (λ h. inl (h .0, left-outcome lim st fs a e (q .middle) r s above (q .place) _ (h .1)))
+            ⊎-elim (λ h. inl (h .0, left-outcome lim st fs a e (q .middle) r s above p _ (h .1)))
             (λ h.
             inr
             (record {
               stores = h .stores;
               tree = join fs a e (h .tree) r;
-              moves = left-outcome lim st fs a e (q .middle) r s above (q .place) _ (h .moves);
+              moves = left-outcome lim st fs a e (q .middle) r s above p _ (h .moves);
               worlds = h .worlds;
               reads = λ i. p-join (h .reads i) (read-grow (h .grows) [] y i) (last-grow above fs a e l r le k (h .grows) i);
               grows = h .grows;
+              loud = h .loud;
             }))
             (q .ends);
       }
 
-  right-reach : {X : World} {T : PTree} {k : ℕ} → Reached s (share lim (length fs + frameCount l) (threadCount l)) st [] r X T k
-      → Reached s lim st above (join fs a e l r) X (p-join (read s (st .bindings) (fs ++ above) l) T last-part) k
+  right-reach : {X : World} {T : PTree} {k : ℕ} {p : Path} → Reached s (share lim (length fs + frameCount l) (threadCount l)) st [] r X T k p
+      → Reached s lim st above (join fs a e l r) X (p-join (read s (st .bindings) (fs ++ above) l) T last-part) k (right p)
   unfolding last-part
-  right-reach {X} {T} q =
+  right-reach {p = p} q =
       record {
         middle = join fs a e l (q .middle);
         count = q .count;
         few = q .few;
-        silently = silently-right above fs a e l (q .silently);
-        place = right (q .place);
+        silently = silently-right above fs a e l (λ o n. in-right n) (q .silently);
         ends =
-            ⊎-elim (λ h. inl (h .0, right-outcome lim st fs a e l (q .middle) s above (q .place) _ (h .1)))
+            ⊎-elim (λ h. inl (h .0, right-outcome lim st fs a e l (q .middle) s above p _ (h .1)))
             (λ h.
             inr
             (record {
               stores = h .stores;
               tree = join fs a e l (h .tree);
-              moves = right-outcome lim st fs a e l (q .middle) s above (q .place) _ (h .moves);
+              moves = right-outcome lim st fs a e l (q .middle) s above p _ (h .moves);
               worlds = h .worlds;
               reads = λ i. p-join (read-grow (h .grows) (fs ++ above) x i) (h .reads i) (last-grow above fs a e l r le k (h .grows) i);
               grows = h .grows;
+              loud = h .loud;
             }))
             (q .ends);
       }
 
   finish-reach : (L M : List ℕ) (p q : Value) → p-thread L (p-value p) ≡ read s (st .bindings) (fs ++ above) l → p-thread M (p-value q) ≡ read s (st .bindings) [] r
-      → Reached s lim st above (join fs a e l r) (world st) (p-thread L last-part) 2
+      → Reached s lim st above (join fs a e l r) (world st) (p-thread L last-part) 2 here
   unfolding last-part
   finish-reach L M p q h j =
       let i = ready {s = s} {lim = share lim (length fs + frameCount r) (threadCount r)} {st = st} acc (fs ++ above) l L p x h in
       let m = ready {s = s} {lim = share lim (length fs + 0) 1} {st = st} acc [] r M q y j in
-      let n = silently-then (silently-left above fs a e r (i .silently)) (silently-right above fs a e (returning (i .value) []) (m .silently)) in
+      let n = silently-then {on = Near here} (silently-left above fs a e r (λ o (h : o ≡ here). rw h left-side) (i .silently)) (silently-right above fs a e (returning (i .value) []) (λ o (h : o ≡ here). rw h right-side) (m .silently)) in
       record {
         middle = join fs a e (returning (i .value) []) (returning (m .value) []);
         count = n .0;
         few = omega (arith, n .1, i .few, m .few);
         silently = n .2;
-        place = here;
         ends =
             inr
             (record {
@@ -381,37 +403,46 @@ module _ {s : Code} {start : ℕ} {w v : Want} {st : Stores} (acc : Accepted s s
               worlds = refl;
               reads = ap (λ (z : List ℕ). p-thread z (plug s (st .bindings) fs (said s (st .bindings) e a))) (sym (i .locks));
               grows = grows-same st;
+              loud = refl;
             });
       }
 
-  fail-reach : moveAt s (spare lim st (join fs a e l r)) st above (join fs a e l r) here ≡ moved st failed → Reached s lim st above (join fs a e l r) (world st) p-failed 0
+  fail-reach : moveAt s (spare lim st (join fs a e l r)) st above (join fs a e l r) here ≡ moved st failed → Reached s lim st above (join fs a e l r) (world st) p-failed 0 here
   fail-reach h =
       record {
         middle = join fs a e l r;
         count = 0;
         few = omega arith;
         silently = at-once;
-        place = here;
-        ends = inr (record { stores = st; tree = failed; moves = h; worlds = refl; reads = refl; grows = grows-same st });
+        ends = inr (record { stores = st; tree = failed; moves = h; worlds = refl; reads = refl; grows = grows-same st; loud = refl });
       }
 
-  join-reach : {P Q : PTree} {c : PExpr} {X : World} {T : PTree} (k : ℕ) → 2 ≤ k → Step (s .program) (world st) (p-join P Q c) X T → P ≡ read s (st .bindings) (fs ++ above) l → Q ≡ read s (st .bindings) [] r
-      → c ≡ last-part → ((Y : World) (U : PTree) → Step (s .program) (world st) (read s (st .bindings) (fs ++ above) l) Y U → Reached s (share lim (length fs + frameCount r) (threadCount r)) st (fs ++ above) l Y U k)
-      → ((Y : World) (U : PTree) → Step (s .program) (world st) (read s (st .bindings) [] r) Y U → Reached s (share lim (length fs + frameCount l) (threadCount l)) st [] r Y U k) → Reached s lim st above (join fs a e l r) X T k
-  join-reach k m (DYN-EVAL-ASYNC-LEFT {X = X} {U = U} h) p q c f g = rw (q, c) (left-reach (f X U (rw p at h)))
-  join-reach k m (DYN-EVAL-ASYNC-RIGHT {X = X} {U = U} h) p q c f g = rw (p, c) (right-reach (g X U (rw q at h)))
-  join-reach k m (DYN-EVAL-ASYNC-JOIN {L = L} {M = M} {v = i} {w = j}) p q c f g = rw c (at-most k m (finish-reach L M i j p q))
-  join-reach k m DYN-EXCEPTION-ASYNC-LEFT p q c f g = at-most k (omega arith) (fail-reach (rw (read-failed s (st .bindings) (fs ++ above) l p)))
-  join-reach k m DYN-EXCEPTION-ASYNC-RIGHT p q c f g = at-most k (omega arith) (fail-reach (rw (read-failed s (st .bindings) [] r q) (fold-broken st fs a e (phase l))))
+  join-reach : {P : PTree} {X : World} {T : PTree} (k : ℕ) → 2 ≤ k → (h : Step (s .program) (world st) P X T) → P ≡ p-join (read s (st .bindings) (fs ++ above) l) (read s (st .bindings) [] r) last-part
+      → ((Q : PTree) → Q ≡ read s (st .bindings) (fs ++ above) l → (Y : World) (U : PTree) (i : Step (s .program) (world st) Q Y U)
+      → Reached s (share lim (length fs + frameCount r) (threadCount r)) st (fs ++ above) l Y U k (site i))
+      → ((Q : PTree) → Q ≡ read s (st .bindings) [] r → (Y : World) (U : PTree) (i : Step (s .program) (world st) Q Y U)
+      → Reached s (share lim (length fs + frameCount l) (threadCount l)) st [] r Y U k (site i)) → Reached s lim st above (join fs a e l r) X T k (site h)
+  join-reach k m (reduces h) p f g = absurd (thread-join p)
+  join-reach k m (DYN-EVAL-CONTEXT E c h) p f g = absurd (thread-join p)
+  join-reach k m (DYN-EVAL-SPAWN-CONTEXT E c h) p f g = absurd (thread-join p)
+  join-reach k m (DYN-EXCEPTION-CONTEXT E c h) p f g = absurd (thread-join p)
+  join-reach k m (DYN-EVAL-ASYNC-LEFT {X = X} {T = T} {U = U} h) p f g = let i = join-parts p in rw (i .1, i .2) (left-reach (f T (i .0) X U h))
+  join-reach k m (DYN-EVAL-ASYNC-RIGHT {X = X} {T = T} {U = U} h) p f g = let i = join-parts p in rw (i .0, i .2) (right-reach (g T (i .1) X U h))
+  join-reach k m (DYN-EVAL-ASYNC-JOIN {L = L} {M = M} {v = v} {w = w}) p f g = let i = join-parts p in rw (i .2) (at-most k m (finish-reach L M v w (i .0) (i .1)))
+  join-reach k m DYN-EXCEPTION-ASYNC-LEFT p f g = at-most k (omega arith) (fail-reach (rw (read-failed s (st .bindings) (fs ++ above) l (join-parts p .0))))
+  join-reach k m DYN-EXCEPTION-ASYNC-RIGHT p f g =
+      at-most k (omega arith) (fail-reach (rw (read-failed s (st .bindings) [] r (join-parts p .1)) (fold-broken st fs a e (phase l))))
 
 pub reach : {s : Code} {start : ℕ} {w : Want} {st : Stores} (acc : Accepted s start) (lim : Places) (above : List Frame) (t : Tree) → StoresOk s st → TreeOk s st w t
-    → ((o : ℕ) → lockFrames o above + lockCount o t ≤ shutAt (st .objects) o) → (X : World) (T : PTree)
-    → Step (s .program) (world st) (read s (st .bindings) above t) X T → Reached s lim st above t X T (suc (s .size))
+    → ((o : ℕ) → lockFrames o above + lockCount o t ≤ shutAt (st .objects) o) → (P : PTree) → P ≡ read s (st .bindings) above t → (X : World) (T : PTree)
+    → (h : Step (s .program) (world st) P X T) → Reached s lim st above t X T (suc (s .size)) (site h)
 unfolding last-part
-reach {s} acc lim above (running a e fs) ok (running-ok le g r) d X T h = run-reach ok acc lim above (suc (s .size)) a fs e _ (omega arith) r le g d h
-reach {s} acc lim above (returning x fs) ok (returning-ok f r) d X T h = at-most (suc (s .size)) (omega arith) (resume-reach ok acc lim above fs x _ r f d h)
-reach acc lim above failed ok x d X T h = elim h [ ]
-reach {s} {st = st} acc lim above (join fs a e l r) ok (join-ok le g k x y) d X T h =
-    join-reach acc lim above fs a e l r le k x y (suc (s .size)) (omega (arith, acc .a-node)) h refl refl refl
+reach {s} acc lim above (running a e fs) ok (running-ok le g r) d P p X T h =
+    rw (site-thread p h) (run-reach ok acc lim above (suc (s .size)) a fs e _ (omega arith) r le g d (rw p at h))
+reach {s} acc lim above (returning x fs) ok (returning-ok f r) d P p X T h =
+    rw (site-thread p h) (at-most (suc (s .size)) (omega arith) (resume-reach ok acc lim above fs x _ r f d (rw p at h)))
+reach acc lim above failed ok x d P p X T h = absurd (failed-stuck (rw p at h))
+reach {s} {st = st} acc lim above (join fs a e l r) ok (join-ok le g k x y) d P p X T h =
+    join-reach acc lim above fs a e l r le k x y (suc (s .size)) (omega (arith, acc .a-node)) h p
     (reach acc (share lim (length fs + frameCount r) (threadCount r)) (fs ++ above) l ok x (λ o. omega (arith, d o, frames-append o fs above)))
     (reach acc (share lim (length fs + frameCount l) (threadCount l)) [] r ok y (λ o. omega (arith, d o)))

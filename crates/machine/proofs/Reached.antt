@@ -1,7 +1,7 @@
--- Published steps are reached: for each there is one Run that makes silent moves and then that step, unless it meets a full store.
+-- Published steps are reached: for each there is one Run that makes silent moves and then that step, all at its place, unless a store is full for one of them.
 use Prim.Native.Nat.{ℕ, zero, suc, _+_, _*_, _≤_, _<_}
 use native.Mathlib.Omega.{arith}
-use mathlib.Core.Path.{_≡_, refl, _∙_, ap}
+use mathlib.Core.Path.{_≡_, refl, sym, _∙_, ap}
 use mathlib.Core.Bool.{Bool, true, false, cond}
 use mathlib.Core.List.{List, [], _∷_, _++_, List·Memᴰ·cases-cons, List·Memᴰ·not-nil, List·Memᴰ·append-cases}
 use mathlib.Core.Logic.{_⊎_, inl, inr, ⊎-elim}
@@ -13,9 +13,9 @@ use Rattle.machine.specs.Machine.{Places, Outcome, still, full, moved, t
 use Rattle.machine.specs.WellFormed.{WellFormed}
 use Rattle.machine.specs.Accepted.{Accepted}
 use Rattle.machine.specs.ReadAs.{Reading, reading, Steps}
-use Rattle.machine.specs.Silent.{Means, silently, part}
+use Rattle.machine.specs.Silent.{Means, silently, part, quietIn}
 use Rattle.machine.specs.Runs.{look, Report, passed, made, report, stopped, Runs, moves, fills}
-use Rattle.machine.specs.Reach.{samePlace, visits, Quietly, no-choice, a-choice, OneRun}
+use Rattle.machine.specs.Reach.{samePlace, visits, Quietly, no-choice, a-choice, site, Near, OneRun}
 use Rattle.machine.proofs.Trees.{preservation, full-number}
 use Rattle.machine.proofs.Positions.{move-located}
 use Rattle.machine.proofs.Steps.{moves-published}
@@ -94,22 +94,23 @@ module _ {s : Code} {start : ℕ} (acc : Accepted s start) (lim : Places) where
       }
 
   -- silent moves as choices
-  record Choices (c : Config) (d : Config) (n : ℕ) : Type 0 where
+  record Choices (on : Path → Type 0) (c : Config) (d : Config) (n : ℕ) : Type 0 where
     list : List ℕ
     places : List Path
     count : length list ≡ n
     quietly : Quietly s lim c list places d
+    near : (p : Path) → p ∈ places → on p
     small : (i : ℕ) → i ∈ list → i + 1 < 2 * lim .threads
     formed : WellFormed s lim start d
     unread : reading s d ≡ reading s c
     runs : (ms : List ℕ) (r : Report) → Runs s lim d ms r → Runs s lim c (list ++ ms) (madeBy n r)
 
-  choices : {st : Stores} {t u : Tree} {n : ℕ} → Silently s lim st [] t u n → WellFormed s lim start (record { stores = st; tree = t })
-      → Choices (record { stores = st; tree = t }) (record { stores = st; tree = u }) n
+  choices : {on : Path → Type 0} {st : Stores} {t u : Tree} {n : ℕ} → Silently s lim st [] on t u n → WellFormed s lim start (record { stores = st; tree = t })
+      → Choices on (record { stores = st; tree = t }) (record { stores = st; tree = u }) n
   unfolding move madeBy
   choices at-once h =
-      record { list = []; places = []; count = refl; quietly = no-choice; small = λ i m. absurd (List·Memᴰ·not-nil m); formed = h; unread = refl; runs = λ ms r k. k }
-  choices {st} (after {t = t} {u = u} p m q rest) h =
+      record { list = []; places = []; count = refl; quietly = no-choice; near = λ o m. absurd (List·Memᴰ·not-nil m); small = λ i m. absurd (List·Memᴰ·not-nil m); formed = h; unread = refl; runs = λ ms r k. k }
+  choices {on} {st} (after {t = t} {u = u} p z m q rest) h =
       let c : Config = record { stores = st; tree = t } in
       let i = choose p h (moved st u) m moved-still in
       let f : WellFormed s lim start (record { stores = st; tree = u }) = record { formed = preservation acc lim (h .formed) p m; within = within lim s c p (h .within) m } in
@@ -119,6 +120,7 @@ module _ {s : Code} {start : ℕ} (acc : Accepted s start) (lim : Places) where
         places = p ∷ r .places;
         count = ap suc (r .count);
         quietly = a-choice (i .there) q m (r .quietly);
+        near = λ o k. ⊎-elim (λ (e : o ≡ p). rw e z) (λ l. r .near o l) (List·Memᴰ·cases-cons k);
         small = λ j k. ⊎-elim (λ (e : j ≡ i .position). rw e (i .small)) (λ l. r .small j l) (List·Memᴰ·cases-cons k);
         formed = r .formed;
         unread = r .unread ∙ means-nothing (rw q at (moves-published acc lim p (h .formed) m));
@@ -141,13 +143,14 @@ module _ {s : Code} {start : ℕ} (acc : Accepted s start) (lim : Places) where
       go false e x = omega (arith, others-ahead s (spare lim (c .stores) (c .tree)) (c .stores) [] (c .tree) p st t k m q e)
 
   -- the report of the whole list
-  reported : {c d : Config} {n : ℕ} (i : Choices c d n) (last : ℕ) (r : Report) → Runs s lim d (last ∷ []) r → report s lim c (i .list ++ (last ∷ [])) ≡ madeBy n r
+  reported : {on : Path → Type 0} {c d : Config} {n : ℕ} (i : Choices on c d n) (last : ℕ) (r : Report) → Runs s lim d (last ∷ []) r → report s lim c (i .list ++ (last ∷ [])) ≡ madeBy n r
   reported i last r k = runs-report s lim (i .runs (last ∷ []) r k)
 
-  module _ {c d : Config} {n : ℕ} (h : WellFormed s lim start c) (i : Choices c d n) (few : n ≤ suc (s .size)) (p : Path) where
+  module _ {c d : Config} {n : ℕ} (h : WellFormed s lim start c) (p : Path) (i : Choices (Near p) c d n) (few : n ≤ suc (s .size)) where
     one-run : (q : Reading) (k : Chosen s lim d p)
-        → (4 ≤ report s lim c (i .list ++ (k .position ∷ [])) .stop) ⊎ ((report s lim c (i .list ++ (k .position ∷ [])) .moves ≡ suc (length (i .list))) × (reading s (report s lim c (i .list ++ (k .position ∷ [])) .config) ≡ q))
-        → OneRun s lim c q
+        → ((4 ≤ report s lim c (i .list ++ (k .position ∷ [])) .stop) × (move s lim d p ≡ full (report s lim c (i .list ++ (k .position ∷ [])) .stop)))
+        ⊎ ((report s lim c (i .list ++ (k .position ∷ [])) .moves ≡ suc (length (i .list))) × (reading s (report s lim c (i .list ++ (k .position ∷ [])) .config) ≡ q) × (quietIn s (part (d .tree) p) ≡ false))
+        → OneRun s lim c q p
     one-run q k e =
         record {
           silent = i .list;
@@ -155,6 +158,8 @@ module _ {s : Code} {start : ℕ} (acc : Accepted s start) (lim : Places) where
           last = k .position;
           middle = d;
           quietly = i .quietly;
+          near = i .near;
+          there = k .there;
           rows = λ z. omega (arith, visits-ahead (i .quietly) h z, ahead-bound s (part (c .tree) z), acc .most);
           unread = i .unread;
           short = omega (arith, i .count, few, acc .most);
@@ -166,15 +171,16 @@ module _ {s : Code} {start : ℕ} (acc : Accepted s start) (lim : Places) where
           ends = e;
         }
 
-    full-run : (q : Reading) (j : ℕ) → move s lim d p ≡ full j → OneRun s lim c q
+    full-run : (q : Reading) (j : ℕ) → move s lim d p ≡ full j → OneRun s lim c q p
     full-run q j e =
         let k = choose p (i .formed) (full j) e full-still in
         let r = reported i (k .position) _ (fills (k .look) (k .choice ∙ e)) in
-        one-run q k (inl (omega (arith, ap (λ (x : Report). x .stop) r, by-stop n (passed (stopped j d)), full-number acc lim (i .formed .formed) p e .0)))
+        let z = ap (λ (x : Report). x .stop) r ∙ by-stop n (passed (stopped j d)) in
+        one-run q k (inl (omega (arith, z, full-number acc lim (i .formed .formed) p e .0), e ∙ ap full (sym z)))
 
-    step-run : (st : Stores) (t : Tree) → move s lim d p ≡ moved st t → OneRun s lim c (reading s (record { stores = st; tree = t }))
+    step-run : (st : Stores) (t : Tree) → move s lim d p ≡ moved st t → quietIn s (part (d .tree) p) ≡ false → OneRun s lim c (reading s (record { stores = st; tree = t })) p
     unfolding report
-    step-run st t e =
+    step-run st t e loud =
         let k = choose p (i .formed) (moved st t) e moved-still in
         let x = report s lim (record { stores = st; tree = t }) [] in
         let r = reported i (k .position) (made x) (moves (k .look) (k .choice ∙ e) (run-runs s lim [] (record { stores = st; tree = t }))) in
@@ -182,18 +188,21 @@ module _ {s : Code} {start : ℕ} (acc : Accepted s start) (lim : Places) where
         (inr (
           omega (arith, ap (λ (z : Report). z .moves) r, by-moves n (made x), i .count),
           ap (λ (z : Report). reading s (z .config)) r ∙ ap (reading s) (by-config n (made x)),
+          loud,
         ))
 
-  reached-run : {c : Config} {q : Reading} → WellFormed s lim start c → Reached s lim (c .stores) [] (c .tree) (q .world) (q .threads) (suc (s .size)) → OneRun s lim c q
+  reached-run : {c : Config} {q : Reading} (p : Path) → WellFormed s lim start c → Reached s lim (c .stores) [] (c .tree) (q .world) (q .threads) (suc (s .size)) p → OneRun s lim c q p
   unfolding move
-  reached-run {c} {q} h r =
-      ⊎-elim (λ f. full-run h (choices (r .silently) h) (r .few) (r .place) q (f .0) (f .1))
-      (λ l. landed l (step-run h (choices (r .silently) h) (r .few) (r .place) (l .stores) (l .tree) (l .moves)))
+  reached-run {c} {q} p h r =
+      ⊎-elim (λ f. full-run h p (choices (r .silently) h) (r .few) q (f .0) (f .1))
+      (λ l. landed l (step-run h p (choices (r .silently) h) (r .few) (l .stores) (l .tree) (l .moves) (l .loud)))
       (r .ends)
     where
-      landed : (l : Landed s lim (c .stores) [] (r .middle) (r .place) (q .world) (q .threads)) → OneRun s lim c (reading s (record { stores = l .stores; tree = l .tree })) → OneRun s lim c q
+      landed : (l : Landed s lim (c .stores) [] (r .middle) p (q .world) (q .threads)) → OneRun s lim c (reading s (record { stores = l .stores; tree = l .tree })) p → OneRun s lim c q p
       landed l x = let e : reading s (record { stores = l .stores; tree = l .tree }) ≡ q = λ i. record { world = l .worlds i; threads = l .reads i } in rw e at x
 
-  -- Every published step that is open from a reading is reached.
-  pub steps-reached : {c : Config} {q : Reading} → WellFormed s lim start c → Steps (s .program) (reading s c) q → OneRun s lim c q
-  steps-reached {c} {q} h k = reached-run h (reach acc lim [] (c .tree) (h .formed .stores) (h .formed .tree) (λ o. omega (arith, h .formed .distinct o)) (q .world) (q .threads) k)
+  -- "each open published step can be reached by choices, unless a store is full"
+  pub steps-reached : {c : Config} {q : Reading} → WellFormed s lim start c → (k : Steps (s .program) (reading s c) q) → OneRun s lim c q (site k)
+  steps-reached {c} {q} h k =
+      reached-run (site k) h
+      (reach acc lim [] (c .tree) (h .formed .stores) (h .formed .tree) (λ o. omega (arith, h .formed .distinct o)) (reading s c .threads) refl (q .world) (q .threads) k)

@@ -3,6 +3,7 @@ pub mod Machine
 pub mod WellFormed
 pub mod Accepted
 pub mod Standing
+pub mod Stays
 pub mod Steps
 pub mod ReadAs
 pub mod Silent

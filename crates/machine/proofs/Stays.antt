@@ -1,0 +1,170 @@
+-- A position stays exactly where document 01 says that it cannot move.
+use Prim.Native.Nat.{ℕ, zero, suc, _+_, _-_, _≤_}
+use native.Mathlib.Omega.{arith}
+use mathlib.Core.Path.{_≡_, refl, ap}
+use mathlib.Core.Bool.{Bool, true, false, cond}
+use mathlib.Core.List.{List, [], _∷_, _++_}
+use mathlib.Core.Option.{Option, none, some}
+use lib.Dec.{ltb}
+use Rattle.script.specs.Syntax.{Point, Node}
+use Rattle.machine.specs.Config.{Code, Value, Object, Stores, Frame, Tree, running, returning, failed, join, Config}
+use Rattle.machine.specs.Machine.{object, oneIf, lockFrames, Places, spare, Outcome, still, full, moved, lockObject, run, Phase, finished, broken, busy, phase, fold, Path, here, left, right, inLeft, inRight, moveAt, move, size, toLeft, toRight, locate, chosen, choice}
+use Rattle.machine.specs.WellFormed.{Want, StoresOk, TreeOk, running-ok, returning-ok, join-ok, lockCount, shutAt, WellFormed}
+use Rattle.machine.specs.Accepted.{Accepted}
+use Rattle.machine.specs.Standing.{Waits, waits, FinishedAt, finished-here}
+use Rattle.machine.specs.Stays.{StaysAt, stays-waiting, stays-finished, stays-failed, stays-join, stays-left, stays-right, Stays, absent, cannot-move}
+use Rattle.machine.proofs.Move.{Judged, no-move, no-room, a-move, run-good, resume-good}
+use Rattle.machine.proofs.Positions.{PlaceIn, root-place, left-place, right-place}
+use Rattle.machine.proofs.Steps.{is-broken}
+
+-- an outcome is no move exactly if Q
+data Told (Q : Type 0) : Outcome → Type 0 where
+  told-still : Q → Told Q still
+  told-full : {k : ℕ} → (Q → ⊥) → Told Q (full k)
+  told-moved : {st : Stores} {t : Tree} → (Q → ⊥) → Told Q (moved st t)
+
+told-why : {Q : Type 0} {o : Outcome} → Told Q o → o ≡ still → Q
+told-why (told-still q) e = q
+told-why (told-full f) e = absurd (let z : _≡_ {A = ℕ} 0 1 = cc in omega arith)
+told-why (told-moved f) e = absurd (let z : _≡_ {A = ℕ} 0 1 = cc in omega arith)
+
+told-because : {Q : Type 0} {o : Outcome} → Told Q o → Q → o ≡ still
+told-because (told-still q) x = refl
+told-because (told-full f) x = absurd (f x)
+told-because (told-moved f) x = absurd (f x)
+
+-- what a move's judgement tells
+told-judged : {s : Code} {w : Want} {st : Stores} {t : Tree} {P Q : Type 0} {o : Outcome} → Judged s w st t P o → (P → Q) → (Q → o ≡ still) → Told Q o
+told-judged (no-move p) f g = told-still (f p)
+told-judged (no-room {k = k} b) f g = told-full (λ q. let e : full k ≡ still = g q in let z : _≡_ {A = ℕ} 0 1 = cc in omega arith)
+told-judged (a-move {su = su} {u = u} x) f g = told-moved (λ q. let e : moved su u ≡ still = g q in let z : _≡_ {A = ℕ} 0 1 = cc in omega arith)
+
+-- a shut object is there, and a lock on it that the thread does not hold is no move
+module _ (st : Stores) (above fs : List Frame) (a : Point) (e k o : ℕ) (q : lockFrames o fs + lockFrames o above ≡ 0) where
+  shut-still : (xs : List Object) (i : ℕ) → shutAt xs i ≡ 1 → lockObject st above fs a e k o (object xs i) ≡ still
+  shut-still [] i h = absurd (omega arith)
+  shut-still (x ∷ xs) zero h = go (x .shut) h
+    where
+      go : (b : Bool) → oneIf b ≡ 1 → lockObject st above fs a e k o (some (record { class = x .class; shut = b; fields = x .fields })) ≡ still
+      go true h = rw q
+      go false h = absurd (omega arith)
+  shut-still (x ∷ xs) (suc i) h = shut-still xs i h
+
+module _ (s : Code) (room : Places) (st : Stores) where
+  waits-still : {above fs : List Frame} {e o : ℕ} {n : Node} (p : Point) → Waits st above fs e o n → run s room st above fs e p n ≡ still
+  waits-still {above} {fs} {e} {o} p (waits {a = a} h k z q) = rw (h, k) (shut-still st above fs a e (room .frames) o q (st .objects) o z)
+
+  node-still : {above fs : List Frame} {a : Point} {e : ℕ} → StaysAt s st above (running a e fs) here → run s room st above fs e a (s .view a) ≡ still
+  node-still {a = a} (stays-waiting x) = waits-still a x
+
+  value-still : {above fs : List Frame} {v : Value} → StaysAt s st above (returning v fs) here → moveAt s room st above (returning v fs) here ≡ still
+  value-still stays-finished = refl
+
+  no-frame-stays : {above fs : List Frame} {v : Value} → fs ≡ [] → StaysAt s st above (returning v fs) here
+  no-frame-stays h = rw h stays-finished
+
+  -- a join
+  finished-at : (t : Tree) → phase t ≡ finished → FinishedAt t here
+  finished-at (running a e fs) h = absurd (let z : _≡_ {A = ℕ} 0 1 = cc in omega arith)
+  finished-at (returning v []) h = finished-here
+  finished-at (returning v (f ∷ fs)) h = absurd (let z : _≡_ {A = ℕ} 0 1 = cc in omega arith)
+  finished-at failed h = absurd (let z : _≡_ {A = ℕ} 0 1 = cc in omega arith)
+  finished-at (join fs a e l r) h = absurd (let z : _≡_ {A = ℕ} 0 1 = cc in omega arith)
+
+  at-finished : {t : Tree} → FinishedAt t here → phase t ≡ finished
+  at-finished finished-here = refl
+
+  busy-unfinished : {t : Tree} → phase t ≡ busy → FinishedAt t here → ⊥
+  busy-unfinished {t} h f = let k : phase t ≡ finished = at-finished f in let z : _≡_ {A = ℕ} 0 1 = cc in omega arith
+
+  unfailed-finished : {t : Tree} → phase t ≡ finished → t ≡ failed → ⊥
+  unfailed-finished {t} h e = let k : phase t ≡ broken = ap phase e in let z : _≡_ {A = ℕ} 0 1 = cc in omega arith
+
+  unfailed-busy : {t : Tree} → phase t ≡ busy → t ≡ failed → ⊥
+  unfailed-busy {t} h e = let k : phase t ≡ broken = ap phase e in let z : _≡_ {A = ℕ} 0 1 = cc in omega arith
+
+  module _ {above fs : List Frame} {a : Point} {e : ℕ} {l r : Tree} where
+    join-both : StaysAt s st above (join fs a e l r) here → FinishedAt l here → FinishedAt r here → ⊥
+    join-both (stays-join f g h) = f
+
+    join-left : StaysAt s st above (join fs a e l r) here → l ≡ failed → ⊥
+    join-left (stays-join f g h) = g
+
+    join-right : StaysAt s st above (join fs a e l r) here → r ≡ failed → ⊥
+    join-right (stays-join f g h) = h
+
+    fold-told : (p q : Phase) → phase l ≡ p → phase r ≡ q → Told (StaysAt s st above (join fs a e l r) here) (fold st fs a e p q)
+    fold-told finished finished x y = told-moved (λ k. join-both k (finished-at l x) (finished-at r y))
+    fold-told finished broken x y = told-moved (λ k. join-right k (is-broken r y))
+    fold-told finished busy x y = told-still (stays-join (λ f g. busy-unfinished y g) (unfailed-finished x) (unfailed-busy y))
+    fold-told broken q x y = told-moved (λ k. join-left k (is-broken l x))
+    fold-told busy finished x y = told-still (stays-join (λ f g. busy-unfinished x f) (unfailed-busy x) (unfailed-finished y))
+    fold-told busy broken x y = told-moved (λ k. join-right k (is-broken r y))
+    fold-told busy busy x y = told-still (stays-join (λ f g. busy-unfinished x f) (unfailed-busy x) (unfailed-busy y))
+
+    under-left : {p : Path} → StaysAt s st above (join fs a e l r) (left p) → StaysAt s st (fs ++ above) l p
+    under-left (stays-left x) = x
+
+    under-right : {p : Path} → StaysAt s st above (join fs a e l r) (right p) → StaysAt s st [] r p
+    under-right (stays-right x) = x
+
+    left-told : {p : Path} {o : Outcome} → Told (StaysAt s st (fs ++ above) l p) o → Told (StaysAt s st above (join fs a e l r) (left p)) (inLeft fs a e r o)
+    left-told (told-still q) = told-still (stays-left q)
+    left-told (told-full f) = told-full (λ x. f (under-left x))
+    left-told (told-moved f) = told-moved (λ x. f (under-left x))
+
+    right-told : {p : Path} {o : Outcome} → Told (StaysAt s st [] r p) o → Told (StaysAt s st above (join fs a e l r) (right p)) (inRight fs a e l o)
+    right-told (told-still q) = told-still (stays-right q)
+    right-told (told-full f) = told-full (λ x. f (under-right x))
+    right-told (told-moved f) = told-moved (λ x. f (under-right x))
+
+module _ {s : Code} {st : Stores} {start : ℕ} (acc : Accepted s start) (room : Places) (ok : StoresOk s st) where
+  root-told : {w : Want} (above : List Frame) (t : Tree) → TreeOk s st w t → ((o : ℕ) → lockCount o t ≤ shutAt (st .objects) o) → Told (StaysAt s st above t here) (moveAt s room st above t here)
+  root-told above (running a e fs) (running-ok le g r) k =
+      told-judged (run-good ok acc room above fs a _ r e le (s .view a) (g .node) refl (acc .in-order a (g .node)) (rw (acc .built a (g .node)) at (g .gives))) (λ x. stays-waiting (x .1)) (node-still s room st)
+  root-told above (returning v fs) (returning-ok f r) k = told-judged (resume-good ok acc room v fs _ r f k) (no-frame-stays s room st) (value-still s room st)
+  root-told above failed x k = told-still stays-failed
+  root-told above (join fs a e l r) x k = fold-told s room st (phase l) (phase r) refl refl
+
+  told : {w : Want} (above : List Frame) {t : Tree} {p : Path} → PlaceIn t p → TreeOk s st w t → ((o : ℕ) → lockCount o t ≤ shutAt (st .objects) o) → Told (StaysAt s st above t p) (moveAt s room st above t p)
+  told above {t} root-place x k = root-told above t x k
+  told above (left-place {fs = fs} i) (join-ok le g h x y) k = left-told s room st (told (fs ++ above) i x (λ o. omega (arith, k o)))
+  told above (right-place i) (join-ok le g h x y) k = right-told s room st (told [] i y (λ o. omega (arith, k o)))
+
+-- a position's place is in the tree
+module _ (fs : List Frame) (a : Point) (e : ℕ) (l r : Tree) where
+  side-place : (b : Bool) (x y : Option Path) {p : Path} → ((q : Path) → x ≡ some q → PlaceIn l q) → ((q : Path) → y ≡ some q → PlaceIn r q)
+      → cond b (toLeft x) (toRight y) ≡ some p → PlaceIn (join fs a e l r) p
+  side-place true none y f g h = absurd (let z : _≡_ {A = ℕ} 0 1 = cc in omega arith)
+  side-place true (some q) y {p} f g h = let i : p ≡ left q = cc in rw i (left-place (f q refl))
+  side-place false x none f g h = absurd (let z : _≡_ {A = ℕ} 0 1 = cc in omega arith)
+  side-place false x (some q) {p} f g h = let i : p ≡ right q = cc in rw i (right-place (g q refl))
+
+root-only : {t : Tree} {p : Path} → some here ≡ some p → PlaceIn t p
+root-only {t} {p} h = let i : p ≡ here = cc in rw i root-place
+
+place-located : (t : Tree) (n : ℕ) (p : Path) → locate t n ≡ some p → PlaceIn t p
+place-located (running a e fs) zero p h = root-only h
+place-located (running a e fs) (suc n) p h = absurd (let z : _≡_ {A = ℕ} 0 1 = cc in omega arith)
+place-located (returning v fs) zero p h = root-only h
+place-located (returning v fs) (suc n) p h = absurd (let z : _≡_ {A = ℕ} 0 1 = cc in omega arith)
+place-located failed zero p h = root-only h
+place-located failed (suc n) p h = absurd (let z : _≡_ {A = ℕ} 0 1 = cc in omega arith)
+place-located (join fs a e l r) zero p h = root-only h
+place-located (join fs a e l r) (suc n) p h = side-place fs a e l r (ltb n (size l)) (locate l n) (locate r (n - size l)) (place-located l n) (place-located r (n - size l)) h
+
+stays-place : {s : Code} {c : Config} {n : ℕ} {p : Path} → locate (c .tree) n ≡ some p → Stays s c n → StaysAt s (c .stores) [] (c .tree) p
+stays-place h (absent i) = absurd (let z : _≡_ {A = ℕ} 0 1 = cc in omega arith)
+stays-place {p = p} h (cannot-move {p = q} i x) = let k : q ≡ p = cc in rw k at x
+
+-- In a well-formed configuration a choice is passed over exactly if its position is absent, or a thread that waits, is finished or failed, or a join with no failed side and not both finished.
+pub still-exactly : {s : Code} {start : ℕ} (acc : Accepted s start) (lim : Places) {c : Config} → WellFormed s lim start c → (n : ℕ)
+    → (choice s lim c n ≡ still → Stays s c n) × (Stays s c n → choice s lim c n ≡ still)
+unfolding choice move
+still-exactly {s} acc lim {c} h n = go (locate (c .tree) n) refl
+  where
+    go : (o : Option Path) → locate (c .tree) n ≡ o → (chosen s lim c o ≡ still → Stays s c n) × (Stays s c n → chosen s lim c o ≡ still)
+    go none e = (λ x. absent e, λ x. refl)
+    go (some p) e =
+        let w = told acc (spare lim (c .stores) (c .tree)) (h .formed .stores) [] (place-located (c .tree) n p e) (h .formed .tree) (h .formed .distinct) in
+        (λ x. cannot-move e (told-why w x), λ x. told-because w (stays-place e x))
