@@ -2,7 +2,7 @@
 # make demo      the checking program on every sample script, with what each shows
 # make test      the whole test run, which is the gate
 # make install   into PREFIX (default /usr/local): lib/liboolong.a, include/oolong.h, bin/oolong_check
-# make bench     Check's speed beside the second implementation's
+# make bench     the speed of Check and Run beside the second implementation's
 # make clean     removes build/ and target/
 
 PREFIX ?= /usr/local
@@ -33,7 +33,7 @@ build/bin/words: samples/words.c
 	@mkdir -p $(@D)
 	$(CC) $(CFLAGS) -o $@ $<
 
-build/tests/%: tests/c/%.c build/include/oolong.h build/lib/liboolong.a
+build/tests/%: tests/c/%.c tests/c/lent.h build/include/oolong.h build/lib/liboolong.a
 	@mkdir -p $(@D)
 	$(CC) $(CFLAGS) -Ibuild/include -o $@ $< build/lib/liboolong.a -pthread
 

@@ -1,16 +1,30 @@
 /*
  * oolong.h - OOlong scripts in a converter.
  *
- * The engine is a static library, liboolong.a, of proved functions: each call returns, on every input, without checking it first on your side. Nothing here allocates memory,
- * keeps state between calls, reads or writes a file, or calls back. Calls on different buffers may run at the same time in different threads.
+ * The engine is a static library, liboolong.a, of proved functions. There are four calls:
  *
- * Buffers. A buffer is lent as a pointer and a length in bytes. A length of 0 goes with any pointer, NULL too. With a larger length the pointer must point to that many bytes
- * that stay readable, and unwritten by others, until the call returns. No buffer that a call writes may overlap another buffer lent to that call. (oolong_check writes none.)
+ *     oolong_check   is this a script that may run, and what is the type of its result?
+ *     oolong_start   writes the state of a run that has not begun into a block of yours
+ *     oolong_offer   which threads can move next?
+ *     oolong_run     moves threads in the order that you choose
+ *
+ * Every call returns, whatever bytes it is lent: you need not check them first. Nothing here allocates memory, keeps anything between calls, reads or writes a file, or calls back.
+ * A reply depends on nothing but the lent bytes and lengths. Calls on different buffers may run at the same time in different threads.
+ *
+ * Buffers. A buffer is lent as a pointer and a length in bytes, at any address. A length of 0 goes with any pointer, NULL too. With a larger length the pointer must point to that many
+ * bytes that stay readable, and unwritten by others, until the call returns. A buffer that a call writes (the block in oolong_start and oolong_run, the flags in oolong_offer) must be
+ * writable and may not overlap another buffer lent to that call. Parameters that point to const bytes are only read.
  *
  * Numbers. A reply has a number: 0 if the call was not refused, else the number of the first question about your input that gets a no (OOLONG_NO_..). The place goes with it:
- * the byte offset in the script of the lowest record at fault, or 0 where the question is about the script as a whole. A refusal leaves every other number of the reply 0.
+ * the byte offset in the script of the lowest record at fault, or 0 where the question is about the script as a whole or about another buffer. A refusal leaves every other number of
+ * the reply 0, and EVERY LENT BYTE AS IT WAS.
  *
- * Stack. See OOLONG_CHECK_STACK: the call goes as deep as the script's expressions are nested.
+ * The block. A run's whole state is in the 49,152 bytes of the block, which is yours; docs/BLOCK.md says what each byte means. A state has exactly one block: two runs of a script are in the
+ * same state just where memcmp of their blocks is 0. All numbers in it stand low byte first on every machine. Between calls you may keep a block as long as you like, move it, save it to a
+ * file and load it again, copy it to come back to that state later, and run the copies on in different ways. Lend it with the script that it was started with. You may also lend a block
+ * that was changed, damaged or made by hand: if it is no well-formed state of the script the call is refused with OOLONG_NO_BLOCK_FORM, and if it is one, the run goes on from there.
+ *
+ * Stack. See OOLONG_STACK: the calls go as deep as the script's expressions are nested.
  */
 #ifndef OOLONG_H
 #define OOLONG_H
@@ -33,7 +47,18 @@ extern "C" {
 #define OOLONG_NODES_MOST 1024u
 #define OOLONG_CLASS_FIELDS_MOST 8u  /* fields of one class */
 
-/* Why a script is refused: the first question that gets a no. */
+/* The other buffers. */
+#define OOLONG_BLOCK 49152u          /* bytes of a state block, exactly */
+#define OOLONG_FLAGS 63u             /* bytes of the flags, exactly: one for each tree position that there can be */
+#define OOLONG_CHOICES_MOST 4096u    /* bytes of the longest choice list; none is fine */
+
+/* What a block has room for. Objects and bindings are never freed. */
+#define OOLONG_OBJECTS_MOST 256u
+#define OOLONG_BINDINGS_MOST 2048u   /* variables that got a value: one for a let, two for a call */
+#define OOLONG_FRAMES_MOST 2048u     /* unfinished expressions of all threads together */
+#define OOLONG_THREADS_MOST 32u      /* threads at one time; with the joins between them at most 63 tree positions */
+
+/* Why a call is refused: the first question, in this order, that gets a no. oolong_check asks those to 15, oolong_start these and OOLONG_NO_BLOCK_LENGTH, the other two all. */
 enum {
     OOLONG_OK = 0,
     OOLONG_NO_LENGTH = 1,      /* the file is not 24 to 13,592 bytes; place 0 */
@@ -50,12 +75,28 @@ enum {
     OOLONG_NO_NULL = 12,       /* the type of a null is to be inferred */
     OOLONG_NO_MEMBER = 13,     /* the target's type lacks the field or method */
     OOLONG_NO_FIT = 14,        /* an inferred type is not below the wanted one (place: the operand) */
-    OOLONG_NO_SHARING = 15     /* the two asyncs of a fork share a variable (place: the fork) */
+    OOLONG_NO_SHARING = 15,    /* the two asyncs of a fork share a variable (place: the fork) */
+    OOLONG_NO_BLOCK_LENGTH = 20,  /* the block is not 49,152 bytes; place 0 */
+    OOLONG_NO_BUFFER_LENGTH = 22, /* there are more than 4,096 choices (oolong_run), or the flags are not 63 bytes (oolong_offer); place 0. Asked before 21 */
+    OOLONG_NO_BLOCK_FORM = 21     /* the block is no well-formed state of this script; place 0 */
 };
 
-/* Stack that is enough for oolong_check, in bytes. The deepest script, 1,024 casts one in another, was measured to need 689,536 on x86-64; a script of the usual size needs
+/* Why oolong_run came back. */
+enum {
+    OOLONG_SPENT = 0,         /* every choice is read and the run can go on: lend more */
+    OOLONG_FINISHED = 1,      /* the script has ended with a value */
+    OOLONG_FAILED = 2,        /* the script has ended with a failure: a field, a method or a lock of null was asked for */
+    OOLONG_DEADLOCK = 3,      /* no thread can move: each that is left waits for a lock that is never opened */
+    OOLONG_FULL_OBJECTS = 4,  /* the move that was chosen last needs a place that the block no longer has, and was not made. Objects and bindings stay full; */
+    OOLONG_FULL_BINDINGS = 5, /* frames and threads may become free when other threads move. */
+    OOLONG_FULL_FRAMES = 6,
+    OOLONG_FULL_THREADS = 7
+};
+
+/* Stack that is enough for any of the calls, in bytes. The deepest script, 1,024 casts one in another, was measured to need 690,000 on x86-64; a script of the usual size needs
  * about 140,000. */
-#define OOLONG_CHECK_STACK 1048576u
+#define OOLONG_STACK 1048576u
+#define OOLONG_CHECK_STACK OOLONG_STACK /* its name before the other calls were there */
 
 struct oolong_check_reply {
     uint16_t number; /* OOLONG_OK or OOLONG_NO_.. */
@@ -65,9 +106,48 @@ struct oolong_check_reply {
 
 /*
  * Check a script: is it within layout and limits, and does OOlong's type system give it a type? The script is only read. The answer depends on nothing but its bytes.
- * A script that gets OOLONG_OK is accepted; only such a script can be started and run.
+ * A script that gets OOLONG_OK is accepted: only such a script can be started and run. The other calls ask the same questions again, so this call need not come first.
  */
 struct oolong_check_reply oolong_check(const uint8_t *script, size_t script_len);
+
+struct oolong_start_reply {
+    uint16_t number; /* OOLONG_OK or OOLONG_NO_.. */
+    uint16_t place;  /* where the fault is; 0 with OOLONG_OK */
+};
+
+/*
+ * Begin a run: check the script as oolong_check does, then write the state in which nothing has been done over the whole block, whatever stood there: no object, no binding, and one thread
+ * at the script's start, which is tree position 0. The block must be OOLONG_BLOCK bytes.
+ */
+struct oolong_start_reply oolong_start(const uint8_t *script, size_t script_len, uint8_t *block, size_t block_len);
+
+struct oolong_offer_reply {
+    uint16_t number; /* OOLONG_OK or OOLONG_NO_.. */
+    uint16_t place;  /* where the fault is; 0 with OOLONG_OK */
+};
+
+/*
+ * Which tree positions can move in this block? Threads and joins form a tree, whose positions are numbered from the root, 0, on: a join comes before its left side, and its left side before
+ * its right side. Flag number p becomes 1 if position p can move, and 0 if it cannot or is not there. A move that a full store would stop counts as able. The flags are all 0 just where the
+ * run has ended (OOLONG_FINISHED, OOLONG_FAILED or OOLONG_DEADLOCK). They hold for this block: after a move ask again, since positions may then stand for other threads.
+ */
+struct oolong_offer_reply oolong_offer(const uint8_t *script, size_t script_len, const uint8_t *block, size_t block_len, uint8_t *flags, size_t flags_len);
+
+struct oolong_run_reply {
+    uint16_t number; /* OOLONG_OK or OOLONG_NO_.. */
+    uint16_t place;  /* where the fault is; 0 with OOLONG_OK */
+    uint16_t stop;   /* why the call came back: OOLONG_SPENT, OOLONG_FINISHED, .. (0 with a refusal too: look at the number first) */
+    uint16_t read;   /* how many choices were read */
+    uint16_t moves;  /* how many moves were made: at most the choices read */
+};
+
+/*
+ * Move. Each choice is a byte that names a tree position, as the flags of oolong_offer do; the position makes one move, and then the next choice is read. A choice of a position that is not
+ * there or cannot move is passed over: it counts as read, and changes nothing. The call comes back when the choices are spent, when the run has ended (also before the first choice), or when
+ * a store is full for the chosen move; that choice counts as read too. The block is then the state after the last move. Until a store is full, many choices in one call and one choice in
+ * each of many calls lead to the same block. The same script and the same choices always end in the same way.
+ */
+struct oolong_run_reply oolong_run(const uint8_t *script, size_t script_len, uint8_t *block, size_t block_len, const uint8_t *choices, size_t choices_len);
 
 #ifdef __cplusplus
 }

@@ -1,26 +1,16 @@
-/* A converter's use of the engine: check a script before anything is sewn, and say where it is at fault. Then the edges that a converter would rather not meet in the field. */
-#include <stdio.h>
-#include <stdlib.h>
-#include <string.h>
-#include <sys/mman.h>
-#include <unistd.h>
-
+/*
+ * A converter's use of the engine: check a script before anything is sewn, say where it is at fault, and begin a run. Then the edges that a converter would rather not meet in the field.
+ * It prints nothing unless something is wrong. tests/c/player.c plays a script to its end.
+ */
+#include "lent.h"
 #include "oolong.h"
 
 static int failures;
 
-static void expect(const char *what, struct oolong_check_reply got, unsigned number, unsigned place, unsigned type) {
-    if (got.number == number && got.place == place && got.type == type) {
-        printf("ok    %s\n", what);
-        return;
-    }
+static void expect_check(const char *what, struct oolong_check_reply got, unsigned number, unsigned place, unsigned type) {
+    if (got.number == number && got.place == place && got.type == type) return;
     printf("FAIL  %s: got %u at %u, type %u; wanted %u at %u, type %u\n", what, got.number, got.place, got.type, number, place, type);
     failures++;
-}
-
-static void put(uint8_t *bytes, size_t at, unsigned word) {
-    bytes[at] = (uint8_t)(word % 256);
-    bytes[at + 1] = (uint8_t)(word / 256);
 }
 
 /* A script of nodes alone, four words each. */
@@ -34,63 +24,91 @@ static size_t nodes_alone(uint8_t *script, const unsigned (*nodes)[4], unsigned 
     return OOLONG_SCRIPT_LEAST + 8 * (size_t)count;
 }
 
-/* The script in memory that may only be read, ending where a page that may not be touched begins: a write, or a read past the end, would end the program. */
 static struct oolong_check_reply check_guarded(const uint8_t *script, size_t len) {
-    size_t page = (size_t)sysconf(_SC_PAGESIZE);
-    size_t room = (len / page + 1) * page;
-    uint8_t *map = mmap(NULL, room + 2 * page, PROT_NONE, MAP_PRIVATE | MAP_ANONYMOUS, -1, 0);
-    if (map == MAP_FAILED || mprotect(map + page, room, PROT_READ | PROT_WRITE) != 0) {
-        perror("mmap");
-        exit(2);
-    }
-    uint8_t *lent = map + page + room - len;
-    memcpy(lent, script, len);
-    if (mprotect(map + page, room, PROT_READ) != 0) {
-        perror("mprotect");
-        exit(2);
-    }
-    struct oolong_check_reply reply = oolong_check(lent, len);
-    munmap(map, room + 2 * page);
+    struct lent lent = lend_to_read(script, len);
+    struct oolong_check_reply reply = oolong_check(lent.bytes, len);
+    take_back(lent);
     return reply;
 }
 
-int main(void) {
+/* Start in guarded memory: the reply, and whether the block then has one position at a node and is 0 elsewhere, or, after a refusal, every byte that it had. */
+static void expect_start(const char *what, const uint8_t *script, size_t len, size_t block_len, unsigned number, unsigned place) {
+    struct lent lent = lend_to_read(script, len), block = lend(NULL, block_len), wanted = lend(NULL, block_len);
+    if (number == OOLONG_OK) {
+        memset(wanted.bytes, 0, block_len);
+        put(wanted.bytes, 6, 1);     /* one tree position, */
+        put(wanted.bytes, 21512, 1); /* at a node, which is node 0 */
+    }
+    struct oolong_start_reply got = oolong_start(lent.bytes, len, block.bytes, block_len);
+    if (got.number != number || got.place != place) {
+        printf("FAIL  %s: got %u at %u; wanted %u at %u\n", what, got.number, got.place, number, place);
+        failures++;
+    }
+    if (memcmp(block.bytes, wanted.bytes, block_len) != 0) {
+        printf("FAIL  %s: the block is not %s\n", what, number == OOLONG_OK ? "the initial one" : "as it was");
+        failures++;
+    }
+    take_back(lent);
+    take_back(block);
+    take_back(wanted);
+}
+
+static void checks_of_small_scripts(void) {
     static const unsigned unit_null[][4] = {{7, 0, 1, 0}, {0, 0, 0, 0}};
     static const unsigned start_null[][4] = {{0, 0, 0, 0}};
-    static uint8_t script[OOLONG_SCRIPT_MOST + 1];
+    uint8_t script[OOLONG_SCRIPT_LEAST + 16];
     size_t len = nodes_alone(script, unit_null, 2);
 
-    expect("(Unit)null is accepted with type Unit", oolong_check(script, len), OOLONG_OK, 0, 0);
-    expect("the same in guarded memory", check_guarded(script, len), OOLONG_OK, 0, 0);
-    expect("no bytes and no pointer", oolong_check(NULL, 0), OOLONG_NO_LENGTH, 0, 0);
-    expect("no bytes at a pointer", oolong_check(script, 0), OOLONG_NO_LENGTH, 0, 0);
-
+    expect_check("(Unit)null is accepted with type Unit", oolong_check(script, len), OOLONG_OK, 0, 0);
+    expect_check("the same in guarded memory", check_guarded(script, len), OOLONG_OK, 0, 0);
+    expect_check("no bytes and no pointer", oolong_check(NULL, 0), OOLONG_NO_LENGTH, 0, 0);
+    expect_check("no bytes at a pointer", oolong_check(script, 0), OOLONG_NO_LENGTH, 0, 0);
     for (size_t cut = 0; cut < len; cut++) {
-        struct oolong_check_reply reply = check_guarded(script, cut);
-        if (reply.number == OOLONG_OK || reply.type != 0) {
-            printf("FAIL  a script cut to %zu bytes: got %u, type %u\n", cut, reply.number, reply.type);
-            failures++;
-        }
+        unsigned number = cut < OOLONG_SCRIPT_LEAST ? OOLONG_NO_LENGTH : OOLONG_NO_PLACES;
+        expect_check("a script that is cut", check_guarded(script, cut), number, 0, 0);
     }
-    printf("ok    every cut of it is refused\n");
-
     len = nodes_alone(script, start_null, 1);
-    expect("a start that is null", check_guarded(script, len), OOLONG_NO_NULL, 24, 0);
+    expect_check("a start that is null", check_guarded(script, len), OOLONG_NO_NULL, 24, 0);
+}
 
-    /* The longest chain: casts of casts, and a null at the end. */
-    static unsigned deep[OOLONG_NODES_MOST][4];
+static void checks_of_large_scripts(void) {
+    static uint8_t script[OOLONG_SCRIPT_MOST + 1];
+    static unsigned deep[OOLONG_NODES_MOST][4]; /* casts of casts, and a null at the end */
     for (unsigned node = 0; node + 1 < OOLONG_NODES_MOST; node++) {
         deep[node][0] = 7;
         deep[node][2] = node + 1;
     }
-    len = nodes_alone(script, (const unsigned(*)[4])deep, OOLONG_NODES_MOST);
-    expect("1,024 nodes in one chain", check_guarded(script, len), OOLONG_OK, 0, 0);
+    size_t len = nodes_alone(script, (const unsigned(*)[4])deep, OOLONG_NODES_MOST);
+    expect_check("1,024 nodes in one chain", check_guarded(script, len), OOLONG_OK, 0, 0);
+    expect_start("1,024 nodes in one chain", script, len, OOLONG_BLOCK, OOLONG_OK, 0);
     put(script, 22, OOLONG_NODES_MOST + 1);
-    expect("1,025 nodes", check_guarded(script, len), OOLONG_NO_COUNTS, 0, 0);
+    expect_check("1,025 nodes", check_guarded(script, len), OOLONG_NO_COUNTS, 0, 0);
     memset(script, 0xff, sizeof script);
-    expect("13,593 bytes", check_guarded(script, sizeof script), OOLONG_NO_LENGTH, 0, 0);
-    expect("13,592 bytes of 255", check_guarded(script, sizeof script - 1), OOLONG_NO_COUNTS, 0, 0);
+    expect_check("13,593 bytes", check_guarded(script, sizeof script), OOLONG_NO_LENGTH, 0, 0);
+    expect_check("13,592 bytes of 255", check_guarded(script, sizeof script - 1), OOLONG_NO_COUNTS, 0, 0);
+}
 
+static void starts(void) {
+    static const unsigned unit_null[][4] = {{7, 0, 1, 0}, {0, 0, 0, 0}};
+    static const unsigned start_null[][4] = {{0, 0, 0, 0}};
+    uint8_t good[OOLONG_SCRIPT_LEAST + 16], bad[OOLONG_SCRIPT_LEAST + 8];
+    size_t good_len = nodes_alone(good, unit_null, 2), bad_len = nodes_alone(bad, start_null, 1);
+
+    expect_start("a start", good, good_len, OOLONG_BLOCK, OOLONG_OK, 0);
+    expect_start("a start in too small a block", good, good_len, OOLONG_BLOCK - 1, OOLONG_NO_BLOCK_LENGTH, 0);
+    expect_start("a start in too large a block", good, good_len, OOLONG_BLOCK + 1, OOLONG_NO_BLOCK_LENGTH, 0);
+    expect_start("a start in no block", good, good_len, 0, OOLONG_NO_BLOCK_LENGTH, 0);
+    expect_start("a start of a script that is refused", bad, bad_len, OOLONG_BLOCK, OOLONG_NO_NULL, 24);
+    expect_start("the script is asked about before the block", bad, bad_len, 1, OOLONG_NO_NULL, 24);
+    expect_start("a start of no script", good, 0, OOLONG_BLOCK, OOLONG_NO_LENGTH, 0);
+    struct oolong_start_reply none = oolong_start(good, good_len, NULL, 0);
+    if (none.number != OOLONG_NO_BLOCK_LENGTH) printf("FAIL  no block and no pointer: got %u\n", none.number), failures++;
+}
+
+int main(void) {
+    checks_of_small_scripts();
+    checks_of_large_scripts();
+    starts();
     if (failures > 0) printf("%d failed\n", failures);
     return failures == 0 ? EXIT_SUCCESS : EXIT_FAILURE;
 }

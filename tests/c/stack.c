@@ -1,44 +1,65 @@
-/* How much stack Check uses: it runs on a stack of our own that is painted first, on the scripts that go deepest, and none may use more than the header says. */
+/* How much stack the calls use: each runs on a stack of our own that is painted first, on the scripts that go deepest, and none may use more than the header says. */
 #include <pthread.h>
-#include <stdio.h>
-#include <stdlib.h>
-#include <string.h>
-#include <sys/mman.h>
 
+#include "lent.h"
 #include "oolong.h"
 
 enum { STACK = 4 * 1024 * 1024, PAINT = 0xa5 };
 
-struct job {
-    const uint8_t *script;
-    size_t len;
-    struct oolong_check_reply reply;
+static uint8_t block[OOLONG_BLOCK];
+
+static unsigned check(const uint8_t *script, size_t len) {
+    return oolong_check(script, len).number;
+}
+
+static unsigned start(const uint8_t *script, size_t len) {
+    return oolong_start(script, len, block, sizeof block).number;
+}
+
+static unsigned offer(const uint8_t *script, size_t len) {
+    uint8_t flags[OOLONG_FLAGS];
+    return oolong_offer(script, len, block, sizeof block, flags, sizeof flags).number;
+}
+
+static unsigned run(const uint8_t *script, size_t len) {
+    static const uint8_t choices[OOLONG_CHOICES_MOST];
+    return oolong_run(script, len, block, sizeof block, choices, sizeof choices).number;
+}
+
+/* In this order, so that the block is one of the script's. */
+static unsigned (*const calls[])(const uint8_t *, size_t) = {
+    check,
+    start,
+    offer,
+    run,
 };
 
-static void *run(void *given) {
+struct job {
+    unsigned (*call)(const uint8_t *, size_t);
+    const uint8_t *script;
+    size_t len;
+    unsigned number;
+};
+
+static void *work(void *given) {
     struct job *job = given;
-    if (job->script != NULL) job->reply = oolong_check(job->script, job->len);
+    if (job->call != NULL) job->number = job->call(job->script, job->len);
     return NULL;
 }
 
-/* The bytes of stack that a thread used for one call, or for none where no script is given; the thread's own included. */
+/* The bytes of stack that a thread used for a job, or for none where there is no call; the thread's own included. */
 static size_t used(struct job *job) {
     uint8_t *stack = mmap(NULL, STACK, PROT_READ | PROT_WRITE, MAP_PRIVATE | MAP_ANONYMOUS, -1, 0);
     pthread_attr_t attributes;
     pthread_t thread;
-    if (stack == MAP_FAILED) exit(2);
+    sure(stack != MAP_FAILED, "mmap");
     memset(stack, PAINT, STACK);
     if (pthread_attr_init(&attributes) != 0 || pthread_attr_setstack(&attributes, stack, STACK) != 0) exit(2);
-    if (pthread_create(&thread, &attributes, run, job) != 0 || pthread_join(thread, NULL) != 0) exit(2);
+    if (pthread_create(&thread, &attributes, work, job) != 0 || pthread_join(thread, NULL) != 0) exit(2);
     size_t clean = 0;
     while (clean < STACK && stack[clean] == PAINT) clean++;
     munmap(stack, STACK);
     return STACK - clean;
-}
-
-static void put(uint8_t *bytes, size_t at, unsigned word) {
-    bytes[at] = (uint8_t)(word % 256);
-    bytes[at + 1] = (uint8_t)(word / 256);
 }
 
 /* One empty interface and one class of it, and the largest number of nodes, each of this kind with the next as a part; at the end a new. */
@@ -66,24 +87,34 @@ static size_t chain(uint8_t *script, unsigned kind, unsigned name) {
     return 36 + 8 * (node + 1);
 }
 
+/* The most that a call uses on this script. */
+static size_t most_used(const uint8_t *script, size_t len) {
+    struct job idle = {NULL, NULL, 0, 0};
+    size_t most = 0, base = used(&idle);
+    for (size_t i = 0; i < sizeof calls / sizeof *calls; i++) {
+        struct job job = {calls[i], script, len, 1};
+        size_t bytes = used(&job) - base;
+        if (job.number != OOLONG_OK) {
+            printf("FAIL  call %zu is refused with %u\n", i, job.number);
+            exit(EXIT_FAILURE);
+        }
+        if (bytes > most) most = bytes;
+    }
+    return most;
+}
+
 int main(void) {
     static uint8_t script[OOLONG_SCRIPT_MOST];
     static const struct {
         const char *what;
         unsigned kind, name;
     } cases[] = {{"casts in casts", 7, 0}, {"lets in lets", 5, 2}, {"lets of a large variable number", 5, 65535}, {"forks in left asyncs", 8, 0}};
-    struct job idle = {NULL, 0, {0, 0, 0}};
-    size_t most = 0, base = used(&idle);
+    size_t most = 0;
     for (size_t i = 0; i < sizeof cases / sizeof *cases; i++) {
-        struct job job = {script, chain(script, cases[i].kind, cases[i].name), {1, 1, 1}};
-        size_t bytes = used(&job) - base;
+        size_t bytes = most_used(script, chain(script, cases[i].kind, cases[i].name));
         printf("%-34s %zu bytes of stack\n", cases[i].what, bytes);
-        if (job.reply.number != OOLONG_OK) {
-            printf("FAIL  refused with %u at %u\n", job.reply.number, job.reply.place);
-            return EXIT_FAILURE;
-        }
         if (bytes > most) most = bytes;
     }
-    printf("%s: at most %zu bytes, and the header says %u\n", most <= OOLONG_CHECK_STACK ? "ok" : "FAIL", most, OOLONG_CHECK_STACK);
-    return most <= OOLONG_CHECK_STACK ? EXIT_SUCCESS : EXIT_FAILURE;
+    printf("%s: at most %zu bytes, and the header says %u\n", most <= OOLONG_STACK ? "ok" : "FAIL", most, OOLONG_STACK);
+    return most <= OOLONG_STACK ? EXIT_SUCCESS : EXIT_FAILURE;
 }

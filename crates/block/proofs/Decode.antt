@@ -3,24 +3,26 @@ use mathlib.Core.Path.{_≡_, refl, sym, _∙_}
 use mathlib.Core.Bool.{Bool, true, false, cond, _&&_}
 use mathlib.Core.List.{List, [], _∷_, map, reverse, reverse-reverse, List·Memᴰ·head, List·Memᴰ·tail}
 use mathlib.Core.Option.{none, some}
-use Prim.Native.Nat.{ℕ, _+_, _*_, _<_, _≤_}
+use Prim.Native.Nat.{ℕ, _≤_}
 use native.Mathlib.Omega.{arith}
 use lib.Dec.{eqb}
 use lib.ListN.{length, getD, take, length-map}
 use borrow.Author.Tests.{eqb-true, eq-eqb}
-use Rattle.words.specs.Word.{wordAt}
 use Rattle.limits.specs.Limits.{CLASS-FIELDS}
 use Rattle.script.specs.Lists.{_∈_}
 use Rattle.script.proofs.Tests.{true-false, says-yes, yes-said}
-use Rattle.machine.specs.Config.{Value, Object, Binding, Frame, awaits, casts, locks, failed, Config}
-use Rattle.block.specs.Area.{filled, records}
-use Rattle.block.specs.Layout.{OBJECT-COUNT, BINDING-COUNT, FRAME-COUNT, POSITION-COUNT, OBJECT, BINDING, POSITION, FRAME, OBJECTS-AT, BINDINGS-AT, POSITIONS-AT, FRAMES-AT}
-use Rattle.block.specs.Block.{valueWord, shutWord, objectWords, bindingWords, positionWords, framesOf, frameWords, partsOf, encode}
-use Rattle.block.specs.Fits.{Fits, fits}
+use Rattle.machine.specs.declared.Value.{Value}
+use Rattle.machine.specs.declared.Frame.{Frame}
+use Rattle.machine.specs.declared.Frame.the-variants.{Awaits as awaits, Casts as casts, Locks as locks}
+use Rattle.machine.specs.Config.{Object, Binding, failed, Config}
+use Rattle.block.specs.Rows.{filled}
+use Rattle.block.specs.Layout.{Area, Objects, Bindings, Positions, Frames, rowsIn}
+use Rattle.block.specs.Block.{valueWord, shutWord, objectWords, bindingWords, framesOf, frameWords, partsOf, rows, encode}
+use Rattle.block.specs.Fits.{Fits, fitsTest}
 use Rattle.block.specs.Decode.{valueOf, objectOf, bindingOf, frameOf, grove, configIn, same, decode}
-use Rattle.block.proofs.Area.{take-filled, row-width, records-are}
+use Rattle.block.proofs.Rows.{take-filled}
 use Rattle.block.proofs.Trees.{value-back, tree-back}
-use Rattle.block.proofs.Words.{object-width, binding-width, position-width, frame-width, object-count, binding-count, frame-count, position-count, object-row, binding-row, position-row, frame-row}
+use Rattle.block.proofs.Words.{rows-read}
 use Rattle.block.proofs.Fits.{decides-fits}
 
 -- records that are each got back from their words
@@ -45,47 +47,27 @@ object-back fieldCount o e h =
 binding-back : (b : Binding) → bindingOf (bindingWords b) ≡ b
 binding-back b = λ t. record { name = b .name; type = b .type; value = value-back (b .value) t; link = b .link }
 
-frame-back : (f : Frame) → frameOf (frameWords f) ≡ f
+pub frame-back : (f : Frame) → frameOf (frameWords f) ≡ f
 frame-back (awaits p e) = refl
 frame-back (casts p) = refl
 frame-back (locks o) = refl
 
--- records read back as their words
-rows-back :
-    {A : Type 0} (f : A → List ℕ) (k : ℕ) (fixed : (a : A) → length (f a) ≡ k) (word : ℕ → ℕ) (at : ℕ) (xs : List A)
-    → ((i j : ℕ) → i < length xs → j < k → word (at + k * i + j) ≡ getD (getD (map f xs) i []) j 0)
-    → records word at k (length xs) ≡ map f xs
-rows-back f k fixed word at xs e = rw (← length-map xs f) (records-are word at k (map f xs) (row-width f k fixed xs) (λ i j h hj. e i j (rw (length-map xs f) at h) hj))
-
 module _ (fieldCount : ℕ → ℕ) (c : Config) (fit : Fits fieldCount c) where
-  abbrev word : ℕ → ℕ
-  word i = wordAt (encode c) (2 * i)
-
-  -- each area read from the block
-  objects-read : records word OBJECTS-AT OBJECT (word OBJECT-COUNT) ≡ map objectWords (partsOf c .objects)
-  objects-read = rw (object-count (partsOf c)) (rows-back objectWords OBJECT object-width word OBJECTS-AT (partsOf c .objects) (λ i j h hj. object-row (partsOf c) i j (omega (arith, fit .few .objects)) hj))
-
-  bindings-read : records word BINDINGS-AT BINDING (word BINDING-COUNT) ≡ map bindingWords (partsOf c .bindings)
-  bindings-read = rw (binding-count (partsOf c)) (rows-back bindingWords BINDING binding-width word BINDINGS-AT (partsOf c .bindings) (λ i j h hj. binding-row (partsOf c) i j (omega (arith, fit .few .bindings)) hj))
-
-  pub positions-read : records word POSITIONS-AT POSITION (word POSITION-COUNT) ≡ map positionWords (partsOf c .positions)
-  positions-read = rw (position-count (partsOf c)) (rows-back positionWords POSITION position-width word POSITIONS-AT (partsOf c .positions) (λ i j h hj. position-row (partsOf c) i j (omega (arith, fit .few .positions)) hj))
-
-  frames-read : records word FRAMES-AT FRAME (word FRAME-COUNT) ≡ map frameWords (partsOf c .frames)
-  frames-read = rw (frame-count (partsOf c)) (rows-back frameWords FRAME frame-width word FRAMES-AT (partsOf c .frames) (λ i j h hj. frame-row (partsOf c) i j (omega (arith, fit .few .frames)) hj))
-
   config-back : configIn fieldCount (encode c) ≡ c
   unfolding configIn
   config-back = λ t. record { stores = record { objects = os t; bindings = bs t }; tree = tr t }
     where
-      os : map (objectOf fieldCount) (records word OBJECTS-AT OBJECT (word OBJECT-COUNT)) ≡ c .stores .objects
-      os = rw objects-read (map-back objectWords (objectOf fieldCount) (c .stores .objects) (λ o m. object-back fieldCount o (fit .own-fields o m) (fit .few-fields o m)))
+      read : (a : Area) → rowsIn (encode c) a ≡ rows (partsOf c) a
+      read = rows-read (partsOf c) (fit .few)
 
-      bs : reverse (map bindingOf (records word BINDINGS-AT BINDING (word BINDING-COUNT))) ≡ c .stores .bindings
-      bs = rw (bindings-read, map-back bindingWords bindingOf (reverse (c .stores .bindings)) (λ b m. binding-back b)) (reverse-reverse (c .stores .bindings))
+      os : map (objectOf fieldCount) (rowsIn (encode c) Objects) ≡ c .stores .objects
+      os = rw (read Objects) (map-back objectWords (objectOf fieldCount) (c .stores .objects) (λ o m. object-back fieldCount o (fit .own-fields o m) (fit .few-fields o m)))
 
-      tr : getD (grove (records word POSITIONS-AT POSITION (word POSITION-COUNT)) (reverse (map frameOf (records word FRAMES-AT FRAME (word FRAME-COUNT)))) .trees) 0 failed ≡ c .tree
-      tr = rw (positions-read, frames-read, map-back frameWords frameOf (framesOf (c .tree)) (λ f m. frame-back f)) (tree-back (c .tree))
+      bs : reverse (map bindingOf (rowsIn (encode c) Bindings)) ≡ c .stores .bindings
+      bs = rw (read Bindings, map-back bindingWords bindingOf (reverse (c .stores .bindings)) (λ b m. binding-back b)) (reverse-reverse (c .stores .bindings))
+
+      tr : getD (grove (rowsIn (encode c) Positions) (reverse (map frameOf (rowsIn (encode c) Frames))) .trees) 0 failed ≡ c .tree
+      tr = rw (read Positions, read Frames, map-back frameWords frameOf (framesOf (c .tree)) (λ f m. frame-back f)) (tree-back (c .tree))
 
 both-true : (a b : Bool) → a && b ≡ true → (a ≡ true) × (b ≡ true)
 both-true true b e = (refl, e)
@@ -118,8 +100,8 @@ pub encode-decode : (fieldCount : ℕ → ℕ) (b : List ℕ) (c : Config) → d
 unfolding decode
 encode-decode fieldCount b c e =
     let x = configIn fieldCount b in
-    let p = passed (fits fieldCount x && same (encode x) b) x c e in
-    let h = both-true (fits fieldCount x) (same (encode x) b) (p .0) in
+    let p = passed (fitsTest fieldCount x && same (encode x) b) x c e in
+    let h = both-true (fitsTest fieldCount x) (same (encode x) b) (p .0) in
     rw (← p .1) (same-is (encode x) b (h .1), says-yes (decides-fits fieldCount x) (h .0))
 
 -- so two configurations that fit have the same block only if they are the same

@@ -8,12 +8,14 @@ use lib.ListN.{length, getD, take, drop, take-append-drop, length-drop}
 use lib.Seq.{length-take-le, ext-getD}
 use Rattle.script.specs.Lists.{run, sumBelow}
 use Rattle.script.proofs.Lists.{length-run, getD-run}
-use Rattle.machine.specs.Config.{Frame, Tree, running, returning, failed, join}
-use Rattle.block.specs.Layout.{POSITION, JOIN}
+use Rattle.machine.specs.declared.Frame.{Frame}
+use Rattle.machine.specs.Config.{Tree, running, returning, failed, join}
+use Rattle.block.specs.Rows.{cell}
+use Rattle.block.specs.Layout.{Positions, width, JOIN}
 use Rattle.block.specs.Block.{valueWord, preorder, positionWords, framesOf}
 use Rattle.block.specs.Decode.{valueOf, planted, grove}
-use Rattle.block.specs.Shows.{cell}
 use Rattle.block.specs.InOrder.{PositionOk, is-running, is-returning, is-failed, is-join, Trees, no-tree, one-thread, one-join}
+use Rattle.block.proofs.Rows.{Wide}
 use Rattle.block.proofs.Trees.{frames-join}
 
 -- a list by its elements
@@ -33,7 +35,7 @@ pub word-back : (w : ℕ) → valueWord (valueOf w) ≡ w
 word-back zero = refl
 word-back (suc o) = refl
 
-module _ (r : List ℕ) (wide : length r ≡ POSITION) (hs : List Frame) (enough : getD r 4 0 ≤ length hs) where
+module _ (r : List ℕ) (wide : length r ≡ width Positions) (hs : List Frame) (enough : getD r 4 0 ≤ length hs) where
   abbrev own : List Frame
   own = take (getD r 4 0) hs
 
@@ -42,7 +44,7 @@ module _ (r : List ℕ) (wide : length r ≡ POSITION) (hs : List Frame) (enough
 
   five : r ≡ getD r 0 0 ∷ getD r 1 0 ∷ getD r 2 0 ∷ getD r 3 0 ∷ getD r 4 0 ∷ []
   unfolding run
-  five = sym (listed POSITION r wide)
+  five = sym (listed (width Positions) r wide)
 
   -- the thread that a position says
   record Thread : Type 0 where
@@ -100,7 +102,7 @@ pub record Grown (rows : List (List ℕ)) (fs : List Frame) (n : ℕ) : Type 0 w
   pub frames-are : reverse (flatMap framesOf (grove rows fs .trees)) ++ grove rows fs .frames ≡ fs
   pub frames-left : length (grove rows fs .frames) + sumBelow (λ i. cell rows i 4) (length rows) ≡ length fs
 
-module _ (r : List ℕ) (rs : List (List ℕ)) (fs : List Frame) (wide : length r ≡ POSITION) (ok : PositionOk (λ j. getD r j 0)) (enough : getD r 4 0 ≤ length (grove rs fs .frames)) where
+module _ (r : List ℕ) (rs : List (List ℕ)) (fs : List Frame) (wide : length r ≡ width Positions) (ok : PositionOk (λ j. getD r j 0)) (enough : getD r 4 0 ≤ length (grove rs fs .frames)) where
   abbrev hs : List Frame
   hs = grove rs fs .frames
 
@@ -148,7 +150,7 @@ module _ (r : List ℕ) (rs : List (List ℕ)) (fs : List Frame) (wide : length 
 pub grown :
     (rows : List (List ℕ)) (fs : List Frame) (n : ℕ)
     → Trees (map (λ (r : List ℕ). getD r 0 0) rows) n
-    → ((i : ℕ) → i < length rows → length (getD rows i []) ≡ POSITION)
+    → Wide (width Positions) rows
     → ((i : ℕ) → i < length rows → PositionOk (cell rows i))
     → sumBelow (λ i. cell rows i 4) (length rows) ≤ length fs
     → Grown rows fs n

@@ -3,26 +3,27 @@ use mathlib.Core.Path.{_≡_, refl, sym, ap, _∙_}
 use mathlib.Core.List.{List, [], _∷_, append-nil, map, flatMap, reverse, reverse-reverse, List·Memᴰ·cases-cons, List·Memᴰ·not-nil, Memᴰ·of-map}
 use mathlib.Core.Logic.{⊎-elim}
 use mathlib.Core.Option.{some}
-use Prim.Native.Nat.{ℕ, zero, suc, _+_, _*_, _<_, _≤_}
+use Prim.Native.Nat.{ℕ, zero, suc, _+_, _<_, _≤_}
 use native.Mathlib.Omega.{arith}
 use native.Mathlib.Decide.{decLt}
 use lib.Dec.{eqb}
 use lib.ListN.{length, getD, take, drop, length-map, length-take, length-drop, length-reverse, List·getD-eq-default, List·getD-map}
 use lib.Seq.{ext-getD, getD-take, getD-drop}
-use Rattle.words.specs.Word.{wordAt, bytes}
+use Rattle.words.specs.Word.{bytes}
 use Rattle.limits.specs.Limits.{CLASS-FIELDS}
 use Rattle.script.specs.Lists.{_∈_, run, sumBelow}
 use Rattle.script.proofs.Lists.{length-run, getD-run}
-use Rattle.machine.specs.Config.{Object, Frame, Tree, failed, Config}
-use Rattle.block.specs.Area.{records}
-use Rattle.block.specs.Layout.{OBJECT-COUNT, BINDING-COUNT, FRAME-COUNT, POSITION-COUNT, OBJECT, BINDING, POSITION, FRAME, OBJECTS-AT, BINDINGS-AT, POSITIONS-AT, FRAMES-AT, objectByte, positionByte, frameByte}
-use Rattle.block.specs.Block.{valueWord, shutWord, objectWords, bindingWords, frameWords, positionWords, preorder, framesOf, partsOf, blockWords, encode}
+use Rattle.machine.specs.declared.Frame.{Frame}
+use Rattle.machine.specs.Config.{Object, Tree, failed, Config}
+use Rattle.block.specs.Rows.{cell}
+use Rattle.block.specs.Layout.{Area, Objects, Bindings, Positions, Frames, width, counted, wordIn, rowsIn}
+use Rattle.block.specs.Block.{valueWord, shutWord, objectWords, bindingWords, frameWords, preorder, framesOf, partsOf, rows, blockWords, encode}
 use Rattle.block.specs.Fits.{AllWords, Fits}
 use Rattle.block.specs.Decode.{valueOf, objectOf, bindingOf, frameOf, grove, configIn, decode}
-use Rattle.block.specs.Shows.{cell, Shows}
+use Rattle.block.specs.Shows.{Shows}
 use Rattle.block.specs.InOrder.{ObjectOk, PositionOk, is-running, is-returning, is-failed, is-join, FrameOk, is-awaits, is-casts, is-locks, InOrder}
-use Rattle.block.proofs.Area.{getD-filled, records-length, records-cell, records-width}
-use Rattle.block.proofs.Words.{object-width}
+use Rattle.block.proofs.Rows.{getD-filled}
+use Rattle.block.proofs.Words.{object-width, rowsIn-length, rowsIn-wide, rowsIn-cell}
 use Rattle.block.proofs.Shows.{shows-laid}
 use Rattle.block.proofs.Decode.{decode-encode}
 use Rattle.block.proofs.Growing.{listed, word-back, Grown, grown}
@@ -37,7 +38,7 @@ values-words : (ws : List ℕ) → map valueWord (map valueOf ws) ≡ ws
 values-words [] = refl
 values-words (w ∷ ws) = let e = word-back w in let r = values-words ws in cc
 
-module _ (fieldCount : ℕ → ℕ) (r : List ℕ) (wide : length r ≡ OBJECT) (ok : ObjectOk fieldCount (λ j. getD r j 0)) where
+module _ (fieldCount : ℕ → ℕ) (r : List ℕ) (wide : length r ≡ width Objects) (ok : ObjectOk fieldCount (λ j. getD r j 0)) where
   own : ℕ
   own = fieldCount (getD r 0 0)
 
@@ -52,7 +53,7 @@ module _ (fieldCount : ℕ → ℕ) (r : List ℕ) (wide : length r ≡ OBJECT) 
   unfolding values own
   values-many = length-map values valueOf ∙ values-length
 
-  object-words-at : (j : ℕ) → j < OBJECT → getD (objectWords (objectOf fieldCount r)) j 0 ≡ getD r j 0
+  object-words-at : (j : ℕ) → j < width Objects → getD (objectWords (objectOf fieldCount r)) j 0 ≡ getD r j 0
   unfolding values own
   object-words-at zero h = refl
   object-words-at (suc zero) h = shut-word (getD r 1 0) (ok .shut)
@@ -70,18 +71,22 @@ module _ (fieldCount : ℕ → ℕ) (r : List ℕ) (wide : length r ≡ OBJECT) 
       ext-getD 0 (objectWords (objectOf fieldCount r)) r (object-width (objectOf fieldCount r) ∙ sym wide)
       (λ j h. object-words-at j (omega (arith, object-width (objectOf fieldCount r))))
 
-binding-words : (r : List ℕ) → length r ≡ BINDING → bindingWords (bindingOf r) ≡ r
+binding-words : (r : List ℕ) → length r ≡ width Bindings → bindingWords (bindingOf r) ≡ r
 unfolding run
-binding-words r wide = let e = listed BINDING r wide in let v = word-back (getD r 2 0) in cc
+binding-words r wide = let e = listed (width Bindings) r wide in let v = word-back (getD r 2 0) in cc
 
-frame-words : (r : List ℕ) → length r ≡ FRAME → FrameOk (λ j. getD r j 0) → frameWords (frameOf r) ≡ r
+three-words : (r : List ℕ) → length r ≡ width Frames → getD r 0 0 ∷ getD r 1 0 ∷ getD r 2 0 ∷ [] ≡ r
 unfolding run
-frame-words r wide (is-awaits k) = rw k (let e = listed FRAME r wide in cc)
-frame-words r wide (is-casts k a) = rw k (let e = listed FRAME r wide in cc)
-frame-words r wide (is-locks k a) = rw k (let e = listed FRAME r wide in cc)
+three-words r wide = listed (width Frames) r wide
+
+frame-words : (r : List ℕ) → length r ≡ width Frames → FrameOk (λ j. getD r j 0) → frameWords (frameOf r) ≡ r
+unfolding run
+frame-words r wide (is-awaits k) = rw k (let e = three-words r wide in rw k at e)
+frame-words r wide (is-casts k a) = rw k (let e = three-words r wide in rw (k, a) at e)
+frame-words r wide (is-locks k a) = rw k (let e = three-words r wide in rw (k, a) at e)
 
 -- what is asked of a record's words, asked of words that are the same
-pub object-same : (fieldCount w v : ℕ → ℕ) → ((j : ℕ) → j < OBJECT → v j ≡ w j) → ObjectOk fieldCount w → ObjectOk fieldCount v
+pub object-same : (fieldCount w v : ℕ → ℕ) → ((j : ℕ) → j < width Objects → v j ≡ w j) → ObjectOk fieldCount w → ObjectOk fieldCount v
 object-same fieldCount w v e ok =
     let class = e 0 (omega arith) in
     record {
@@ -90,14 +95,14 @@ object-same fieldCount w v e ok =
       unused = λ k h l. e (2 + k) (omega arith) ∙ ok .unused k (rw class at h) l;
     }
 
-pub position-same : (w v : ℕ → ℕ) → ((j : ℕ) → j < POSITION → v j ≡ w j) → PositionOk w → PositionOk v
+pub position-same : (w v : ℕ → ℕ) → ((j : ℕ) → j < width Positions → v j ≡ w j) → PositionOk w → PositionOk v
 position-same w v e (is-running k a) = is-running (e 0 (omega arith) ∙ k) (e 3 (omega arith) ∙ a)
 position-same w v e (is-returning k a b) = is-returning (e 0 (omega arith) ∙ k) (e 1 (omega arith) ∙ a) (e 2 (omega arith) ∙ b)
 position-same w v e (is-failed k a b c d) =
     is-failed (e 0 (omega arith) ∙ k) (e 1 (omega arith) ∙ a) (e 2 (omega arith) ∙ b) (e 3 (omega arith) ∙ c) (e 4 (omega arith) ∙ d)
 position-same w v e (is-join k a) = is-join (e 0 (omega arith) ∙ k) (e 3 (omega arith) ∙ a)
 
-pub frame-same : (w v : ℕ → ℕ) → ((j : ℕ) → j < FRAME → v j ≡ w j) → FrameOk w → FrameOk v
+pub frame-same : (w v : ℕ → ℕ) → ((j : ℕ) → j < width Frames → v j ≡ w j) → FrameOk w → FrameOk v
 frame-same w v e (is-awaits k) = is-awaits (e 0 (omega arith) ∙ k)
 frame-same w v e (is-casts k a) = is-casts (e 0 (omega arith) ∙ k) (e 2 (omega arith) ∙ a)
 frame-same w v e (is-locks k a) = is-locks (e 0 (omega arith) ∙ k) (e 2 (omega arith) ∙ a)
@@ -112,22 +117,20 @@ unfolding sumBelow
 sum-same f g zero e = refl
 sum-same f g (suc n) e = let h = e n (omega arith) in let t = sum-same f g n (λ i l. e i (omega arith)) in cc
 
-pub firsts : (word : ℕ → ℕ) (at k n : ℕ) → 0 < k → map (λ (r : List ℕ). getD r 0 0) (records word at k n) ≡ run (λ i. word (at + k * i + 0)) 0 n
-firsts word at k n h =
-    ext-getD 0 (map first rows) (run heads 0 n) (length-map rows first ∙ records-length word at k n ∙ sym (length-run heads 0 n))
+-- the first words of the counted records
+pub firsts : (b : List ℕ) (a : Area) → 0 < width a → map (λ (r : List ℕ). getD r 0 0) (rowsIn b a) ≡ run (λ i. wordIn b a i 0) 0 (counted b a)
+firsts b a h =
+    ext-getD 0 (map first (rowsIn b a)) (run heads 0 (counted b a)) (length-map (rowsIn b a) first ∙ rowsIn-length b a ∙ sym (length-run heads 0 (counted b a)))
     (λ i g.
-    let l : i < n = omega (arith, length-map rows first, records-length word at k n) in
+    let l : i < counted b a = omega (arith, length-map (rowsIn b a) first, rowsIn-length b a) in
     let z : 0 + i ≡ i = omega arith in
-    List·getD-map first rows i [] ∙ records-cell word at k n i 0 l h ∙ sym (getD-run heads 0 n i 0 l ∙ rw z refl))
+    List·getD-map first (rowsIn b a) i [] ∙ rowsIn-cell b a i 0 l h ∙ sym (getD-run heads 0 (counted b a) i 0 l ∙ rw z refl))
   where
     first : List ℕ → ℕ
     first r = getD r 0 0
 
-    rows : List (List ℕ)
-    rows = records word at k n
-
     heads : ℕ → ℕ
-    heads i = word (at + k * i + 0)
+    heads i = wordIn b a i 0
 
 one-of : (ts : List Tree) → length ts ≡ 1 → ts ≡ getD ts 0 failed ∷ []
 one-of [] e = absurd (omega arith)
@@ -137,14 +140,6 @@ one-of (t ∷ s ∷ ts) e = absurd (omega arith)
 none-left : (fs : List Frame) → length fs ≡ 0 → fs ≡ []
 none-left [] e = refl
 none-left (f ∷ fs) e = absurd (omega arith)
-
--- an area seen: its records, and zeros after them
-seen : (word : ℕ → ℕ) (at k n i j : ℕ) → j < k → (n ≤ i → word (at + k * i + j) ≡ 0) → word (at + k * i + j) ≡ cell (records word at k n) i j
-seen word at k n i j h blank =
-    elim (decLt i n) [
-      | yes l ↦ sym (records-cell word at k n i j l h)
-      | no l ↦ blank (omega arith) ∙ rw (List·getD-eq-default (records word at k n) [] {n = i} (omega (arith, records-length word at k n)))
-    ]
 
 -- words whose bytes are bytes
 words-small : (ws : List ℕ) → ((i : ℕ) → getD (bytes ws) i 0 < 256) → AllWords ws
@@ -160,108 +155,84 @@ each-row P (x ∷ rows) h r m =
     ⊎-elim (λ (e : r ≡ x). rw e (h 0 (omega arith))) (λ (k : r ∈ rows). each-row P rows (λ i l. h (suc i) (omega arith)) r k) (List·Memᴰ·cases-cons m)
 
 module _ (fieldCount : ℕ → ℕ) (b : List ℕ) (o : InOrder fieldCount b) where
-  abbrev word : ℕ → ℕ
-  word i = wordAt b (2 * i)
-
-  abbrev orows : List (List ℕ)
-  orows = records word OBJECTS-AT OBJECT (word OBJECT-COUNT)
-
-  abbrev brows : List (List ℕ)
-  brows = records word BINDINGS-AT BINDING (word BINDING-COUNT)
-
-  abbrev prows : List (List ℕ)
-  prows = records word POSITIONS-AT POSITION (word POSITION-COUNT)
-
-  abbrev frows : List (List ℕ)
-  frows = records word FRAMES-AT FRAME (word FRAME-COUNT)
-
   abbrev c : Config
   c = configIn fieldCount b
 
-  object-ok : (i : ℕ) → i < length orows → (length (getD orows i []) ≡ OBJECT) × ObjectOk fieldCount (cell orows i)
+  -- a number of a record is one of a counted record
+  number : (a : Area) (i : ℕ) → i < length (rowsIn b a) → i < counted b a
+  number a i h = omega (arith, rowsIn-length b a)
+
+  object-ok : (i : ℕ) → i < length (rowsIn b Objects) → (length (getD (rowsIn b Objects) i []) ≡ width Objects) × ObjectOk fieldCount (cell (rowsIn b Objects) i)
   object-ok i h =
-      let n = word OBJECT-COUNT in
-      let l : i < n = omega (arith, records-length word OBJECTS-AT OBJECT n) in (
-        records-width word OBJECTS-AT OBJECT n i l,
-        object-same fieldCount (λ j. wordAt b (objectByte i j)) (cell orows i) (λ j hj. records-cell word OBJECTS-AT OBJECT n i j l hj) (o .objects i l),
-      )
+      let l = number Objects i h in
+      (rowsIn-wide b Objects i h, object-same fieldCount (wordIn b Objects i) (cell (rowsIn b Objects) i) (λ j hj. rowsIn-cell b Objects i j l hj) (o .objects i l))
 
-  objects-are : map objectWords (map (objectOf fieldCount) orows) ≡ orows
-  objects-are = rows-same objectWords (objectOf fieldCount) orows (λ i h. let k = object-ok i h in object-words fieldCount (getD orows i []) (k .0) (k .1))
+  objects-are : map objectWords (map (objectOf fieldCount) (rowsIn b Objects)) ≡ rowsIn b Objects
+  objects-are =
+      rows-same objectWords (objectOf fieldCount) (rowsIn b Objects) (λ i h. let k = object-ok i h in object-words fieldCount (getD (rowsIn b Objects) i []) (k .0) (k .1))
 
-  bindings-are : map bindingWords (map bindingOf brows) ≡ brows
-  bindings-are =
-      rows-same bindingWords bindingOf brows
-      (λ i h.
-      let l : i < word BINDING-COUNT = omega (arith, records-length word BINDINGS-AT BINDING (word BINDING-COUNT)) in
-      binding-words (getD brows i []) (records-width word BINDINGS-AT BINDING (word BINDING-COUNT) i l))
+  bindings-are : map bindingWords (map bindingOf (rowsIn b Bindings)) ≡ rowsIn b Bindings
+  bindings-are = rows-same bindingWords bindingOf (rowsIn b Bindings) (λ i h. binding-words (getD (rowsIn b Bindings) i []) (rowsIn-wide b Bindings i h))
 
-  frames-are : map frameWords (map frameOf frows) ≡ frows
+  frames-are : map frameWords (map frameOf (rowsIn b Frames)) ≡ rowsIn b Frames
   frames-are =
-      rows-same frameWords frameOf frows
+      rows-same frameWords frameOf (rowsIn b Frames)
       (λ i h.
-      let l : i < word FRAME-COUNT = omega (arith, records-length word FRAMES-AT FRAME (word FRAME-COUNT)) in
-      frame-words (getD frows i []) (records-width word FRAMES-AT FRAME (word FRAME-COUNT) i l)
-      (frame-same (λ j. wordAt b (frameByte i j)) (cell frows i) (λ j hj. records-cell word FRAMES-AT FRAME (word FRAME-COUNT) i j l hj) (o .frames i l)))
+      let l = number Frames i h in
+      frame-words (getD (rowsIn b Frames) i []) (rowsIn-wide b Frames i h)
+      (frame-same (wordIn b Frames i) (cell (rowsIn b Frames) i) (λ j hj. rowsIn-cell b Frames i j l hj) (o .frames i l)))
 
   abbrev given-out : List Frame
-  given-out = reverse (map frameOf frows)
+  given-out = reverse (map frameOf (rowsIn b Frames))
 
-  frames-many : length given-out ≡ word FRAME-COUNT
-  frames-many = length-reverse (map frameOf frows) ∙ length-map frows frameOf ∙ records-length word FRAMES-AT FRAME (word FRAME-COUNT)
+  frames-many : length given-out ≡ counted b Frames
+  frames-many = length-reverse (map frameOf (rowsIn b Frames)) ∙ length-map (rowsIn b Frames) frameOf ∙ rowsIn-length b Frames
 
-  sum-is : sumBelow (λ i. cell prows i 4) (length prows) ≡ word FRAME-COUNT
+  sum-is : sumBelow (λ i. cell (rowsIn b Positions) i 4) (length (rowsIn b Positions)) ≡ counted b Frames
   sum-is =
-      rw (records-length word POSITIONS-AT POSITION (word POSITION-COUNT))
-      (sum-same (λ i. cell prows i 4) (λ i. wordAt b (positionByte i 4)) (word POSITION-COUNT) (λ i l. records-cell word POSITIONS-AT POSITION (word POSITION-COUNT) i 4 l (omega arith))
+      rw (rowsIn-length b Positions)
+      (sum-same (λ i. cell (rowsIn b Positions) i 4) (λ i. wordIn b Positions i 4) (counted b Positions) (λ i l. rowsIn-cell b Positions i 4 l (omega arith))
       ∙ o .all-frames)
 
-  growth : Grown prows given-out 1
+  growth : Grown (rowsIn b Positions) given-out 1
   growth =
-      grown prows given-out 1 (rw (firsts word POSITIONS-AT POSITION (word POSITION-COUNT) (omega arith)) (o .one-tree))
-      (λ i h. records-width word POSITIONS-AT POSITION (word POSITION-COUNT) i (omega (arith, records-length word POSITIONS-AT POSITION (word POSITION-COUNT))))
+      grown (rowsIn b Positions) given-out 1 (rw (firsts b Positions (omega arith)) (o .one-tree)) (rowsIn-wide b Positions)
       (λ i h.
-      let l : i < word POSITION-COUNT = omega (arith, records-length word POSITIONS-AT POSITION (word POSITION-COUNT)) in
-      position-same (λ j. wordAt b (positionByte i j)) (cell prows i) (λ j hj. records-cell word POSITIONS-AT POSITION (word POSITION-COUNT) i j l hj) (o .positions i l))
+      let l = number Positions i h in
+      position-same (wordIn b Positions i) (cell (rowsIn b Positions) i) (λ j hj. rowsIn-cell b Positions i j l hj) (o .positions i l))
       (omega (arith, sum-is, frames-many))
 
-  root : grove prows given-out .trees ≡ c .tree ∷ []
+  root : grove (rowsIn b Positions) given-out .trees ≡ c .tree ∷ []
   unfolding configIn
-  root = one-of (grove prows given-out .trees) (growth .many)
+  root = one-of (grove (rowsIn b Positions) given-out .trees) (growth .many)
 
-  positions-are : map positionWords (preorder (c .tree)) ≡ prows
-  unfolding flatMap
-  positions-are = let e = rw root at (growth .rows-are) in rw (append-nil (preorder (c .tree))) at e
-
-  frames-of : framesOf (c .tree) ≡ map frameOf frows
+  frames-of : framesOf (c .tree) ≡ map frameOf (rowsIn b Frames)
   unfolding flatMap
   frames-of =
-      let left : grove prows given-out .frames ≡ [] = none-left (grove prows given-out .frames) (omega (arith, growth .frames-left, sum-is, frames-many)) in
+      let left : grove (rowsIn b Positions) given-out .frames ≡ [] = none-left (grove (rowsIn b Positions) given-out .frames) (omega (arith, growth .frames-left, sum-is, frames-many)) in
       let e : reverse (framesOf (c .tree)) ≡ given-out = rw (root, left, append-nil (framesOf (c .tree)), append-nil (reverse (framesOf (c .tree)))) at (growth .frames-are) in
-      sym (reverse-reverse (framesOf (c .tree))) ∙ ap reverse e ∙ reverse-reverse (map frameOf frows)
+      sym (reverse-reverse (framesOf (c .tree))) ∙ ap reverse e ∙ reverse-reverse (map frameOf (rowsIn b Frames))
 
-  objects-in : partsOf c .objects ≡ map (objectOf fieldCount) orows
-  unfolding configIn
-  objects-in = refl
+  -- the records of the configuration are those counted
+  rows-are : (a : Area) → rows (partsOf c) a ≡ rowsIn b a
+  unfolding configIn flatMap
+  rows-are Objects = objects-are
+  rows-are Bindings = rw (reverse-reverse (map bindingOf (rowsIn b Bindings))) bindings-are
+  rows-are Positions = let e = rw root at (growth .rows-are) in rw (append-nil (preorder (c .tree))) at e
+  rows-are Frames = rw frames-of frames-are
 
-  bindings-in : partsOf c .bindings ≡ map bindingOf brows
-  unfolding configIn
-  bindings-in = reverse-reverse (map bindingOf brows)
-
-  pub in-order-shows : Shows b (partsOf c)
+  in-order-shows : Shows b (partsOf c)
   in-order-shows =
       record {
         long = o .long;
         small = o .small;
-        object-count = rw objects-in (sym (length-map orows (objectOf fieldCount) ∙ records-length word OBJECTS-AT OBJECT (word OBJECT-COUNT)));
-        binding-count = rw bindings-in (sym (length-map brows bindingOf ∙ records-length word BINDINGS-AT BINDING (word BINDING-COUNT)));
-        frame-count = rw frames-of (sym (length-map frows frameOf ∙ records-length word FRAMES-AT FRAME (word FRAME-COUNT)));
-        position-count =
-            sym (sym (length-map (preorder (c .tree)) positionWords) ∙ ap length positions-are ∙ records-length word POSITIONS-AT POSITION (word POSITION-COUNT));
-        objects = λ i j hi hj. rw (objects-in, objects-are) (seen word OBJECTS-AT OBJECT (word OBJECT-COUNT) i j hj (λ l. o .no-object i j l hi hj));
-        bindings = λ i j hi hj. rw (bindings-in, bindings-are) (seen word BINDINGS-AT BINDING (word BINDING-COUNT) i j hj (λ l. o .no-binding i j l hi hj));
-        positions = λ i j hi hj. rw positions-are (seen word POSITIONS-AT POSITION (word POSITION-COUNT) i j hj (λ l. o .no-position i j l hi hj));
-        frames = λ i j hi hj. rw (frames-of, frames-are) (seen word FRAMES-AT FRAME (word FRAME-COUNT) i j hj (λ l. o .no-frame i j l hi hj));
+        counts = λ a. rw (rows-are a) (sym (rowsIn-length b a));
+        records = λ a i j hi hj.
+            rw (rows-are a)
+            (elim (decLt i (counted b a)) [
+              | yes l ↦ sym (rowsIn-cell b a i j l hj)
+              | no l ↦ o .blank a i j (omega arith) hi hj ∙ rw (List·getD-eq-default (rowsIn b a) [] {n = i} (omega (arith, rowsIn-length b a)))
+            ]);
         rest = o .rest;
       }
 
@@ -271,22 +242,15 @@ module _ (fieldCount : ℕ → ℕ) (b : List ℕ) (o : InOrder fieldCount b) wh
   object-fields : (x : Object) → x ∈ partsOf c .objects → (length (x .fields) ≡ fieldCount (x .class)) × (length (x .fields) ≤ CLASS-FIELDS)
   unfolding configIn
   object-fields x m =
-      let a = Memᴰ·of-map (objectOf fieldCount) orows m in
-      let k = each-row (λ r. (length r ≡ OBJECT) × ObjectOk fieldCount (λ j. getD r j 0)) orows object-ok (a .0) (a .1) in
+      let a = Memᴰ·of-map (objectOf fieldCount) (rowsIn b Objects) m in
+      let k = each-row (λ r. (length r ≡ width Objects) × ObjectOk fieldCount (λ j. getD r j 0)) (rowsIn b Objects) object-ok (a .0) (a .1) in
       let e = values-many fieldCount (a .0) (k .0) (k .1) in
       rw (← a .2) (e, omega (arith, e, k .1 .few))
 
   in-order-fits : Fits fieldCount c
   in-order-fits =
-      let s = in-order-shows in
       record {
-        few =
-            record {
-              objects = omega (arith, s .object-count, o .few-objects);
-              bindings = omega (arith, s .binding-count, o .few-bindings);
-              frames = omega (arith, s .frame-count, o .few-frames);
-              positions = omega (arith, s .position-count, o .few-positions);
-            };
+        few = λ a. omega (arith, in-order-shows .counts a, o .few a);
         own-fields = λ x m. object-fields x m .0;
         few-fields = λ x m. object-fields x m .1;
         words = words-small (blockWords c) (λ i. rw (← is-encoded) (o .small i));

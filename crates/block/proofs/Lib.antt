@@ -1,4 +1,4 @@
-pub mod Area
+pub mod Rows
 pub mod Trees
 pub mod Words
 pub mod Shows
@@ -10,3 +10,4 @@ pub mod Growing
 pub mod InOrder
 pub mod Ordered
 pub mod Places
+pub mod Preorder

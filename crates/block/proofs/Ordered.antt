@@ -1,25 +1,26 @@
 -- The block of a configuration that fits is in order; so what `decode` accepts is just what is in order.
-use mathlib.Core.Path.{_≡_, refl, _∙_}
+use mathlib.Core.Path.{_≡_, refl, ap, _∙_}
 use mathlib.Core.Bool.{Bool, true, false}
 use mathlib.Core.List.{List, [], _∷_, _++_, append-assoc, append-nil, map, map-map, map-append, flatMap, reverse, List·Memᴰ·head, List·Memᴰ·tail}
 use mathlib.Core.Option.{some}
-use Prim.Native.Nat.{ℕ, zero, suc, _+_, _*_, _<_, _≤_}
+use Prim.Native.Nat.{ℕ, zero, suc, _+_, _<_, _≤_}
 use native.Mathlib.Omega.{arith}
 use lib.ListN.{length, getD, length-append, length-map, length-reverse, List·getD-eq-default}
-use Rattle.words.specs.Word.{wordAt}
 use Rattle.limits.specs.Limits.{CLASS-FIELDS}
 use Rattle.script.specs.Lists.{_∈_, run, sumBelow}
-use Rattle.machine.specs.Config.{Object, Frame, awaits, casts, locks, Tree, running, returning, failed, join, Config}
-use Rattle.block.specs.Layout.{POSITION-COUNT, POSITION, POSITIONS-AT, objectByte, positionByte, frameByte, RUNNING, RETURNING, FAILED}
-use Rattle.block.specs.Block.{valueWord, shutWord, objectWords, bindingWords, frameWords, positionWords, waiting, preorder, framesOf, Parts, partsOf, encode}
-use Rattle.block.specs.Shows.{cell}
+use Rattle.machine.specs.declared.Frame.{Frame}
+use Rattle.machine.specs.declared.Frame.the-variants.{Awaits as awaits, Casts as casts, Locks as locks}
+use Rattle.machine.specs.Config.{Object, Tree, running, returning, failed, join, Config}
+use Rattle.block.specs.Rows.{cell}
+use Rattle.block.specs.Layout.{Area, Objects, Positions, Frames, width, counted, wordIn, RUNNING, RETURNING, FAILED}
+use Rattle.block.specs.Block.{valueWord, shutWord, objectWords, frameWords, positionWords, waiting, preorder, framesOf, Parts, partsOf, rows, encode}
 use Rattle.block.specs.Fits.{Fits}
 use Rattle.block.specs.Decode.{decode}
 use Rattle.block.specs.InOrder.{ObjectOk, PositionOk, is-running, is-returning, is-failed, is-join, FrameOk, is-awaits, is-casts, is-locks, Trees, no-tree, one-thread, one-join, InOrder}
-use Rattle.block.proofs.Area.{getD-filled}
-use Rattle.block.proofs.Words.{encode-length, object-count, binding-count, frame-count, position-count, object-row, binding-row, position-row, frame-row, object-word, position-word, frame-word, rest-blank}
+use Rattle.block.proofs.Rows.{getD-filled, row-at}
+use Rattle.block.proofs.Words.{encode-length, count-is, word-is, rows-read, rest-blank}
 use Rattle.block.proofs.Fits.{encode-bytes}
-use Rattle.block.proofs.Decode.{positions-read, encode-decode}
+use Rattle.block.proofs.Decode.{encode-decode}
 use Rattle.block.proofs.Growing.{sum-front}
 use Rattle.block.proofs.InOrder.{object-same, position-same, frame-same, sum-same, firsts}
 
@@ -89,63 +90,72 @@ all-small [] h i = omega arith
 all-small (x ∷ xs) h zero = h x (List·Memᴰ·head refl)
 all-small (x ∷ xs) h (suc i) = all-small xs (λ y m. h y (List·Memᴰ·tail m)) i
 
--- past the last record
-past : {A : Type 0} (f : A → List ℕ) (xs : List A) (i j : ℕ) → length xs ≤ i → cell (map f xs) i j ≡ 0
-past f xs i j h = rw (List·getD-eq-default (map f xs) [] {n = i} (omega (arith, length-map xs f)))
-
 module _ (fieldCount : ℕ → ℕ) (c : Config) (fit : Fits fieldCount c) where
   abbrev p : Parts
   p = partsOf c
 
-  abbrev word : ℕ → ℕ
-  word i = wordAt (encode c) (2 * i)
+  -- word j of a record that is there
+  row-word : (a : Area) (i j : ℕ) → i < length (rows p a) → j < width a → wordIn (encode c) a i j ≡ cell (rows p a) i j
+  row-word a i j h hj = word-is p a i j (omega (arith, fit .few a)) hj
 
-  tree-shown : Trees (run (λ i. wordAt (encode c) (positionByte i 0)) 0 (word POSITION-COUNT)) 1
+  -- word j of the record of element i of a list
+  element-word :
+      {A : Type 0} (a : Area) (f : A → List ℕ) (xs : List A) (i : ℕ) (d : A)
+      → rows p a ≡ map f xs
+      → i < length xs
+      → (j : ℕ) → j < width a → wordIn (encode c) a i j ≡ getD (f (getD xs i d)) j 0
+  element-word a f xs i d e h j hj =
+      row-word a i j (rw e (rw (length-map xs f) h)) hj ∙ rw e (ap (λ (r : List ℕ). getD r j 0) (row-at f xs i d h))
+
+  tree-shown : Trees (run (λ i. wordIn (encode c) Positions i 0) 0 (counted (encode c) Positions)) 1
   unfolding kind
   tree-shown =
       let first : (List ℕ → ℕ) = λ r. getD r 0 0 in
       let kinds : Trees (map first (map positionWords (preorder (c .tree)))) 1 =
       rw map-map (rw (append-nil (map kind (preorder (c .tree)))) at (tree-kinds (c .tree) [] 0 no-tree))
       in
-      rw (← firsts word POSITIONS-AT POSITION (word POSITION-COUNT) (omega arith), positions-read fieldCount c fit) kinds
+      rw (← firsts (encode c) Positions (omega arith), rows-read p (fit .few) Positions) kinds
 
-  frames-shown : sumBelow (λ i. wordAt (encode c) (positionByte i 4)) (length (p .positions)) ≡ length (p .frames)
+  frames-shown : sumBelow (λ i. wordIn (encode c) Positions i 4) (length (p .positions)) ≡ length (p .frames)
   unfolding framesOf
   frames-shown =
-      sum-same (λ i. wordAt (encode c) (positionByte i 4)) (λ i. cell (map positionWords (p .positions)) i 4) (length (p .positions))
-      (λ i l. position-row p i 4 (omega (arith, fit .few .positions)) (omega arith))
+      sum-same (λ i. wordIn (encode c) Positions i 4) (λ i. cell (map positionWords (p .positions)) i 4) (length (p .positions))
+      (λ i l. row-word Positions i 4 (rw (length-map (p .positions) positionWords) l) (omega arith))
       ∙ frames-sum (p .positions)
+
+  -- the counts of lists
+  counts-list : {A : Type 0} (a : Area) (f : A → List ℕ) (xs : List A) → rows p a ≡ map f xs → counted (encode c) a ≡ length xs
+  counts-list a f xs e = count-is p a ∙ rw e (length-map xs f)
 
   pub fits-in-order : InOrder fieldCount (encode c)
   fits-in-order =
+      let objects-many = counts-list Objects objectWords (p .objects) refl in
+      let positions-many = counts-list Positions positionWords (p .positions) refl in
+      let frames-many = counts-list Frames frameWords (p .frames) refl in
       record {
         long = encode-length c;
         small = all-small (encode c) (encode-bytes fieldCount c fit);
-        few-objects = rw (object-count p) (fit .few .objects);
-        few-bindings = rw (binding-count p) (fit .few .bindings);
-        few-frames = rw (frame-count p) (fit .few .frames);
-        few-positions = rw (position-count p) (fit .few .positions);
+        few = λ a. rw (count-is p a) (fit .few a);
         objects = λ i h.
-            let l : i < length (p .objects) = rw (object-count p) at h in
+            let l : i < length (p .objects) = rw objects-many at h in
             let d : Object = record { class = 0; shut = false; fields = [] } in
             let o = getD (p .objects) i d in
             let m = at-in (p .objects) i d l in
-            object-same fieldCount (λ j. getD (objectWords o) j 0) (λ j. wordAt (encode c) (objectByte i j))
-            (λ j hj. object-word p i j (fit .few) d l hj) (object-ok fieldCount o (fit .own-fields o m) (fit .few-fields o m));
+            object-same fieldCount (λ j. getD (objectWords o) j 0) (wordIn (encode c) Objects i) (element-word Objects objectWords (p .objects) i d refl l)
+            (object-ok fieldCount o (fit .own-fields o m) (fit .few-fields o m));
         positions = λ i h.
-            let l : i < length (p .positions) = rw (position-count p) at h in
-            position-same (λ j. getD (positionWords (getD (p .positions) i failed)) j 0) (λ j. wordAt (encode c) (positionByte i j))
-            (λ j hj. position-word p i j (fit .few) failed l hj) (position-ok (getD (p .positions) i failed));
+            let l : i < length (p .positions) = rw positions-many at h in
+            position-same (λ j. getD (positionWords (getD (p .positions) i failed)) j 0) (wordIn (encode c) Positions i)
+            (element-word Positions positionWords (p .positions) i failed refl l) (position-ok (getD (p .positions) i failed));
         frames = λ i h.
-            let l : i < length (p .frames) = rw (frame-count p) at h in
-            frame-same (λ j. getD (frameWords (getD (p .frames) i (casts 0))) j 0) (λ j. wordAt (encode c) (frameByte i j))
-            (λ j hj. frame-word p i j (fit .few) (casts 0) l hj) (frame-ok (getD (p .frames) i (casts 0)));
+            let l : i < length (p .frames) = rw frames-many at h in
+            frame-same (λ j. getD (frameWords (getD (p .frames) i (casts 0))) j 0) (wordIn (encode c) Frames i)
+            (element-word Frames frameWords (p .frames) i (casts 0) refl l) (frame-ok (getD (p .frames) i (casts 0)));
         one-tree = tree-shown;
-        all-frames = rw (position-count p, frame-count p) frames-shown;
-        no-object = λ i j n h l. object-row p i j h l ∙ past objectWords (p .objects) i j (rw (object-count p) at n);
-        no-binding = λ i j n h l. binding-row p i j h l ∙ past bindingWords (p .bindings) i j (rw (binding-count p) at n);
-        no-position = λ i j n h l. position-row p i j h l ∙ past positionWords (p .positions) i j (rw (position-count p) at n);
-        no-frame = λ i j n h l. frame-row p i j h l ∙ past frameWords (p .frames) i j (rw (frame-count p) at n);
+        all-frames = rw (positions-many, frames-many) frames-shown;
+        blank = λ a i j n h l.
+            let m : length (rows p a) ≤ i = rw (count-is p a) at n in
+            word-is p a i j h l ∙ rw (List·getD-eq-default (rows p a) [] {n = i} m);
         rest = rest-blank p;
       }
 

@@ -7,7 +7,8 @@ use native.Mathlib.Decide.{decLt}
 use lib.ListN.{length, getD, length-reverse, List·getD-append}
 use lib.Seq.{getD-append-add}
 use Rattle.script.specs.Lists.{sumBelow}
-use Rattle.machine.specs.Config.{Frame, Tree, failed}
+use Rattle.machine.specs.declared.Frame.{Frame}
+use Rattle.machine.specs.Config.{Tree, failed}
 use Rattle.block.specs.Block.{preorder, waiting, framesOf, frameStart}
 use Rattle.block.proofs.Growing.{sum-front}
 

@@ -1,7 +1,8 @@
 -- A block is known by what there is to see in it.
-use mathlib.Core.Path.{_≡_, sym, ap, _∙_}
+use mathlib.Core.Path.{_≡_, refl, sym, ap, _∙_}
 use mathlib.Core.List.{List, _∷_}
 use Prim.Native.Nat.{ℕ, zero, suc, _+_, _*_, _-_, _/_, _%_, _<_, _≤_}
+use native.Mathlib.Nat.{div-add-mod, mod-lt, lt-of-mul-lt-mul-left}
 use native.Mathlib.Omega.{arith}
 use native.Mathlib.Decide.{decLt}
 use lib.ListN.{length, getD, drop, drop-of-length-le}
@@ -10,11 +11,10 @@ use Rattle.words.specs.Word.{wordAt, bytes}
 use Rattle.words.proofs.Laws.{word-bytes}
 use Rattle.script.specs.Lists.{run}
 use Rattle.script.proofs.Lists.{length-run, getD-run}
-use Rattle.limits.specs.Limits.{OBJECTS, BINDINGS, FRAMES, FLAGS}
-use Rattle.block.specs.Layout.{WORDS, OBJECT, BINDING, POSITION, FRAME, OBJECTS-AT, BINDINGS-AT, POSITIONS-AT, FRAMES-AT, END}
+use Rattle.block.specs.Layout.{Area, Objects, Bindings, Positions, Frames, WORDS, HEADER, countWord, width, most, begins, END}
 use Rattle.block.specs.Block.{Parts, laid}
 use Rattle.block.specs.Shows.{Shows}
-use Rattle.block.proofs.Words.{length-laid, laid-bytes, object-count, binding-count, frame-count, position-count, object-row, binding-row, position-row, frame-row, rest-blank}
+use Rattle.block.proofs.Words.{length-laid, laid-bytes, count-is, word-is, rest-blank}
 
 -- bytes are those of the words read from them
 bytes-run : (b : List ℕ) → ((i : ℕ) → getD b i 0 < 256) → (i n : ℕ) → 2 * (i + n) ≡ length b → bytes (run (λ k. wordAt b (2 * k)) i n) ≡ drop (2 * i) b
@@ -33,72 +33,50 @@ bytes-run b small i (suc n) e =
     in
     cc
 
+-- what a word of a block is: a count, a word of a record, or past the areas
+data Spot (n : ℕ) : Type 0 where
+  a-count : (a : Area) → n ≡ countWord a → Spot n
+  a-word : (a : Area) (i j : ℕ) → i < most a → j < width a → n ≡ begins a + width a * i + j → Spot n
+  past : END ≤ n → Spot n
+
+header-spot : (n : ℕ) → n < HEADER → Spot n
+header-spot zero h = a-count Objects refl
+header-spot (suc zero) h = a-count Bindings refl
+header-spot (suc (suc zero)) h = a-count Frames refl
+header-spot (suc (suc (suc zero))) h = a-count Positions refl
+header-spot (suc (suc (suc (suc n)))) h = absurd (omega arith)
+
+some-width : (a : Area) → 0 < width a
+some-width Objects = omega arith
+some-width Bindings = omega arith
+some-width Positions = omega arith
+some-width Frames = omega arith
+
+-- a word of an area, or one after it
+area-spot : (a : Area) (n : ℕ) → begins a ≤ n → (begins a + width a * most a ≤ n → Spot n) → Spot n
+area-spot a n h later =
+    elim (decLt n (begins a + width a * most a)) [
+      | yes l ↦
+          let m = n - begins a in
+          let e = div-add-mod m (width a) in
+          a-word a (m / width a) (m % width a) (lt-of-mul-lt-mul-left (width a) (omega (arith, e))) (mod-lt m (some-width a)) (omega (arith, e))
+      | no l ↦ later (omega arith)
+    ]
+
+spot : (n : ℕ) → Spot n
+spot n =
+    elim (decLt n HEADER) [
+      | yes h ↦ header-spot n h
+      | no h ↦
+          area-spot Objects n (omega arith)
+          (λ x. area-spot Bindings n (omega arith) (λ y. area-spot Positions n (omega arith) (λ z. area-spot Frames n (omega arith) (λ w. past (omega arith)))))
+    ]
+
 module _ (b : List ℕ) (p : Parts) (s : Shows b p) where
-  header-seen : (n : ℕ) → n < OBJECTS-AT → wordAt b (2 * n) ≡ wordAt (bytes (laid p)) (2 * n)
-  header-seen zero h = s .object-count ∙ sym (object-count p)
-  header-seen (suc zero) h = s .binding-count ∙ sym (binding-count p)
-  header-seen (suc (suc zero)) h = s .frame-count ∙ sym (frame-count p)
-  header-seen (suc (suc (suc zero))) h = s .position-count ∙ sym (position-count p)
-  header-seen (suc (suc (suc (suc n)))) h = absurd (omega arith)
-
-  objects-seen : (n : ℕ) → OBJECTS-AT ≤ n → n < BINDINGS-AT → wordAt b (2 * n) ≡ wordAt (bytes (laid p)) (2 * n)
-  objects-seen n h l =
-      let i = (n - OBJECTS-AT) / OBJECT in
-      let j = (n - OBJECTS-AT) % OBJECT in
-      let e : n ≡ OBJECTS-AT + OBJECT * i + j = omega arith in
-      let hi : i < OBJECTS = omega arith in
-      let hj : j < OBJECT = omega arith in
-      rw e (s .objects i j hi hj ∙ sym (object-row p i j hi hj))
-
-  bindings-seen : (n : ℕ) → BINDINGS-AT ≤ n → n < POSITIONS-AT → wordAt b (2 * n) ≡ wordAt (bytes (laid p)) (2 * n)
-  bindings-seen n h l =
-      let i = (n - BINDINGS-AT) / BINDING in
-      let j = (n - BINDINGS-AT) % BINDING in
-      let e : n ≡ BINDINGS-AT + BINDING * i + j = omega arith in
-      let hi : i < BINDINGS = omega arith in
-      let hj : j < BINDING = omega arith in
-      rw e (s .bindings i j hi hj ∙ sym (binding-row p i j hi hj))
-
-  positions-seen : (n : ℕ) → POSITIONS-AT ≤ n → n < FRAMES-AT → wordAt b (2 * n) ≡ wordAt (bytes (laid p)) (2 * n)
-  positions-seen n h l =
-      let i = (n - POSITIONS-AT) / POSITION in
-      let j = (n - POSITIONS-AT) % POSITION in
-      let e : n ≡ POSITIONS-AT + POSITION * i + j = omega arith in
-      let hi : i < FLAGS = omega arith in
-      let hj : j < POSITION = omega arith in
-      rw e (s .positions i j hi hj ∙ sym (position-row p i j hi hj))
-
-  frames-seen : (n : ℕ) → FRAMES-AT ≤ n → n < END → wordAt b (2 * n) ≡ wordAt (bytes (laid p)) (2 * n)
-  frames-seen n h l =
-      let i = (n - FRAMES-AT) / FRAME in
-      let j = (n - FRAMES-AT) % FRAME in
-      let e : n ≡ FRAMES-AT + FRAME * i + j = omega arith in
-      let hi : i < FRAMES = omega arith in
-      let hj : j < FRAME = omega arith in
-      rw e (s .frames i j hi hj ∙ sym (frame-row p i j hi hj))
-
-  word-seen : (n : ℕ) → n < WORDS → wordAt b (2 * n) ≡ wordAt (bytes (laid p)) (2 * n)
-  word-seen n h =
-      elim (decLt n OBJECTS-AT) [
-        | yes a ↦ header-seen n a
-        | no a ↦
-            elim (decLt n BINDINGS-AT) [
-              | yes x ↦ objects-seen n (omega arith) x
-              | no x ↦
-                  elim (decLt n POSITIONS-AT) [
-                    | yes y ↦ bindings-seen n (omega arith) y
-                    | no y ↦
-                        elim (decLt n FRAMES-AT) [
-                          | yes z ↦ positions-seen n (omega arith) z
-                          | no z ↦
-                              elim (decLt n END) [
-                                | yes w ↦ frames-seen n (omega arith) w
-                                | no w ↦ s .rest n (omega arith) h ∙ sym (rest-blank p n (omega arith) h)
-                              ]
-                        ]
-                  ]
-            ]
-      ]
+  word-seen : (n : ℕ) → n < WORDS → Spot n → wordAt b (2 * n) ≡ wordAt (bytes (laid p)) (2 * n)
+  word-seen n h (a-count a e) = rw e (s .counts a ∙ sym (count-is p a))
+  word-seen n h (a-word a i j hi hj e) = rw e (s .records a i j hi hj ∙ sym (word-is p a i j hi hj))
+  word-seen n h (past e) = s .rest n e h ∙ sym (rest-blank p n e h)
 
   -- bytes that show the parts are the block laid from them
   pub shows-laid : b ≡ bytes (laid p)
@@ -109,24 +87,11 @@ module _ (b : List ℕ) (p : Parts) (s : Shows b p) where
       (λ n h.
       let l : n < WORDS = omega (arith, length-run word 0 WORDS) in
       let z : 0 + n ≡ n = omega arith in
-      getD-run word 0 WORDS n 0 l ∙ rw z (word-seen n l) ∙ word-bytes (laid p) n))
+      getD-run word 0 WORDS n 0 l ∙ rw z (word-seen n l (spot n)) ∙ word-bytes (laid p) n))
     where
       word : ℕ → ℕ
       word n = wordAt b (2 * n)
 
 -- and what is laid from parts shows them
 pub laid-shows : (p : Parts) → ((i : ℕ) → getD (bytes (laid p)) i 0 < 256) → Shows (bytes (laid p)) p
-laid-shows p small =
-    record {
-      long = laid-bytes p;
-      small = small;
-      object-count = object-count p;
-      binding-count = binding-count p;
-      frame-count = frame-count p;
-      position-count = position-count p;
-      objects = λ i j hi hj. object-row p i j hi hj;
-      bindings = λ i j hi hj. binding-row p i j hi hj;
-      positions = λ i j hi hj. position-row p i j hi hj;
-      frames = λ i j hi hj. frame-row p i j hi hj;
-      rest = rest-blank p;
-    }
+laid-shows p small = record { long = laid-bytes p; small = small; counts = count-is p; records = word-is p; rest = rest-blank p }

@@ -5,20 +5,18 @@ use Prim.Native.Nat.{ℕ, suc, _+_, _*_}
 use native.Mathlib.Omega.{arith}
 use lib.ListN.{length, getD, length-append}
 use lib.Seq.{take-append-seam, drop-append-seam}
-use Rattle.machine.specs.Config.{Value, nil, ref, Frame, Tree, running, returning, failed, join}
+use Rattle.machine.specs.declared.Value.{Value}
+use Rattle.machine.specs.declared.Value.the-variants.{Null as nil, Ref as ref}
+use Rattle.machine.specs.declared.Frame.{Frame}
+use Rattle.machine.specs.Config.{Tree, running, returning, failed, join}
+use Rattle.machine.specs.Machine.{threadCount}
 use Rattle.block.specs.Block.{valueWord, preorder, waiting, positionWords, framesOf}
 use Rattle.block.specs.Decode.{valueOf, planted, Grove, grove}
-use Rattle.block.proofs.Area.{flatMap-append}
+use Rattle.block.proofs.Rows.{flatMap-append}
 
--- the threads of a tree; n of them take 2 * n - 1 positions
-unfoldable pub threads : Tree → ℕ
-threads (running p e fs) = 1
-threads (returning v fs) = 1
-threads failed = 1
-threads (join fs p e l r) = threads l + threads r
-
-pub positions-threads : (t : Tree) → suc (length (preorder t)) ≡ 2 * threads t
-unfolding preorder threads
+-- n threads take 2 * n - 1 positions
+pub positions-threads : (t : Tree) → suc (length (preorder t)) ≡ 2 * threadCount t
+unfolding preorder
 positions-threads (running p e fs) = refl
 positions-threads (returning v fs) = refl
 positions-threads failed = refl

@@ -1,19 +1,24 @@
--- Laws of access: the length of a block, its counts, and word j of object, binding, position or frame i.
-use mathlib.Core.Path.{_≡_, refl, ap, _∙_}
-use mathlib.Core.List.{List, [], _++_, append-assoc, append-nil, map}
+-- Laws of access, by area: the length of a block, its counts, and word j of record i.
+use mathlib.Core.Path.{_≡_, refl, sym, ap, _∙_}
+use mathlib.Core.List.{List, [], _∷_, _++_, append-assoc, append-nil, map}
 use Prim.Native.Nat.{ℕ, _+_, _*_, _<_, _≤_}
+use native.Mathlib.Nat.{mul-suc, mul-le-mul-left}
 use native.Mathlib.Omega.{arith}
-use lib.ListN.{length, getD, length-append, List·getD-eq-default}
-use Rattle.words.specs.Word.{wordAt, bytes}
+use lib.ListN.{length, getD, replicate, length-append, List·getD-eq-default}
+use lib.Seq.{ext-getD}
+use Rattle.words.specs.Word.{bytes, wordAt}
 use Rattle.words.proofs.Laws.{word-bytes, length-bytes}
-use Rattle.limits.specs.Limits.{BLOCK, OBJECTS, BINDINGS, FRAMES, FLAGS, CLASS-FIELDS}
-use Rattle.machine.specs.Config.{Object, Binding, Frame, awaits, casts, locks, Tree, running, returning, failed, join, Config}
-use Rattle.block.specs.Area.{filled, area}
-use Rattle.block.specs.Layout.{WORDS, OBJECT, BINDING, POSITION, FRAME, OBJECT-COUNT, BINDING-COUNT, FRAME-COUNT, POSITION-COUNT, OBJECTS-AT, BINDINGS-AT, POSITIONS-AT, FRAMES-AT, END, objectByte, bindingByte, positionByte, frameByte}
-use Rattle.block.specs.Block.{valueWord, objectWords, bindingWords, positionWords, frameWords, Parts, partsOf, headerWords, laid, encode}
-use Rattle.block.specs.Shows.{cell}
+use Rattle.limits.specs.Limits.{BLOCK, CLASS-FIELDS}
+use Rattle.script.specs.Lists.{run}
+use Rattle.script.proofs.Lists.{length-run, getD-run}
+use Rattle.machine.specs.declared.Frame.{Frame}
+use Rattle.machine.specs.declared.Frame.the-variants.{Awaits as awaits, Casts as casts, Locks as locks}
+use Rattle.machine.specs.Config.{Object, Tree, running, returning, failed, join, Config}
+use Rattle.block.specs.Rows.{filled, cell}
+use Rattle.block.specs.Layout.{Area, Objects, Bindings, Positions, Frames, WORDS, width, most, begins, END, counted, wordIn, rowsIn, countWord}
+use Rattle.block.specs.Block.{valueWord, objectWords, bindingWords, positionWords, frameWords, Parts, partsOf, rows, area, headerWords, laid, encode}
 use Rattle.block.specs.Fits.{Few}
-use Rattle.block.proofs.Area.{length-filled, getD-filled, length-area, area-word, row-at}
+use Rattle.block.proofs.Rows.{Wide, wide-map, length-filled, getD-filled, filled-zeros, get-inside, flatten-end, flatten-at}
 
 pub length-laid : (p : Parts) → length (laid p) ≡ WORDS
 unfolding laid
@@ -27,125 +32,148 @@ pub encode-length : (c : Config) → length (encode c) ≡ BLOCK
 encode-length c = laid-bytes (partsOf c)
 
 -- a record has as many words as its area asks
-pub object-width : (o : Object) → length (objectWords o) ≡ OBJECT
+pub object-width : (o : Object) → length (objectWords o) ≡ width Objects
 object-width o = omega (arith, length-filled CLASS-FIELDS (map valueWord (o .fields)))
 
-pub binding-width : (b : Binding) → length (bindingWords b) ≡ BINDING
-binding-width b = refl
-
-pub position-width : (t : Tree) → length (positionWords t) ≡ POSITION
+position-width : (t : Tree) → length (positionWords t) ≡ width Positions
 position-width (running p e fs) = refl
 position-width (returning v fs) = refl
 position-width failed = refl
 position-width (join fs p e l r) = refl
 
-pub frame-width : (f : Frame) → length (frameWords f) ≡ FRAME
+pub frame-width : (f : Frame) → length (frameWords f) ≡ width Frames
 frame-width (awaits p e) = refl
 frame-width (casts p) = refl
 frame-width (locks o) = refl
 
-module _ (p : Parts) where
-  abbrev os : List ℕ
-  os = area objectWords OBJECT OBJECTS (p .objects)
+pub rows-wide : (p : Parts) (a : Area) → Wide (width a) (rows p a)
+rows-wide p Objects = wide-map objectWords (width Objects) object-width (p .objects)
+rows-wide p Bindings = wide-map bindingWords (width Bindings) (λ b. refl) (p .bindings)
+rows-wide p Positions = wide-map positionWords (width Positions) position-width (p .positions)
+rows-wide p Frames = wide-map frameWords (width Frames) frame-width (p .frames)
 
-  abbrev bs : List ℕ
-  bs = area bindingWords BINDING BINDINGS (p .bindings)
+pub length-area : (a : Area) (rs : List (List ℕ)) → length (area a rs) ≡ width a * most a
+unfolding area
+length-area a rs = length-filled _ _
 
-  abbrev ps : List ℕ
-  ps = area positionWords POSITION FLAGS (p .positions)
+-- a record of zeros after the last says nothing
+pub area-zeros : (a : Area) (rs : List (List ℕ)) → area a (rs ++ replicate (width a) 0 ∷ []) ≡ area a rs
+unfolding area
+area-zeros a rs = rw (flatten-end rs (replicate (width a) 0)) (filled-zeros (width a * most a) _ (width a))
 
-  abbrev fs : List ℕ
-  fs = area frameWords FRAME FRAMES (p .frames)
+-- a record of an area lies within it, and the areas within the block
+pub within : (a : Area) (i j : ℕ) → i < most a → j < width a → width a * i + j < width a * most a
+within a i j h hj = omega (arith, mul-suc (width a) i, mul-le-mul-left (width a) h)
 
-  -- the block with one area set apart
-  pub see-objects : laid p ≡ filled WORDS (headerWords p ++ (os ++ (bs ++ (ps ++ fs))))
-  unfolding laid
-  see-objects = refl
+pub area-ends : (a : Area) → begins a + width a * most a ≤ END
+area-ends Objects = omega arith
+area-ends Bindings = omega arith
+area-ends Positions = omega arith
+area-ends Frames = omega arith
 
-  pub see-bindings : laid p ≡ filled WORDS ((headerWords p ++ os) ++ (bs ++ (ps ++ fs)))
-  unfolding laid
-  see-bindings = refl
+-- what lies before an area, after the header, and what lies after it
+unfoldable pub ahead : Parts → Area → List ℕ
+ahead p Objects = []
+ahead p Bindings = area Objects (rows p Objects)
+ahead p Positions = area Objects (rows p Objects) ++ area Bindings (rows p Bindings)
+ahead p Frames = area Objects (rows p Objects) ++ (area Bindings (rows p Bindings) ++ area Positions (rows p Positions))
 
-  pub see-positions : laid p ≡ filled WORDS ((headerWords p ++ (os ++ bs)) ++ (ps ++ fs))
-  unfolding laid
-  see-positions = simp append-assoc
+unfoldable pub behind : Parts → Area → List ℕ
+behind p Objects = area Bindings (rows p Bindings) ++ (area Positions (rows p Positions) ++ area Frames (rows p Frames))
+behind p Bindings = area Positions (rows p Positions) ++ area Frames (rows p Frames)
+behind p Positions = area Frames (rows p Frames)
+behind p Frames = []
 
-  pub see-frames : laid p ≡ filled WORDS ((headerWords p ++ (os ++ (bs ++ ps))) ++ (fs ++ []))
-  unfolding laid
-  see-frames = simp (append-assoc, append-nil)
+-- the block with one area set apart
+pub apart : (p : Parts) (a : Area) → laid p ≡ filled WORDS ((headerWords p ++ ahead p a) ++ (area a (rows p a) ++ behind p a))
+unfolding laid ahead behind
+apart p Objects = refl
+apart p Bindings = refl
+apart p Positions = simp append-assoc
+apart p Frames = simp (append-assoc, append-nil)
 
-  -- where each area begins
-  pub bindings-start : length (headerWords p ++ os) ≡ BINDINGS-AT
-  bindings-start = omega (arith, length-area objectWords OBJECT OBJECTS (p .objects))
+pub ahead-length : (p : Parts) (a : Area) → length (ahead p a) + 4 ≡ begins a
+unfolding ahead
+ahead-length p Objects = refl
+ahead-length p Bindings = omega (arith, length-area Objects (rows p Objects))
+ahead-length p Positions = simp length-append (omega (arith, length-area Objects (rows p Objects), length-area Bindings (rows p Bindings)))
+ahead-length p Frames = simp length-append (omega (arith, length-area Objects (rows p Objects), length-area Bindings (rows p Bindings), length-area Positions (rows p Positions)))
 
-  pub positions-start : length (headerWords p ++ (os ++ bs)) ≡ POSITIONS-AT
-  positions-start = omega (arith, length-append os bs, bindings-start, length-area bindingWords BINDING BINDINGS (p .bindings))
+pub before-length : (p : Parts) (a : Area) → length (headerWords p ++ ahead p a) ≡ begins a
+before-length p a = omega (arith, ahead-length p a)
 
-  pub frames-start : length (headerWords p ++ (os ++ (bs ++ ps))) ≡ FRAMES-AT
-  frames-start = simp length-append (omega (arith, length-append os bs, positions-start, length-area positionWords POSITION FLAGS (p .positions)))
+-- the count of an area
+pub count-word : (p : Parts) (a : Area) → getD (laid p) (countWord a) 0 ≡ length (rows p a)
+unfolding laid filled
+count-word p Objects = refl
+count-word p Bindings = refl
+count-word p Positions = refl
+count-word p Frames = refl
 
-  -- the counts
-  pub object-count : wordAt (bytes (laid p)) (2 * OBJECT-COUNT) ≡ length (p .objects)
-  unfolding laid filled
-  object-count = word-bytes (laid p) OBJECT-COUNT
+pub count-is : (p : Parts) (a : Area) → counted (bytes (laid p)) a ≡ length (rows p a)
+count-is p a = word-bytes (laid p) (countWord a) ∙ count-word p a
 
-  pub binding-count : wordAt (bytes (laid p)) (2 * BINDING-COUNT) ≡ length (p .bindings)
-  unfolding laid filled
-  binding-count = word-bytes (laid p) BINDING-COUNT
+-- word j of record i of an area, and 0 where no record is
+pub word-is : (p : Parts) (a : Area) (i j : ℕ) → i < most a → j < width a → wordIn (bytes (laid p)) a i j ≡ cell (rows p a) i j
+unfolding area
+word-is p a i j hi hj =
+    let l = within a i j hi hj in
+    let e : begins a + width a * i + j ≡ length (headerWords p ++ ahead p a) + (width a * i + j) = omega (arith, before-length p a) in
+    let room : length (headerWords p ++ ahead p a) + (width a * i + j) < WORDS = omega (arith, before-length p a, area-ends a) in
+    word-bytes (laid p) (begins a + width a * i + j)
+    ∙ rw (e, apart p a)
+    (get-inside WORDS (headerWords p ++ ahead p a) (area a (rows p a)) (behind p a) (width a * i + j) (omega (arith, length-area a (rows p a))) room
+    ∙ getD-filled (width a * most a) _ (width a * i + j) l
+    ∙ flatten-at (width a) (rows p a) (rows-wide p a) i j hj)
 
-  pub frame-count : wordAt (bytes (laid p)) (2 * FRAME-COUNT) ≡ length (p .frames)
-  unfolding laid filled
-  frame-count = word-bytes (laid p) FRAME-COUNT
+-- past the areas
+pub rest-blank : (p : Parts) (n : ℕ) → END ≤ n → n < WORDS → wordAt (bytes (laid p)) (2 * n) ≡ 0
+unfolding behind
+rest-blank p n e h =
+    let all : List ℕ = (headerWords p ++ ahead p Frames) ++ (area Frames (rows p Frames) ++ behind p Frames) in
+    let long : length all ≡ END =
+    length-append (headerWords p ++ ahead p Frames) (area Frames (rows p Frames) ++ behind p Frames)
+    ∙ omega (arith, before-length p Frames, length-append (area Frames (rows p Frames)) (behind p Frames), length-area Frames (rows p Frames))
+    in
+    word-bytes (laid p) n ∙ rw (apart p Frames) (getD-filled WORDS all n h ∙ List·getD-eq-default all 0 {n = n} (omega (arith, long)))
 
-  pub position-count : wordAt (bytes (laid p)) (2 * POSITION-COUNT) ≡ length (p .positions)
-  unfolding laid filled
-  position-count = word-bytes (laid p) POSITION-COUNT
+-- the counted records of some bytes, by number and word
+module _ (b : List ℕ) (a : Area) where
+  abbrev line : ℕ → List ℕ
+  line i = run (wordIn b a i) 0 (width a)
 
-  -- past the areas
-  pub rest-blank : (n : ℕ) → END ≤ n → n < WORDS → wordAt (bytes (laid p)) (2 * n) ≡ 0
-  rest-blank n e h =
-      word-bytes (laid p) n
-      ∙ rw see-frames
-      (getD-filled WORDS _ n h
-      ∙ List·getD-eq-default ((headerWords p ++ (os ++ (bs ++ ps))) ++ (fs ++ [])) 0 {n = n}
-      (omega (arith, length-append (headerWords p ++ (os ++ (bs ++ ps))) (fs ++ []), length-append fs [], frames-start, length-area frameWords FRAME FRAMES (p .frames))))
+  line-at : (i : ℕ) → i < counted b a → getD (rowsIn b a) i [] ≡ line i
+  unfolding rowsIn
+  line-at i h = let z : 0 + i ≡ i = omega arith in getD-run line 0 (counted b a) i [] h ∙ ap line z
 
-  module _ (i j : ℕ) where
-    -- word j of record i of each area, and 0 where no record is
-    pub object-row : i < OBJECTS → j < OBJECT → wordAt (bytes (laid p)) (objectByte i j) ≡ cell (map objectWords (p .objects)) i j
-    object-row hi hj =
-        word-bytes (laid p) (OBJECTS-AT + OBJECT * i + j)
-        ∙ rw see-objects
-        (area-word objectWords OBJECT object-width OBJECTS (p .objects) i j hi hj WORDS OBJECTS-AT (headerWords p) (bs ++ (ps ++ fs)) refl (omega arith))
+  pub rowsIn-length : length (rowsIn b a) ≡ counted b a
+  unfolding rowsIn
+  rowsIn-length = length-run line 0 (counted b a)
 
-    pub binding-row : i < BINDINGS → j < BINDING → wordAt (bytes (laid p)) (bindingByte i j) ≡ cell (map bindingWords (p .bindings)) i j
-    binding-row hi hj =
-        word-bytes (laid p) (BINDINGS-AT + BINDING * i + j)
-        ∙ rw see-bindings
-        (area-word bindingWords BINDING binding-width BINDINGS (p .bindings) i j hi hj WORDS BINDINGS-AT (headerWords p ++ os) (ps ++ fs) bindings-start (omega arith))
+  pub rowsIn-wide : Wide (width a) (rowsIn b a)
+  rowsIn-wide i h = rw (line-at i (omega (arith, rowsIn-length))) (length-run (wordIn b a i) 0 (width a))
 
-    pub position-row : i < FLAGS → j < POSITION → wordAt (bytes (laid p)) (positionByte i j) ≡ cell (map positionWords (p .positions)) i j
-    position-row hi hj =
-        word-bytes (laid p) (POSITIONS-AT + POSITION * i + j)
-        ∙ rw see-positions
-        (area-word positionWords POSITION position-width FLAGS (p .positions) i j hi hj WORDS POSITIONS-AT (headerWords p ++ (os ++ bs)) fs positions-start (omega arith))
+  pub rowsIn-cell : (i j : ℕ) → i < counted b a → j < width a → cell (rowsIn b a) i j ≡ wordIn b a i j
+  rowsIn-cell i j h hj = let z : 0 + j ≡ j = omega arith in rw (line-at i h) (getD-run (wordIn b a i) 0 (width a) j 0 hj ∙ ap (wordIn b a i) z)
 
-    pub frame-row : i < FRAMES → j < FRAME → wordAt (bytes (laid p)) (frameByte i j) ≡ cell (map frameWords (p .frames)) i j
-    frame-row hi hj =
-        word-bytes (laid p) (FRAMES-AT + FRAME * i + j)
-        ∙ rw see-frames
-        (area-word frameWords FRAME frame-width FRAMES (p .frames) i j hi hj WORDS FRAMES-AT (headerWords p ++ (os ++ (bs ++ ps))) [] frames-start (omega arith))
+-- rows that are as many and as wide, and the same word by word
+same-rows :
+    (k : ℕ) (xs ys : List (List ℕ))
+    → Wide k xs
+    → Wide k ys
+    → length xs ≡ length ys
+    → ((i j : ℕ) → i < length xs → j < k → cell xs i j ≡ cell ys i j)
+    → xs ≡ ys
+same-rows k xs ys w v e h =
+    ext-getD [] xs ys e
+    (λ i l. ext-getD 0 (getD xs i []) (getD ys i []) (w i l ∙ sym (v i (omega arith))) (λ j m. h i j l (omega (arith, w i l))))
 
-    -- word j of the record that is there
-    module _ (few : Few p) where
-      pub object-word : (d : Object) → i < length (p .objects) → j < OBJECT → wordAt (bytes (laid p)) (objectByte i j) ≡ getD (objectWords (getD (p .objects) i d)) j 0
-      object-word d h hj = object-row (omega (arith, few .objects)) hj ∙ ap (λ (r : List ℕ). getD r j 0) (row-at objectWords OBJECT object-width (p .objects) i d h)
-
-      pub binding-word : (d : Binding) → i < length (p .bindings) → j < BINDING → wordAt (bytes (laid p)) (bindingByte i j) ≡ getD (bindingWords (getD (p .bindings) i d)) j 0
-      binding-word d h hj = binding-row (omega (arith, few .bindings)) hj ∙ ap (λ (r : List ℕ). getD r j 0) (row-at bindingWords BINDING binding-width (p .bindings) i d h)
-
-      pub position-word : (d : Tree) → i < length (p .positions) → j < POSITION → wordAt (bytes (laid p)) (positionByte i j) ≡ getD (positionWords (getD (p .positions) i d)) j 0
-      position-word d h hj = position-row (omega (arith, few .positions)) hj ∙ ap (λ (r : List ℕ). getD r j 0) (row-at positionWords POSITION position-width (p .positions) i d h)
-
-      pub frame-word : (d : Frame) → i < length (p .frames) → j < FRAME → wordAt (bytes (laid p)) (frameByte i j) ≡ getD (frameWords (getD (p .frames) i d)) j 0
-      frame-word d h hj = frame-row (omega (arith, few .frames)) hj ∙ ap (λ (r : List ℕ). getD r j 0) (row-at frameWords FRAME frame-width (p .frames) i d h)
+-- the records of an area read back
+pub rows-read : (p : Parts) → Few p → (a : Area) → rowsIn (bytes (laid p)) a ≡ rows p a
+rows-read p few a =
+    let b : List ℕ = bytes (laid p) in
+    let n : length (rowsIn b a) ≡ length (rows p a) = rowsIn-length b a ∙ count-is p a in
+    same-rows (width a) (rowsIn b a) (rows p a) (rowsIn-wide b a) (rows-wide p a) n
+    (λ i j h hj.
+    let l : i < counted b a = omega (arith, rowsIn-length b a) in
+    rowsIn-cell b a i j l hj ∙ word-is p a i j (omega (arith, n, few a)) hj)

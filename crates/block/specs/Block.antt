@@ -1,14 +1,18 @@
 -- The one block that stands for a configuration.
-use Prim.Native.Nat.{ℕ, suc}
+use Prim.Native.Nat.{ℕ, suc, _*_}
 use mathlib.Core.Bool.{Bool, true, false}
-use mathlib.Core.List.{List, [], _∷_, _++_, map, flatMap, reverse}
-use lib.ListN.{length, getD}
+use mathlib.Core.List.{List, [], _∷_, _++_, map, flatMap, flatten, reverse}
+use lib.ListN.{length, getD, set}
 use Rattle.words.specs.Word.{bytes}
-use Rattle.limits.specs.Limits.{OBJECTS, BINDINGS, FRAMES, FLAGS, CLASS-FIELDS}
+use Rattle.limits.specs.Limits.{CLASS-FIELDS}
 use Rattle.script.specs.Lists.{sumBelow}
-use Rattle.machine.specs.Config.{Value, nil, ref, Object, Binding, Frame, awaits, casts, locks, Tree, running, returning, failed, join, Config}
-use Rattle.block.specs.Area.{filled, area}
-use Rattle.block.specs.Layout.{WORDS, OBJECT, BINDING, POSITION, FRAME, RUNNING, RETURNING, FAILED, JOIN, AWAITS, CASTS, LOCKS}
+use Rattle.machine.specs.declared.Value.{Value}
+use Rattle.machine.specs.declared.Value.the-variants.{Null as nil, Ref as ref}
+use Rattle.machine.specs.declared.Frame.{Frame}
+use Rattle.machine.specs.declared.Frame.the-variants.{Awaits as awaits, Casts as casts, Locks as locks}
+use Rattle.machine.specs.Config.{Object, Binding, Tree, running, returning, failed, join, Config}
+use Rattle.block.specs.Rows.{filled}
+use Rattle.block.specs.Layout.{Area, Objects, Bindings, Positions, Frames, WORDS, width, most, RUNNING, RETURNING, FAILED, JOIN, AWAITS, CASTS, LOCKS}
 
 -- A value: 0 is null, o + 1 is object number o.
 abbrev pub valueWord : Value → ℕ
@@ -80,18 +84,46 @@ partsOf c =
       frames = framesOf (c .tree);
     }
 
+-- Parts with other objects, other bindings, or other frames.
+abbrev pub withObjects : Parts → List Object → Parts
+withObjects p os = record { objects = os; bindings = p .bindings; positions = p .positions; frames = p .frames }
+
+abbrev pub withBindings : Parts → List Binding → Parts
+withBindings p bs = record { objects = p .objects; bindings = bs; positions = p .positions; frames = p .frames }
+
+abbrev pub withFrames : Parts → List Frame → Parts
+withFrames p fs = record { objects = p .objects; bindings = p .bindings; positions = p .positions; frames = fs }
+
+-- An object opened or shut, and one with another value in field k.
+abbrev pub withShut : Object → Bool → Object
+withShut o b = record { class = o .class; shut = b; fields = o .fields }
+
+abbrev pub withField : Object → ℕ → Value → Object
+withField o k v = record { class = o .class; shut = o .shut; fields = set (o .fields) k v }
+
+-- The records of an area as rows of words.
+abbrev pub rows : Parts → Area → List (List ℕ)
+rows p Objects = map objectWords (p .objects)
+rows p Bindings = map bindingWords (p .bindings)
+rows p Positions = map positionWords (p .positions)
+rows p Frames = map frameWords (p .frames)
+
+-- The words of an area: its records one after the other, and zeros where no record is.
+unfoldable pub area : Area → List (List ℕ) → List ℕ
+area a rs = filled (width a * most a) (flatten rs)
+
 -- The counts, the areas, each right after the last, and zeros to the end of the block.
 abbrev pub headerWords : Parts → List ℕ
-headerWords p = length (p .objects) ∷ length (p .bindings) ∷ length (p .frames) ∷ length (p .positions) ∷ []
+headerWords p = length (rows p Objects) ∷ length (rows p Bindings) ∷ length (rows p Frames) ∷ length (rows p Positions) ∷ []
 
 unfoldable pub laid : Parts → List ℕ
 laid p =
     filled WORDS
     (headerWords p
-    ++ (area objectWords OBJECT OBJECTS (p .objects)
-    ++ (area bindingWords BINDING BINDINGS (p .bindings)
-    ++ (area positionWords POSITION FLAGS (p .positions)
-    ++ area frameWords FRAME FRAMES (p .frames)))))
+    ++ (area Objects (rows p Objects)
+    ++ (area Bindings (rows p Bindings)
+    ++ (area Positions (rows p Positions)
+    ++ area Frames (rows p Frames)))))
 
 -- The words of a configuration's block, and its bytes.
 abbrev pub blockWords : Config → List ℕ

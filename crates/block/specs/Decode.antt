@@ -1,16 +1,18 @@
 -- The configuration that a block stands for, if it stands for one. "Is the block a well-formed configuration of this script?" begins here.
-use Prim.Native.Nat.{ℕ, zero, suc, _*_}
+use Prim.Native.Nat.{ℕ, zero, suc}
 use mathlib.Core.Bool.{Bool, true, false, cond, _&&_}
 use mathlib.Core.List.{List, [], _∷_, map, reverse}
 use mathlib.Core.Option.{Option, none, some}
 use lib.Dec.{eqb}
 use lib.ListN.{getD, take, drop}
-use Rattle.words.specs.Word.{wordAt}
-use Rattle.machine.specs.Config.{Value, nil, ref, Object, Binding, Frame, awaits, casts, locks, Tree, running, returning, failed, join, Config}
-use Rattle.block.specs.Area.{records}
-use Rattle.block.specs.Layout.{OBJECT-COUNT, BINDING-COUNT, FRAME-COUNT, POSITION-COUNT, OBJECT, BINDING, POSITION, FRAME, OBJECTS-AT, BINDINGS-AT, POSITIONS-AT, FRAMES-AT, RUNNING, RETURNING, JOIN, AWAITS, CASTS}
+use Rattle.machine.specs.declared.Value.{Value}
+use Rattle.machine.specs.declared.Value.the-variants.{Null as nil, Ref as ref}
+use Rattle.machine.specs.declared.Frame.{Frame}
+use Rattle.machine.specs.declared.Frame.the-variants.{Awaits as awaits, Casts as casts, Locks as locks}
+use Rattle.machine.specs.Config.{Object, Binding, Tree, running, returning, failed, join, Config}
+use Rattle.block.specs.Layout.{Objects, Bindings, Positions, Frames, rowsIn, RUNNING, RETURNING, JOIN, AWAITS, CASTS}
 use Rattle.block.specs.Block.{encode}
-use Rattle.block.specs.Fits.{fits}
+use Rattle.block.specs.Fits.{fitsTest}
 
 -- Each record read from its words, as if it were in order.
 abbrev pub valueOf : ℕ → Value
@@ -52,14 +54,9 @@ grove (r ∷ rs) fs =
 -- The configuration read from a block, as if it were in order.
 unfoldable pub configIn : (ℕ → ℕ) → List ℕ → Config
 configIn fieldCount b =
-    let word : (ℕ → ℕ) = λ i. wordAt b (2 * i) in
-    let objects = records word OBJECTS-AT OBJECT (word OBJECT-COUNT) in
-    let bindings = records word BINDINGS-AT BINDING (word BINDING-COUNT) in
-    let positions = records word POSITIONS-AT POSITION (word POSITION-COUNT) in
-    let frames = records word FRAMES-AT FRAME (word FRAME-COUNT) in
     record {
-      stores = record { objects = map (objectOf fieldCount) objects; bindings = reverse (map bindingOf bindings) };
-      tree = getD (grove positions (reverse (map frameOf frames)) .trees) 0 failed;
+      stores = record { objects = map (objectOf fieldCount) (rowsIn b Objects); bindings = reverse (map bindingOf (rowsIn b Bindings)) };
+      tree = getD (grove (rowsIn b Positions) (reverse (map frameOf (rowsIn b Frames))) .trees) 0 failed;
     }
 
 unfoldable pub same : List ℕ → List ℕ → Bool
@@ -71,4 +68,4 @@ same (x ∷ xs) (y ∷ ys) = eqb x y && same xs ys
 -- A block is in order if the configuration read from it fits and has this very block. That this is to say that counts are within the limits, kinds are known, the positions
 -- form one tree with the counted positions and frames, and "bytes with no meaning are 0", is proved: `in-order-decodes`, `decoded-in-order` (InOrder.antt has it word by word).
 unfoldable pub decode : (ℕ → ℕ) → List ℕ → Option Config
-decode fieldCount b = let c = configIn fieldCount b in cond (fits fieldCount c && same (encode c) b) (some c) none
+decode fieldCount b = let c = configIn fieldCount b in cond (fitsTest fieldCount c && same (encode c) b) (some c) none

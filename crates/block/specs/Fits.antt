@@ -1,23 +1,22 @@
 -- The configurations that a block can hold. `fieldCount` says of a class type how many fields the script gives it.
 use Prim.Native.Nat.{ℕ, _<_, _≤_}
 use mathlib.Core.Path.{_≡_}
-use mathlib.Core.Bool.{Bool, true, _&&_}
+use mathlib.Core.Bool.{Bool, _&&_}
 use mathlib.Core.List.{List, [], _∷_}
 use lib.Dec.{eqb, leb, ltb}
 use lib.ListN.{length}
-use Rattle.limits.specs.Limits.{OBJECTS, BINDINGS, FRAMES, FLAGS, CLASS-FIELDS}
+use Rattle.words.specs.Word.{WORD}
+use Rattle.limits.specs.Limits.{CLASS-FIELDS}
 use Rattle.script.specs.Lists.{_∈_}
+use Rattle.script.specs.Questions.{allOf}
 use Rattle.machine.specs.Config.{Object, Config}
-use Rattle.block.specs.Layout.{WORD}
-use Rattle.block.specs.Block.{Parts, partsOf, blockWords}
+use Rattle.block.specs.Layout.{Area, Objects, Bindings, Positions, Frames, most}
+use Rattle.block.specs.Block.{Parts, partsOf, rows, blockWords}
 
 -- "at most 256 objects (class, open or shut, fields), 2,048 variable bindings (name, type, value, the binding beneath), 2,048 waiting frames in all, and a tree of joins
 -- with at most 32 threads", which is one with at most 63 positions (`positions-threads`).
-pub record Few (p : Parts) : Type 0 where
-  pub objects : length (p .objects) ≤ OBJECTS
-  pub bindings : length (p .bindings) ≤ BINDINGS
-  pub frames : length (p .frames) ≤ FRAMES
-  pub positions : length (p .positions) ≤ FLAGS
+abbrev pub Few : Parts → Type 0
+Few p = (a : Area) → length (rows p a) ≤ most a
 
 -- "All words are unsigned 16-bit"
 abbrev pub AllWords : List ℕ → Type 0
@@ -31,16 +30,9 @@ pub record Fits (fieldCount : ℕ → ℕ) (c : Config) : Type 0 where
   pub words : AllWords (blockWords c)
 
 -- The test for it.
-unfoldable pub every : {A : Type 0} → (A → Bool) → List A → Bool
-every test [] = true
-every test (x ∷ xs) = test x && every test xs
-
-unfoldable pub fits : (ℕ → ℕ) → Config → Bool
-fits fieldCount c =
-    leb (length (partsOf c .objects)) OBJECTS
-    && (leb (length (partsOf c .bindings)) BINDINGS
-    && (leb (length (partsOf c .frames)) FRAMES
-    && (leb (length (partsOf c .positions)) FLAGS
-    && (every (λ (o : Object). eqb (length (o .fields)) (fieldCount (o .class))) (c .stores .objects)
-    && (every (λ (o : Object). leb (length (o .fields)) CLASS-FIELDS) (c .stores .objects)
-    && every (λ w. ltb w WORD) (blockWords c))))))
+unfoldable pub fitsTest : (ℕ → ℕ) → Config → Bool
+fitsTest fieldCount c =
+    allOf (λ a. leb (length (rows (partsOf c) a)) (most a)) (Objects ∷ Bindings ∷ Positions ∷ Frames ∷ [])
+    && (allOf (λ (o : Object). eqb (length (o .fields)) (fieldCount (o .class))) (c .stores .objects)
+    && (allOf (λ (o : Object). leb (length (o .fields)) CLASS-FIELDS) (c .stores .objects)
+    && allOf (λ w. ltb w WORD) (blockWords c)))

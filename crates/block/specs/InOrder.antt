@@ -5,9 +5,9 @@ use mathlib.Core.Logic.{_≢_}
 use mathlib.Core.List.{List, [], _∷_}
 use lib.ListN.{length, getD}
 use Rattle.words.specs.Word.{wordAt}
-use Rattle.limits.specs.Limits.{BLOCK, OBJECTS, BINDINGS, FRAMES, FLAGS, CLASS-FIELDS}
+use Rattle.limits.specs.Limits.{BLOCK, CLASS-FIELDS}
 use Rattle.script.specs.Lists.{run, sumBelow}
-use Rattle.block.specs.Layout.{WORDS, OBJECT-COUNT, BINDING-COUNT, FRAME-COUNT, POSITION-COUNT, OBJECT, BINDING, POSITION, FRAME, END, objectByte, bindingByte, positionByte, frameByte, RUNNING, RETURNING, FAILED, JOIN, AWAITS, CASTS, LOCKS}
+use Rattle.block.specs.Layout.{Area, Objects, Positions, Frames, WORDS, width, most, END, counted, wordIn, RUNNING, RETURNING, FAILED, JOIN, AWAITS, CASTS, LOCKS}
 
 -- An object whose words are w: it is open or shut, its class has at most 8 fields, and no other field has a value.
 pub record ObjectOk (fieldCount : ℕ → ℕ) (w : ℕ → ℕ) : Type 0 where
@@ -38,17 +38,11 @@ pub data Trees : List ℕ → ℕ → Type 0 where
 pub record InOrder (fieldCount : ℕ → ℕ) (b : List ℕ) : Type 0 where
   pub long : length b ≡ BLOCK
   pub small : (i : ℕ) → getD b i 0 < 256
-  pub few-objects : wordAt b (2 * OBJECT-COUNT) ≤ OBJECTS
-  pub few-bindings : wordAt b (2 * BINDING-COUNT) ≤ BINDINGS
-  pub few-frames : wordAt b (2 * FRAME-COUNT) ≤ FRAMES
-  pub few-positions : wordAt b (2 * POSITION-COUNT) ≤ FLAGS
-  pub objects : (i : ℕ) → i < wordAt b (2 * OBJECT-COUNT) → ObjectOk fieldCount (λ j. wordAt b (objectByte i j))
-  pub positions : (i : ℕ) → i < wordAt b (2 * POSITION-COUNT) → PositionOk (λ j. wordAt b (positionByte i j))
-  pub frames : (i : ℕ) → i < wordAt b (2 * FRAME-COUNT) → FrameOk (λ j. wordAt b (frameByte i j))
-  pub one-tree : Trees (run (λ i. wordAt b (positionByte i 0)) 0 (wordAt b (2 * POSITION-COUNT))) 1
-  pub all-frames : sumBelow (λ i. wordAt b (positionByte i 4)) (wordAt b (2 * POSITION-COUNT)) ≡ wordAt b (2 * FRAME-COUNT)
-  pub no-object : (i j : ℕ) → wordAt b (2 * OBJECT-COUNT) ≤ i → i < OBJECTS → j < OBJECT → wordAt b (objectByte i j) ≡ 0
-  pub no-binding : (i j : ℕ) → wordAt b (2 * BINDING-COUNT) ≤ i → i < BINDINGS → j < BINDING → wordAt b (bindingByte i j) ≡ 0
-  pub no-position : (i j : ℕ) → wordAt b (2 * POSITION-COUNT) ≤ i → i < FLAGS → j < POSITION → wordAt b (positionByte i j) ≡ 0
-  pub no-frame : (i j : ℕ) → wordAt b (2 * FRAME-COUNT) ≤ i → i < FRAMES → j < FRAME → wordAt b (frameByte i j) ≡ 0
+  pub few : (a : Area) → counted b a ≤ most a
+  pub objects : (i : ℕ) → i < counted b Objects → ObjectOk fieldCount (wordIn b Objects i)
+  pub positions : (i : ℕ) → i < counted b Positions → PositionOk (wordIn b Positions i)
+  pub frames : (i : ℕ) → i < counted b Frames → FrameOk (wordIn b Frames i)
+  pub one-tree : Trees (run (λ i. wordIn b Positions i 0) 0 (counted b Positions)) 1
+  pub all-frames : sumBelow (λ i. wordIn b Positions i 4) (counted b Positions) ≡ counted b Frames
+  pub blank : (a : Area) (i j : ℕ) → counted b a ≤ i → i < most a → j < width a → wordIn b a i j ≡ 0
   pub rest : (n : ℕ) → END ≤ n → n < WORDS → wordAt b (2 * n) ≡ 0

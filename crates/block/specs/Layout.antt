@@ -1,71 +1,66 @@
 -- The layout of a state block: every width, offset and kind, once. "The team writes the byte layout in docs/": docs/BLOCK.md.
 use Prim.Native.Nat.{ℕ, _+_, _*_, _/_}
-use Rattle.limits.specs.Limits.{BLOCK, OBJECTS, BINDINGS, FRAMES, FLAGS, CLASS-FIELDS}
+use mathlib.Core.List.{List}
+pub use Rattle.block.specs.declared.Area.{Area}
+pub use Rattle.block.specs.declared.Area.the-variants.{Objects, Bindings, Positions, Frames}
+use Rattle.words.specs.Word.{wordAt}
+use Rattle.limits.specs.Limits.{BLOCK, OBJECTS, BINDINGS, POSITIONS, FRAMES, CLASS-FIELDS}
+use Rattle.script.specs.Lists.{run}
 
--- The words of the block, and the first number that is no word: "All words are unsigned 16-bit".
+-- The words of the block.
 abbrev pub WORDS : ℕ
 WORDS = BLOCK / 2
 
-abbrev pub WORD : ℕ
-WORD = 65536
-
--- The header: a word for each count. Frames are those of all positions together.
-abbrev pub OBJECT-COUNT : ℕ
-OBJECT-COUNT = 0
-
-abbrev pub BINDING-COUNT : ℕ
-BINDING-COUNT = 1
-
-abbrev pub FRAME-COUNT : ℕ
-FRAME-COUNT = 2
-
-abbrev pub POSITION-COUNT : ℕ
-POSITION-COUNT = 3
-
--- The words of the header, and of a record in each area. An object has a class, whether it is shut, and a value for each field.
+-- The header has a word for each area's count. Frames are those of all positions together.
 abbrev pub HEADER : ℕ
 HEADER = 4
 
-abbrev pub OBJECT : ℕ
-OBJECT = 2 + CLASS-FIELDS
+abbrev pub countWord : Area → ℕ
+countWord Objects = 0
+countWord Bindings = 1
+countWord Frames = 2
+countWord Positions = 3
 
-abbrev pub BINDING : ℕ
-BINDING = 4
+-- The words of a record. An object has a class, whether it is shut, and a value for each field.
+abbrev pub width : Area → ℕ
+width Objects = 2 + CLASS-FIELDS
+width Bindings = 4
+width Positions = 5
+width Frames = 3
 
-abbrev pub POSITION : ℕ
-POSITION = 5
+-- The most records: "at most 256 objects .., 2,048 variable bindings .., 2,048 waiting frames in all, and a tree of joins with at most 32 threads".
+abbrev pub most : Area → ℕ
+most Objects = OBJECTS
+most Bindings = BINDINGS
+most Positions = POSITIONS
+most Frames = FRAMES
 
-abbrev pub FRAME : ℕ
-FRAME = 3
-
--- Where each area begins, in words: right after the one before it; and the first word after the last. A tree with the most threads has as many positions as Offer has flags.
-abbrev pub OBJECTS-AT : ℕ
-OBJECTS-AT = HEADER
-
-abbrev pub BINDINGS-AT : ℕ
-BINDINGS-AT = OBJECTS-AT + OBJECT * OBJECTS
-
-abbrev pub POSITIONS-AT : ℕ
-POSITIONS-AT = BINDINGS-AT + BINDING * BINDINGS
-
-abbrev pub FRAMES-AT : ℕ
-FRAMES-AT = POSITIONS-AT + POSITION * FLAGS
+-- Where an area begins, in words: right after the one before it; and the first word after the last.
+abbrev pub begins : Area → ℕ
+begins Objects = HEADER
+begins Bindings = HEADER + width Objects * OBJECTS
+begins Positions = HEADER + width Objects * OBJECTS + width Bindings * BINDINGS
+begins Frames = HEADER + width Objects * OBJECTS + width Bindings * BINDINGS + width Positions * POSITIONS
 
 abbrev pub END : ℕ
-END = FRAMES-AT + FRAME * FRAMES
+END = begins Frames + width Frames * FRAMES
 
--- The byte at which a word of a record stands: word j of object, binding, position or frame i.
-abbrev pub objectByte : ℕ → ℕ → ℕ
-objectByte i j = 2 * (OBJECTS-AT + OBJECT * i + j)
+-- The byte at which an area's count stands, and that at which word j of its record i stands.
+abbrev pub countByte : Area → ℕ
+countByte a = 2 * countWord a
 
-abbrev pub bindingByte : ℕ → ℕ → ℕ
-bindingByte i j = 2 * (BINDINGS-AT + BINDING * i + j)
+abbrev pub wordByte : Area → ℕ → ℕ → ℕ
+wordByte a i j = 2 * (begins a + width a * i + j)
 
-abbrev pub positionByte : ℕ → ℕ → ℕ
-positionByte i j = 2 * (POSITIONS-AT + POSITION * i + j)
+-- What stands there in the bytes b: the count, word j of record i, and the counted records as rows of words.
+abbrev pub counted : List ℕ → Area → ℕ
+counted b a = wordAt b (countByte a)
 
-abbrev pub frameByte : ℕ → ℕ → ℕ
-frameByte i j = 2 * (FRAMES-AT + FRAME * i + j)
+abbrev pub wordIn : List ℕ → Area → ℕ → ℕ → ℕ
+wordIn b a i j = wordAt b (wordByte a i j)
+
+unfoldable pub rowsIn : List ℕ → Area → List (List ℕ)
+rowsIn b a = run (λ i. run (wordIn b a i) 0 (width a)) 0 (counted b a)
 
 -- What a position is: a thread at a node, a thread with a value, a failed thread, or a join.
 abbrev pub RUNNING : ℕ

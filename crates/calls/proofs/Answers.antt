@@ -1,4 +1,4 @@
--- The calls answer what document 01 says, and question 21 on bytes decides whether a block stands for a well-formed configuration.
+-- The calls answer what document 01 says, and the question about the block's form, on bytes, decides whether a block stands for a well-formed configuration.
 use mathlib.Core.Path.{_≡_, refl, sym, ap}
 use mathlib.Core.Bool.{Bool, true, false}
 use mathlib.Core.List.{List}
@@ -15,16 +15,17 @@ use Rattle.typing.specs.declared.Verdict.the-variants.{Accepted, Refused}
 use Rattle.typing.specs.Check.{checkOf}
 use Rattle.typing.proofs.Exact.{outside-refused}
 use Rattle.machine.specs.Config.{Config, codeOf}
-use Rattle.machine.specs.Machine.{limits, initial}
+use Rattle.machine.specs.Machine.{fieldCount, limits, initial}
 use Rattle.machine.specs.Decide.{only, wellFormedTest}
-use Rattle.machine.specs.Accepted.{Accepted as Accepts}
+use Rattle.machine.specs.Accepted.{AcceptedCode}
 use Rattle.machine.proofs.Accepted.{accepted}
 use Rattle.machine.proofs.Decide.{decides-well-formed}
 use Rattle.block.specs.Fits.{Fits}
 use Rattle.block.specs.Decode.{decode}
 use Rattle.block.proofs.Decode.{decode-encode, encode-decode}
-use Rattle.calls.specs.Calls.{Questioned, no-at, yes-with, askScript, ask, askForm, fieldCount, wellFormed, configOf, blockLong, choicesFew, flagsLong, startAsked, blockAsked, startedFrom, startOf, offeredFrom, offerOf, ranFrom, runOf}
-use Rattle.calls.specs.Answers.{Holds, Stands, found, NoTo, by-script, by-length, by-buffer, by-form, StartAnswers, start-refused, started, OfferAnswers, offer-refused, offered, RunAnswers, run-refused, has-run}
+use Rattle.calls.specs.declared.LentQuestion.the-variants.{BlockLength, BufferLength}
+use Rattle.calls.specs.Calls.{Questioned, no-at, yes-with, askScript, ask, askForm, wellFormed, configOf, blockLong, choicesFew, flagsLong, startAsked, blockAsked, startedFrom, startOf, offeredFrom, offerOf, ranFrom, runOf}
+use Rattle.calls.specs.Answers.{Holds, Stands, found, FirstNoTo, by-script, by-length, by-buffer, by-form, StartAnswers, start-refused, started, OfferAnswers, offer-refused, offered, RunAnswers, run-refused, has-run}
 use Rattle.calls.proofs.Fits.{well-fits}
 
 only-some : (a : Bool) (x c : Config) → only a (some x) ≡ some c → (a ≡ true) × (x ≡ c)
@@ -40,12 +41,12 @@ well-formed-some s t (some x) c e =
 
 -- What the questions about a block come to.
 data Answers (s b : List ℕ) (Fine Off : Type 0) : Questioned → Type 0 where
-  said-no : {n place : ℕ} → NoTo s b Fine Off n place → Answers s b Fine Off (no-at n place)
+  said-no : {n place : ℕ} → FirstNoTo s b Fine Off n place → Answers s b Fine Off (no-at n place)
   said-yes : {t : ℕ} {c : Config} → checkOf s ≡ Accepted t → Fine → Holds s t b c → Answers s b Fine Off (yes-with c)
 
 module _ (s : List ℕ) (bytes : (i : ℕ) → getD s i 0 < 256) where
   module _ (t : ℕ) (acc : checkOf s ≡ Accepted t) where
-    pub accepts : Accepts (codeOf s) t
+    pub accepts : AcceptedCode (codeOf s) t
     accepts = accepted s t bytes acc
 
     -- The configuration that a block holds fits in it, so it is found; and what is found is held.
@@ -66,7 +67,7 @@ module _ (s : List ℕ) (bytes : (i : ℕ) → getD s i 0 < 256) where
     stands-found b none e = fails (λ x. let y = holds-config (x .holds) in let z : _≡_ {A = ℕ} 0 1 = cc in omega arith)
     stands-found b (some c) e = holds (record { config = c; holds = config-holds b c e })
 
-    -- Question 21's test on bytes says whether the block is that of a well-formed configuration.
+    -- The test on bytes says whether the block is that of a well-formed configuration.
     pub decides-stands : (b : List ℕ) → Decides (Stands s t b) (found (configOf s t b))
     decides-stands b = stands-found b (configOf s t b) refl
 
@@ -75,15 +76,15 @@ module _ (s : List ℕ) (bytes : (i : ℕ) → getD s i 0 < 256) where
     by-config t acc l f none e = said-no (by-form acc l f (λ x. let y = holds-config t acc (x .holds) in let z : _≡_ {A = ℕ} 0 1 = cc in omega arith))
     by-config t acc l f (some c) e = said-yes acc f (config-holds t acc b c e)
 
-    by-lent : (t : ℕ) → checkOf s ≡ Accepted t → length b ≡ BLOCK → (a : Bool) → lent ≡ a → Answers s b Fine Off (ask 22 a (askForm (configOf s t b)))
+    by-lent : (t : ℕ) → checkOf s ≡ Accepted t → length b ≡ BLOCK → (a : Bool) → lent ≡ a → Answers s b Fine Off (ask BufferLength a (askForm (configOf s t b)))
     by-lent t acc l true e = by-config t acc l (fine e) (configOf s t b) refl
     by-lent t acc l false e = said-no (by-buffer acc l (off e))
 
-    by-block : (t : ℕ) → checkOf s ≡ Accepted t → (a : Bool) → blockLong b ≡ a → Answers s b Fine Off (ask 20 a (ask 22 lent (askForm (configOf s t b))))
+    by-block : (t : ℕ) → checkOf s ≡ Accepted t → (a : Bool) → blockLong b ≡ a → Answers s b Fine Off (ask BlockLength a (ask BufferLength lent (askForm (configOf s t b))))
     by-block t acc true e = by-lent t acc (eqb-true (length b) BLOCK e) lent refl
     by-block t acc false e = said-no (by-length acc (eqb-false (length b) BLOCK e))
 
-    by-check : (v : Verdict) → checkOf s ≡ v → Answers s b Fine Off (askScript v (λ t. ask 20 (blockLong b) (ask 22 lent (askForm (configOf s t b)))))
+    by-check : (v : Verdict) → checkOf s ≡ v → Answers s b Fine Off (askScript v (λ t. ask BlockLength (blockLong b) (ask BufferLength lent (askForm (configOf s t b)))))
     by-check (Accepted t) e = by-block t e (blockLong b) refl
     by-check (Refused q place) e = said-no (by-script e)
 
@@ -113,11 +114,11 @@ module _ (s : List ℕ) (bytes : (i : ℕ) → getD s i 0 < 256) where
 
 -- Start, on all inputs: it asks no question about the block's bytes.
 module _ (s b : List ℕ) where
-  start-block : (t : ℕ) → checkOf s ≡ Accepted t → (a : Bool) → blockLong b ≡ a → StartAnswers s b (startedFrom b (ask 20 a (yes-with initial)))
+  start-block : (t : ℕ) → checkOf s ≡ Accepted t → (a : Bool) → blockLong b ≡ a → StartAnswers s b (startedFrom b (ask BlockLength a (yes-with initial)))
   start-block t acc true e = started acc (eqb-true (length b) BLOCK e)
   start-block t acc false e = start-refused (by-length acc (eqb-false (length b) BLOCK e))
 
-  start-check : (v : Verdict) → checkOf s ≡ v → StartAnswers s b (startedFrom b (askScript v (λ t. ask 20 (blockLong b) (yes-with initial))))
+  start-check : (v : Verdict) → checkOf s ≡ v → StartAnswers s b (startedFrom b (askScript v (λ t. ask BlockLength (blockLong b) (yes-with initial))))
   start-check (Accepted t) e = start-block t e (blockLong b) refl
   start-check (Refused q place) e = start-refused (by-script e)
 

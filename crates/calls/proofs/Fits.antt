@@ -6,8 +6,9 @@ use mathlib.Core.Logic.{⊎-elim}
 use mathlib.Core.Option.{some}
 use Prim.Native.Nat.{ℕ, zero, suc, _+_, _<_, _≤_}
 use native.Mathlib.Omega.{arith}
-use lib.ListN.{length, length-append, length-reverse}
+use lib.ListN.{length, length-append, length-map, length-reverse}
 use borrow.Author.Tests.{eq-eqb}
+use Rattle.words.specs.Word.{WORD}
 use Rattle.limits.specs.Limits.{CLASS-FIELDS, BINDINGS, OBJECTS, FRAMES, NODES}
 use Rattle.script.specs.declared.Section.the-variants.{Interfaces as interfaces, Classes as classes, Nodes as nodes}
 use Rattle.script.specs.Lists.{_∈_, sumBelow}
@@ -17,15 +18,20 @@ use Rattle.script.specs.Regular.{IsType, IsClass}
 use Rattle.script.specs.Statements.{WithinLayout}
 use Rattle.script.proofs.Lists.{length-run}
 use Rattle.script.proofs.Declarations.{length-interfaces, length-classes, a-class-at, class-from}
-use Rattle.machine.specs.Config.{Code, codeOf, Value, Object, Binding, Stores, Frame, awaits, casts, locks, Tree, running, returning, failed, join, Config}
-use Rattle.machine.specs.Machine.{object, limits, lockFrames, frameCount, threadCount}
-use Rattle.machine.specs.WellFormed.{Want, Fits as FitsWant, fits-nil, fits-ref, BindingsOk, no-bindings, a-binding, FieldsOk, no-fields, a-field, ObjectOk, FramesOk, no-frames, a-node, a-cast, a-lock, TreeOk, running-ok, returning-ok, failed-ok, join-ok, lockCount, shutAt, WellFormed}
-use Rattle.block.specs.Layout.{WORD, RUNNING, RETURNING, FAILED, JOIN, AWAITS, CASTS, LOCKS}
-use Rattle.block.specs.Block.{valueWord, shutWord, bindingWords, preorder, positionWords, framesOf, frameWords, partsOf}
+use Rattle.machine.specs.declared.Value.{Value}
+use Rattle.machine.specs.declared.Frame.{Frame}
+use Rattle.machine.specs.declared.Frame.the-variants.{Awaits as awaits, Casts as casts, Locks as locks}
+use Rattle.machine.specs.Config.{Code, codeOf, Object, Binding, Stores, Tree, running, returning, failed, join, Config}
+use Rattle.machine.specs.Machine.{fieldCount, object, limits, lockFrames, frameCount}
+use Rattle.machine.specs.declared.Want.{Want}
+use Rattle.machine.specs.WellFormed.{ValueFits as FitsWant, fits-nil, fits-ref, BindingsOk, no-bindings, a-binding, FieldsOk, no-fields, a-field, TypedObject, FramesOk, no-frames, a-node, a-cast, a-lock, TreeOk, running-ok, returning-ok, failed-ok, join-ok, lockCount, shutAt, WellFormed}
+use Rattle.machine.proofs.Stores.{object-below, fields-long}
+use Rattle.block.specs.declared.Area.the-variants.{Objects, Bindings, Positions, Frames}
+use Rattle.block.specs.Layout.{RUNNING, RETURNING, FAILED, JOIN, AWAITS, CASTS, LOCKS}
+use Rattle.block.specs.Block.{valueWord, shutWord, objectWords, bindingWords, preorder, positionWords, framesOf, frameWords, partsOf}
 use Rattle.block.specs.Fits.{AllWords, Few, Fits}
-use Rattle.block.proofs.Trees.{threads, positions-threads, frames-join}
+use Rattle.block.proofs.Trees.{positions-threads, frames-join}
 use Rattle.block.proofs.Fits.{cons-words, filled-words, laid-words}
-use Rattle.calls.specs.Calls.{fieldCount}
 
 in-reverse : {A : Type 0} (xs : List A) (a : A) → a ∈ reverse xs → a ∈ xs
 in-reverse [] a m = m
@@ -42,11 +48,6 @@ object-in : (xs : List Object) (x : Object) → x ∈ xs → (o : ℕ) × (objec
 object-in [] x m = absurd (List·Memᴰ·not-nil m)
 object-in (y ∷ xs) x m = ⊎-elim (λ (e : x ≡ y). (0, rw e refl)) (λ (k : x ∈ xs). let r = object-in xs x k in (suc (r .0), r .1)) (List·Memᴰ·cases-cons m)
 
-object-below : (xs : List Object) (o : ℕ) (x : Object) → object xs o ≡ some x → o < length xs
-object-below [] o x e = let z : _≡_ {A = ℕ} 0 1 = cc in absurd (omega arith)
-object-below (y ∷ xs) zero x e = omega arith
-object-below (y ∷ xs) (suc o) x e = omega (arith, object-below xs o x e)
-
 shut-below : (xs : List Object) (o : ℕ) → 1 ≤ shutAt xs o → o < length xs
 shut-below [] o h = absurd (omega (arith, h))
 shut-below (y ∷ xs) zero h = omega arith
@@ -56,15 +57,8 @@ shut-small : (b : Bool) → shutWord b < WORD
 shut-small true = omega arith
 shut-small false = omega arith
 
--- the counts of a tree are those of its lists
-threads-many : (t : Tree) → threads t ≡ threadCount t
-unfolding threads
-threads-many (running p e fs) = refl
-threads-many (returning v fs) = refl
-threads-many failed = refl
-threads-many (join fs p e l r) = omega (arith, threads-many l, threads-many r)
-
-frames-many : (t : Tree) → length (framesOf t) ≡ frameCount t
+-- the frames of a tree are those of its list
+pub frames-many : (t : Tree) → length (framesOf t) ≡ frameCount t
 unfolding framesOf preorder flatMap
 frames-many (running p e fs) = omega (arith, length-append (reverse fs) [], length-reverse fs)
 frames-many (returning v fs) = omega (arith, length-append (reverse fs) [], length-reverse fs)
@@ -87,10 +81,6 @@ module _ (s : Code) (types : (u : ℕ) → IsType (s .program) u → u < WORD) (
   fields-small : {ds : List Slot} {l : List Value} → FieldsOk s (st .objects) ds l → AllWords (map valueWord l)
   fields-small no-fields = no-words
   fields-small (a-field {v = v} {l = l} h k) = cons-words (valueWord v) (map valueWord l) (value-small h) (fields-small k)
-
-  fields-long : {ds : List Slot} {l : List Value} → FieldsOk s (st .objects) ds l → length l ≡ length ds
-  fields-long no-fields = refl
-  fields-long (a-field h k) = omega (arith, fields-long k)
 
   bindings-small : {bs : List Binding} → BindingsOk s (st .objects) bs → length bs ≤ BINDINGS → (b : Binding) → b ∈ bs → AllWords (bindingWords b)
   bindings-small no-bindings few b m = absurd (List·Memᴰ·not-nil m)
@@ -176,8 +166,8 @@ module _ (s : List ℕ) (w : WithinLayout s) where
   well-fits {t} {c} h =
       record {
         few = few;
-        own-fields = λ o m. fields-long (codeOf s) types-small most (c .stores) objects (h .within .bindings) (ok o m .fields);
-        few-fields = λ o m. omega (arith, fields-long (codeOf s) types-small most (c .stores) objects (h .within .bindings) (ok o m .fields), few-fields (o .class) (ok o m .class));
+        own-fields = λ o m. fields-long (ok o m .fields);
+        few-fields = λ o m. omega (arith, fields-long (ok o m .fields), few-fields (o .class) (ok o m .class));
         words =
             laid-words (partsOf c) few
             (λ o m.
@@ -194,14 +184,11 @@ module _ (s : List ℕ) (w : WithinLayout s) where
       objects : length (c .stores .objects) ≤ OBJECTS
       objects = h .within .objects
 
-      ok : (o : Object) → o ∈ c .stores .objects → ObjectOk (codeOf s) (c .stores .objects) o
+      ok : (o : Object) → o ∈ c .stores .objects → TypedObject (codeOf s) (c .stores .objects) o
       ok o m = let i = object-in (c .stores .objects) o m in h .formed .stores .heap (i .0) o (i .1)
 
       few : Few (partsOf c)
-      few =
-          record {
-            objects = objects;
-            bindings = omega (arith, length-reverse (c .stores .bindings), h .within .bindings);
-            frames = omega (arith, frames-many (c .tree), h .within .frames);
-            positions = omega (arith, positions-threads (c .tree), threads-many (c .tree), h .within .threads);
-          }
+      few Objects = omega (arith, length-map (c .stores .objects) objectWords, objects)
+      few Bindings = omega (arith, length-map (reverse (c .stores .bindings)) bindingWords, length-reverse (c .stores .bindings), h .within .bindings)
+      few Positions = omega (arith, length-map (preorder (c .tree)) positionWords, positions-threads (c .tree), h .within .threads)
+      few Frames = omega (arith, length-map (framesOf (c .tree)) frameWords, frames-many (c .tree), h .within .frames)

@@ -10,12 +10,12 @@ use Rattle.limits.specs.Limits.{CHOICES}
 use Rattle.typing.specs.declared.Verdict.the-variants.{Accepted}
 use Rattle.typing.specs.Check.{checkOf}
 use Rattle.machine.specs.Config.{Config, codeOf}
-use Rattle.machine.specs.Machine.{limits, initial}
+use Rattle.machine.specs.Machine.{fieldCount, limits, initial}
 use Rattle.machine.specs.Calls.{Call, starts, offers, runs, refused, leaves, AnyCall, NotStart, Seen, at-first, between, after, Later, from-first, in-run, from-run, after-both, Next, next-choice, next-start, after-next}
 use Rattle.machine.specs.Runs.{report}
 use Rattle.machine.proofs.Calls.{demand-three}
 use Rattle.block.proofs.Decode.{one-config}
-use Rattle.calls.specs.Calls.{fieldCount, choicesFew, runOf}
+use Rattle.calls.specs.Calls.{choicesFew, runOf}
 use Rattle.calls.specs.Answers.{Holds}
 use Rattle.calls.specs.Lists.{Lent, to-start, to-offer, to-run, blockAfter, AnyLent, NotToStart, Had, first-block, between-moves, after-call, HadLater, from-block, in-one-run, past-run, both-after, HadNext, one-choice, one-start, next-after, OfBoth, DemandThreeOf}
 use Rattle.calls.proofs.Answers.{accepts, holds-fits}

@@ -1,5 +1,5 @@
 -- Published steps are reached, on bytes.
-use mathlib.Core.Path.{_≡_, refl}
+use mathlib.Core.Path.{_≡_, refl, ap}
 use mathlib.Core.Bool.{false}
 use mathlib.Core.List.{List, [], _∷_, _++_}
 use mathlib.Core.Logic.{_⊎_, inl, inr, ⊎-elim}
@@ -9,6 +9,9 @@ use lib.ListN.{length, getD, length-append}
 use Rattle.limits.specs.Limits.{CHOICES}
 use Rattle.typing.specs.declared.Verdict.the-variants.{Accepted}
 use Rattle.typing.specs.Check.{checkOf}
+use Rattle.machine.specs.declared.Store.{Store}
+use Rattle.machine.specs.declared.Stop.the-variants.{Full}
+use Rattle.machine.specs.Stops.{stopNumber}
 use Rattle.machine.specs.Config.{Config, codeOf}
 use Rattle.machine.specs.Machine.{limits, full, Path, move}
 use Rattle.machine.specs.ReadAs.{Reading, reading, Steps}
@@ -34,7 +37,7 @@ module _ (s : List ℕ) (bytes : (i : ℕ) → getD s i 0 < 256) (t : ℕ) (acc 
         holds = run-holds s bytes t acc h ns few;
         ends =
             rw (run-reply s bytes t acc h ns few)
-            (⊎-elim (λ (z : (4 ≤ report (codeOf s) limits c ns .stop) × (move (codeOf s) limits (r .middle) p ≡ full (report (codeOf s) limits c ns .stop))). inl z)
+            (⊎-elim (λ (z : (k : Store) × (report (codeOf s) limits c ns .stop ≡ Full k) × (move (codeOf s) limits (r .middle) p ≡ full k)). inl (z .0, ap stopNumber (z .1), z .2))
             (λ (z : (report (codeOf s) limits c ns .moves ≡ suc (length (r .silent))) × (reading (codeOf s) (report (codeOf s) limits c ns .config) ≡ q) × (quietIn (codeOf s) (part (r .middle .tree) p) ≡ false)).
             inr (omega (arith, z .0, many), z .1))
             (r .ends));

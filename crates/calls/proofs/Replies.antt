@@ -11,13 +11,14 @@ use Rattle.script.proofs.Lists.{getD-run}
 use Rattle.typing.specs.declared.Verdict.the-variants.{Accepted}
 use Rattle.typing.specs.Check.{checkOf}
 use Rattle.machine.specs.Config.{Config, codeOf}
-use Rattle.machine.specs.Machine.{oneIf, limits, canMove, initial}
+use Rattle.machine.specs.Machine.{fieldCount, oneIf, limits, canMove, initial}
 use Rattle.machine.specs.Runs.{report}
 use Rattle.machine.proofs.Positions.{initial-well}
 use Rattle.machine.proofs.Run.{run-leaves}
 use Rattle.block.proofs.Words.{encode-length}
 use Rattle.block.proofs.Fits.{encode-bytes}
-use Rattle.calls.specs.Calls.{Questioned, no-at, yes-with, fieldCount, flagsLong, startAsked, blockAsked, startOf, flagsOf, offeredFrom, offerOf, ran, runOf}
+use Rattle.calls.specs.declared.LentQuestion.the-variants.{BufferLength}
+use Rattle.calls.specs.Calls.{Questioned, no-at, yes-with, lentNumber, flagsLong, startAsked, blockAsked, startOf, flagsOf, offeredFrom, offerOf, ran, runOf}
 use Rattle.calls.specs.Answers.{Holds}
 use Rattle.calls.proofs.Answers.{accepts, holds-fits, holds-config}
 
@@ -64,8 +65,8 @@ module _ (s : List ℕ) (bytes : (i : ℕ) → getD s i 0 < 256) (t : ℕ) (acc 
       → Holds s t (runOf s b ns .block) (report (codeOf s) limits c ns .config)
   run-holds {b} {c} h ns l = rw (run-reply h ns l) (record { is = refl; well = run-leaves (accepts s bytes t acc) limits ns c (h .well) .formed })
 
-  -- Run with too many choices is refused by question 22, whatever the block holds.
+  -- Run with too many choices is refused, whatever the block holds.
   pub run-too-long : (b ns : List ℕ) → length b ≡ BLOCK → CHOICES < length ns
-      → runOf s b ns ≡ record { number = 22; place = 0; stop = 0; read = 0; moves = 0; block = b }
+      → runOf s b ns ≡ record { number = lentNumber BufferLength; place = 0; stop = 0; read = 0; moves = 0; block = b }
   unfolding runOf blockAsked
   run-too-long b ns l m = rw (acc, eq-eqb (length b) BLOCK l, lt-leb (length ns) CHOICES m) refl

@@ -2,7 +2,7 @@
 use mathlib.Core.Path.{_≡_, refl, sym, ap, _∙_}
 use mathlib.Core.Bool.{Bool, true, false}
 use mathlib.Core.List.{List, [], _∷_, _++_}
-use mathlib.Core.Logic.{_⊎_, ⊎-elim}
+use mathlib.Core.Logic.{_⊎_, inl, inr, ⊎-elim}
 use Prim.Native.Nat.{ℕ, _+_, _<_, _≤_}
 use native.Mathlib.Omega.{arith}
 use lib.ListN.{length, getD, length-append}
@@ -12,16 +12,21 @@ use Rattle.script.specs.declared.Question.the-variants.{Length, Counts, Places,
 use Rattle.script.specs.Asking.{numberOf}
 use Rattle.typing.specs.declared.Verdict.the-variants.{Accepted}
 use Rattle.typing.specs.Check.{checkOf}
+use Rattle.machine.specs.declared.Store.{Store}
+use Rattle.machine.specs.declared.Ending.{Ending}
+use Rattle.machine.specs.declared.Stop.the-variants.{Spent, Ended, Full}
+use Rattle.machine.specs.Stops.{storeNumber, endingNumber, stopNumber}
 use Rattle.machine.specs.Config.{Config, codeOf}
 use Rattle.machine.specs.Machine.{oneIf, limits, still, choice, canMove}
 use Rattle.machine.specs.Standing.{End}
 use Rattle.machine.specs.Runs.{Report, report}
+use Rattle.machine.proofs.Stops.{one-stop}
 use Rattle.machine.proofs.Run.{run-runs, run-leaves, run-all, run-more, stopped-still, still-stopped}
 use Rattle.machine.proofs.Short.{stop-short}
 use Rattle.machine.proofs.Promise.{flag-set, flag-clear}
 use Rattle.block.specs.Block.{encode}
 use Rattle.calls.specs.Calls.{Offered, Ran, ran, flagsOf, offerOf, runOf}
-use Rattle.calls.specs.Answers.{Holds, NoTo, by-script, by-length, by-buffer, by-form, OfferAnswers, offer-refused, offered, RunAnswers, run-refused, has-run, Left}
+use Rattle.calls.specs.Answers.{Holds, FirstNoTo, by-script, by-length, by-buffer, by-form, OfferAnswers, offer-refused, offered, RunAnswers, run-refused, has-run, Left}
 use Rattle.calls.specs.Lists.{runOnto}
 use Rattle.calls.proofs.Answers.{accepts, run-answers, offer-answers}
 use Rattle.calls.proofs.Replies.{flag-is, run-reply, run-holds}
@@ -44,7 +49,7 @@ number-some Fits e = omega arith
 number-some Sharing e = omega arith
 
 -- a refusal has a number
-no-number : {s b : List ℕ} {Fine Off : Type 0} {n place : ℕ} → NoTo s b Fine Off n place → n ≡ 0 → ⊥
+no-number : {s b : List ℕ} {Fine Off : Type 0} {n place : ℕ} → FirstNoTo s b Fine Off n place → n ≡ 0 → ⊥
 no-number (by-script {q = q} x) e = number-some q e
 no-number (by-length x y) e = omega arith
 no-number (by-buffer x y z) e = omega arith
@@ -69,14 +74,14 @@ offer-had : {s b fl : List ℕ} (r : Offered) → OfferAnswers s b fl r → r .n
 offer-had _ (offer-refused x) e = absurd (no-number x e)
 offer-had _ (offered {t = t} {c = c} acc f h) e = record { had = record { type = t; accepted = acc; fine = f; config = c; holds = h }; are = refl }
 
--- It stops with 1, 2 or 3 exactly when it leaves nothing that can move, and then in that one of the three cases.
-pub run-ended : {s b ns : List ℕ} (x : Left s b ns) → 1 ≤ runOf s b ns .stop → runOf s b ns .stop ≤ 3
-    → End (codeOf s) (x .outcome .config) (runOf s b ns .stop) × ((n : ℕ) → choice (codeOf s) limits (x .outcome .config) n ≡ still)
-run-ended x = rw (x .reply) (stopped-still (x .stopped))
+-- It stops with the number of an ending exactly when it leaves nothing that can move, and then in that one of the three cases.
+pub run-ended : {s b ns : List ℕ} (x : Left s b ns) (k : Ending) → runOf s b ns .stop ≡ endingNumber k
+    → End (codeOf s) (x .outcome .config) k × ((n : ℕ) → choice (codeOf s) limits (x .outcome .config) n ≡ still)
+run-ended x k e = stopped-still (rw (one-stop (x .outcome .stop) (Ended k) (rw (x .reply) at e)) at (x .stopped))
 
 pub ended-run : {s b ns : List ℕ} (x : Left s b ns) → ((n : ℕ) → choice (codeOf s) limits (x .outcome .config) n ≡ still)
-    → (1 ≤ runOf s b ns .stop) × (runOf s b ns .stop ≤ 3)
-ended-run x = rw (x .reply) (still-stopped (x .stopped))
+    → (k : Ending) × (runOf s b ns .stop ≡ endingNumber k)
+ended-run x h = let q = still-stopped (x .stopped) h in (q .0, rw (x .reply) (ap stopNumber (q .1)))
 
 one-true : (a : Bool) → oneIf a ≡ 1 → a ≡ true
 one-true true e = refl
@@ -89,6 +94,11 @@ none-true false e = refl
 not-none : (a : Bool) {k : ℕ} → k ≡ oneIf a → (k ≡ 0 → ⊥) → k ≡ 1
 not-none true e n = e
 not-none false e n = absurd (n e)
+
+-- the number of a full store is that of no other stop
+no-store : {m : ℕ} (k : Store) → m ≡ storeNumber k → (m ≡ stopNumber Spent) ⊎ ((i : Ending) × (m ≡ endingNumber i)) → ⊥
+no-store k e (inl z) = let i : Full k ≡ Spent = one-stop (Full k) Spent (sym e ∙ z) in let z : _≡_ {A = ℕ} 0 1 = cc in omega arith
+no-store k e (inr x) = let i : Full k ≡ Ended (x .0) = one-stop (Full k) (Ended (x .0)) (sym e ∙ x .1) in let z : _≡_ {A = ℕ} 0 1 = cc in omega arith
 
 module _ (s : List ℕ) (bytes : (i : ℕ) → getD s i 0 < 256) where
   left-by : (b ns : List ℕ) → Opened s b (length ns ≤ CHOICES) → Left s b ns
@@ -107,7 +117,7 @@ module _ (s : List ℕ) (bytes : (i : ℕ) → getD s i 0 < 256) where
         reply = run-reply s bytes (x .type) (x .accepted) (x .holds) ns (x .fine);
         holds = run-holds s bytes (x .type) (x .accepted) (x .holds) ns (x .fine);
         stopped = run-leaves a limits ns c (x .holds .well) .stopped;
-        spent = run-all a limits ns c (x .holds .well);
+        spent = run-all (codeOf s) limits ns c;
         full = stop-short a limits ns c (x .holds .well);
       }
 
@@ -115,51 +125,51 @@ module _ (s : List ℕ) (bytes : (i : ℕ) → getD s i 0 < 256) where
   pub run-left : (b ns : List ℕ) → runOf s b ns .number ≡ 0 → Left s b ns
   run-left b ns e = left-by b ns (run-had (runOf s b ns) (run-answers s bytes b ns) e)
 
-  goes-on : (b ns ms : List ℕ) → Opened s b (length ns ≤ CHOICES) → runOf s b ns .stop ≡ 0 → length (ns ++ ms) ≤ CHOICES
+  goes-on : (b ns ms : List ℕ) → Opened s b (length ns ≤ CHOICES) → runOf s b ns .stop ≡ stopNumber Spent → length (ns ++ ms) ≤ CHOICES
       → runOf s b (ns ++ ms) ≡ runOnto (runOf s b ns) (runOf s (runOf s b ns .block) ms)
   goes-on b ns ms x z l =
       let first = run-reply s bytes (x .type) (x .accepted) (x .holds) ns (x .fine) in
       let part : length ms ≤ CHOICES = omega (arith, l, length-append ns ms) in
-      let more = run-more (accepts s bytes (x .type) (x .accepted)) limits ns ms (x .config) (x .holds .well) (rw first at z) in
+      let more = run-more (codeOf s) limits ns ms (x .config) (one-stop (report (codeOf s) limits (x .config) ns .stop) Spent (rw first at z)) in
       let k = run-holds s bytes (x .type) (x .accepted) (x .holds) ns (x .fine) in
       let whole = run-reply s bytes (x .type) (x .accepted) (x .holds) (ns ++ ms) l in
       let rest = run-reply s bytes (x .type) (x .accepted) k ms part in
       whole ∙ ap (λ (r : Report). ran r) more ∙ sym (rw (rest, first) refl)
 
-  -- Where the first part of a list gives stop 0, the Run with the rest on what it left is the Run with the whole list, the counts added.
-  pub run-on : (b ns ms : List ℕ) → runOf s b ns .number ≡ 0 → runOf s b ns .stop ≡ 0 → length (ns ++ ms) ≤ CHOICES
+  -- Where the first part of a list is spent, the Run with the rest on what it left is the Run with the whole list, the counts added.
+  pub run-on : (b ns ms : List ℕ) → runOf s b ns .number ≡ 0 → runOf s b ns .stop ≡ stopNumber Spent → length (ns ++ ms) ≤ CHOICES
       → runOf s b (ns ++ ms) ≡ runOnto (runOf s b ns) (runOf s (runOf s b ns .block) ms)
   run-on b ns ms e z l = goes-on b ns ms (run-had (runOf s b ns) (run-answers s bytes b ns) e) z l
 
   moves-by : (b fl : List ℕ) → Flags s b fl (offerOf s b fl) → (n : ℕ) → n < FLAGS → getD (offerOf s b fl .flags) n 0 ≡ 1
-      → (runOf s b (n ∷ []) .moves ≡ 1) ⊎ (4 ≤ runOf s b (n ∷ []) .stop)
+      → (runOf s b (n ∷ []) .moves ≡ 1) ⊎ ((k : Store) × (runOf s b (n ∷ []) .stop ≡ storeNumber k))
   moves-by b fl f n l e =
       let x = f .had in
       let i = flag-is s (x .config) (offerOf s b fl .flags) (f .are) n l in
       rw (run-reply s bytes (x .type) (x .accepted) (x .holds) (n ∷ []) (omega arith))
-      (flag-set (accepts s bytes (x .type) (x .accepted)) limits (x .config) n (x .holds .well) (one-true (canMove (codeOf s) limits (x .config) n) (sym i ∙ e)))
+      (⊎-elim inl (λ k. inr (k .0, ap stopNumber (k .1))) (flag-set (codeOf s) limits (x .config) n (one-true (canMove (codeOf s) limits (x .config) n) (sym i ∙ e))))
 
   passes-by : (b fl : List ℕ) → Flags s b fl (offerOf s b fl) → (n : ℕ) → n < FLAGS → getD (offerOf s b fl .flags) n 0 ≡ 0
-      → (runOf s b (n ∷ []) .moves ≡ 0) × (runOf s b (n ∷ []) .stop ≤ 3) × (runOf s b (n ∷ []) .block ≡ b)
+      → (runOf s b (n ∷ []) .moves ≡ 0) × ((runOf s b (n ∷ []) .stop ≡ stopNumber Spent) ⊎ ((k : Ending) × (runOf s b (n ∷ []) .stop ≡ endingNumber k))) × (runOf s b (n ∷ []) .block ≡ b)
   passes-by b fl f n l e =
       let x = f .had in
       let i = flag-is s (x .config) (offerOf s b fl .flags) (f .are) n l in
       let c = flag-clear (codeOf s) limits (x .config) n (none-true (canMove (codeOf s) limits (x .config) n) (sym i ∙ e)) in
-      rw (run-reply s bytes (x .type) (x .accepted) (x .holds) (n ∷ []) (omega arith)) (c .0, c .1, ap (λ (d : Config). encode d) (c .2) ∙ sym (x .holds .is))
+      rw (run-reply s bytes (x .type) (x .accepted) (x .holds) (n ∷ []) (omega arith)) (c .0, ⊎-elim (λ z. inl (ap stopNumber z)) (λ k. inr (k .0, ap stopNumber (k .1))) (c .1), ap (λ (d : Config). encode d) (c .2) ∙ sym (x .holds .is))
 
   -- Offer's flag at a position is 1 exactly if a Run with that one choice makes a move or meets a full store.
   pub flag-moves : (b fl : List ℕ) → offerOf s b fl .number ≡ 0 → (n : ℕ) → n < FLAGS → getD (offerOf s b fl .flags) n 0 ≡ 1
-      → (runOf s b (n ∷ []) .moves ≡ 1) ⊎ (4 ≤ runOf s b (n ∷ []) .stop)
+      → (runOf s b (n ∷ []) .moves ≡ 1) ⊎ ((k : Store) × (runOf s b (n ∷ []) .stop ≡ storeNumber k))
   flag-moves b fl e = moves-by b fl (offer-had (offerOf s b fl) (offer-answers s bytes b fl) e)
 
   pub moves-flag : (b fl : List ℕ) → offerOf s b fl .number ≡ 0 → (n : ℕ) → n < FLAGS
-      → (runOf s b (n ∷ []) .moves ≡ 1) ⊎ (4 ≤ runOf s b (n ∷ []) .stop) → getD (offerOf s b fl .flags) n 0 ≡ 1
+      → (runOf s b (n ∷ []) .moves ≡ 1) ⊎ ((k : Store) × (runOf s b (n ∷ []) .stop ≡ storeNumber k)) → getD (offerOf s b fl .flags) n 0 ≡ 1
   moves-flag b fl e n l m =
       let f = offer-had (offerOf s b fl) (offer-answers s bytes b fl) e in
       not-none (canMove (codeOf s) limits (f .had .config) n) (flag-is s (f .had .config) (offerOf s b fl .flags) (f .are) n l)
-      (λ z. let p = passes-by b fl f n l z in ⊎-elim (λ (a : runOf s b (n ∷ []) .moves ≡ 1). omega (arith, p .0)) (λ (a : 4 ≤ runOf s b (n ∷ []) .stop). omega (arith, p .1)) m)
+      (λ z. let p = passes-by b fl f n l z in ⊎-elim (λ (a : runOf s b (n ∷ []) .moves ≡ 1). omega (arith, p .0)) (λ k. no-store (k .0) (k .1) (p .1)) m)
 
   -- Else it is 0, and the choice is passed over and changes nothing.
   pub flag-passes : (b fl : List ℕ) → offerOf s b fl .number ≡ 0 → (n : ℕ) → n < FLAGS → getD (offerOf s b fl .flags) n 0 ≡ 0
-      → (runOf s b (n ∷ []) .moves ≡ 0) × (runOf s b (n ∷ []) .stop ≤ 3) × (runOf s b (n ∷ []) .block ≡ b)
+      → (runOf s b (n ∷ []) .moves ≡ 0) × ((runOf s b (n ∷ []) .stop ≡ stopNumber Spent) ⊎ ((k : Ending) × (runOf s b (n ∷ []) .stop ≡ endingNumber k))) × (runOf s b (n ∷ []) .block ≡ b)
   flag-passes b fl e = passes-by b fl (offer-had (offerOf s b fl) (offer-answers s bytes b fl) e)

@@ -1,13 +1,15 @@
--- A Run stops with 1, 2 or 3 exactly when Offer, on the block that it leaves, marks nothing.
+-- A Run has ended exactly when Offer, on the block that it leaves, marks nothing.
 use mathlib.Core.Path.{_≡_, refl, sym, ap, _∙_}
 use mathlib.Core.Bool.{false}
 use mathlib.Core.List.{List}
-use Prim.Native.Nat.{ℕ, _-_, _<_, _≤_}
+use Prim.Native.Nat.{ℕ, _-_, _<_}
 use native.Mathlib.Omega.{arith}
 use lib.ListN.{length, getD}
 use Rattle.limits.specs.Limits.{FLAGS}
 use Rattle.typing.specs.declared.Verdict.the-variants.{Accepted}
 use Rattle.typing.specs.Check.{checkOf}
+use Rattle.machine.specs.declared.Ending.{Ending}
+use Rattle.machine.specs.Stops.{endingNumber}
 use Rattle.machine.specs.Config.{codeOf, Config}
 use Rattle.machine.specs.Machine.{oneIf, limits, Outcome, still, full, moved, choice, able, canMove}
 use Rattle.machine.proofs.Run.{beyond}
@@ -27,12 +29,12 @@ module _ (s : List ℕ) (bytes : (i : ℕ) → getD s i 0 < 256) where
       → getD (offerOf s b fl .flags) n 0 ≡ oneIf (canMove (codeOf s) limits c n)
   flags-are t acc {b} {c} h fl l n k = flag-is s c (offerOf s b fl .flags) (rw (offer-reply s bytes t acc h fl l) refl) n k
 
-  pub stop-marks : {b ns : List ℕ} → Left s b ns → (fl : List ℕ) → length fl ≡ FLAGS → 1 ≤ runOf s b ns .stop → runOf s b ns .stop ≤ 3
+  pub stop-marks : {b ns : List ℕ} → Left s b ns → (fl : List ℕ) → length fl ≡ FLAGS → (k : Ending) → runOf s b ns .stop ≡ endingNumber k
       → (n : ℕ) → n < FLAGS → getD (offerOf s (runOf s b ns .block) fl .flags) n 0 ≡ 0
-  stop-marks x fl l h k n i = flags-are (x .type) (x .accepted) (x .holds) fl l n i ∙ ap (λ (o : Outcome). oneIf (able o)) (run-ended x h k .1 n)
+  stop-marks x fl l k e n i = flags-are (x .type) (x .accepted) (x .holds) fl l n i ∙ ap (λ (o : Outcome). oneIf (able o)) (run-ended x k e .1 n)
 
   pub marks-stop : {b ns : List ℕ} → Left s b ns → (fl : List ℕ) → length fl ≡ FLAGS
-      → ((n : ℕ) → n < FLAGS → getD (offerOf s (runOf s b ns .block) fl .flags) n 0 ≡ 0) → (1 ≤ runOf s b ns .stop) × (runOf s b ns .stop ≤ 3)
+      → ((n : ℕ) → n < FLAGS → getD (offerOf s (runOf s b ns .block) fl .flags) n 0 ≡ 0) → (k : Ending) × (runOf s b ns .stop ≡ endingNumber k)
   marks-stop x fl l h =
       ended-run x (beyond (codeOf s) limits (x .outcome .config) (λ n i. near n (omega (arith, i, positions (x .outcome .config .tree), x .holds .well .within .threads))))
     where

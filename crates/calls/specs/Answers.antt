@@ -12,6 +12,9 @@ use Rattle.script.specs.Lists.{_∈_}
 use Rattle.script.specs.Asking.{numberOf}
 use Rattle.typing.specs.declared.Verdict.the-variants.{Accepted, Refused}
 use Rattle.typing.specs.Check.{checkOf}
+use Rattle.machine.specs.declared.Store.{Store}
+use Rattle.machine.specs.declared.Stop.the-variants.{Spent, Full}
+use Rattle.machine.specs.Stops.{storeNumber}
 use Rattle.machine.specs.Config.{Config, codeOf}
 use Rattle.machine.specs.Machine.{limits, full, Path, move, initial}
 use Rattle.machine.specs.WellFormed.{WellFormed}
@@ -20,43 +23,44 @@ use Rattle.machine.specs.ReadAs.{Reading, reading}
 use Rattle.machine.specs.Short.{StopsShort}
 use Rattle.machine.specs.Reach.{OneRun}
 use Rattle.block.specs.Block.{encode}
-use Rattle.calls.specs.Calls.{Started, Offered, flagsOf, Ran, ran, runOf}
+use Rattle.calls.specs.declared.LentQuestion.the-variants.{BlockLength, BufferLength, BlockForm}
+use Rattle.calls.specs.Calls.{lentNumber, Started, Offered, flagsOf, Ran, ran, runOf}
 
 -- The block stands for this configuration, well formed for the script, whose start has type t.
 pub record Holds (s : List ℕ) (t : ℕ) (b : List ℕ) (c : Config) : Type 0 where
   pub is : b ≡ encode c
   pub well : WellFormed (codeOf s) limits t c
 
--- Question 21: "Is the block a well-formed configuration of this script?"
+-- "Is the block a well-formed configuration of this script?"
 pub record Stands (s : List ℕ) (t : ℕ) (b : List ℕ) : Type 0 where
   pub config : Config
   pub holds : Holds s t b config
 
--- Whether a configuration was found: question 21's answer.
+-- Whether a configuration was found: the answer to that question.
 abbrev pub found : Option Config → Bool
 found none = false
 found (some c) = true
 
--- The first no of each call, in order, and its number and place. `Fine` says what question 22 asks, `Off` that it gets a no.
-pub data NoTo (s b : List ℕ) (Fine Off : Type 0) : ℕ → ℕ → Type 0 where
-  by-script : {q : Question} {place : ℕ} → checkOf s ≡ Refused q place → NoTo s b Fine Off (numberOf q) place
-  by-length : {t : ℕ} → checkOf s ≡ Accepted t → (length b ≡ BLOCK → ⊥) → NoTo s b Fine Off 20 0
-  by-buffer : {t : ℕ} → checkOf s ≡ Accepted t → length b ≡ BLOCK → Off → NoTo s b Fine Off 22 0
-  by-form : {t : ℕ} → checkOf s ≡ Accepted t → length b ≡ BLOCK → Fine → (Stands s t b → ⊥) → NoTo s b Fine Off 21 0
+-- The first no of each call, in order, and its number and place. `Fine` says what is asked of the other buffer, `Off` that it gets a no.
+pub data FirstNoTo (s b : List ℕ) (Fine Off : Type 0) : ℕ → ℕ → Type 0 where
+  by-script : {q : Question} {place : ℕ} → checkOf s ≡ Refused q place → FirstNoTo s b Fine Off (numberOf q) place
+  by-length : {t : ℕ} → checkOf s ≡ Accepted t → (length b ≡ BLOCK → ⊥) → FirstNoTo s b Fine Off (lentNumber BlockLength) 0
+  by-buffer : {t : ℕ} → checkOf s ≡ Accepted t → length b ≡ BLOCK → Off → FirstNoTo s b Fine Off (lentNumber BufferLength) 0
+  by-form : {t : ℕ} → checkOf s ≡ Accepted t → length b ≡ BLOCK → Fine → (Stands s t b → ⊥) → FirstNoTo s b Fine Off (lentNumber BlockForm) 0
 
--- Start asks no question 22 or 21.
+-- Start asks of the block's length only.
 pub data StartAnswers (s b : List ℕ) : Started → Type 0 where
-  start-refused : {n place : ℕ} → NoTo s b ⊥ ⊥ n place → StartAnswers s b (record { number = n; place = place; block = b })
+  start-refused : {n place : ℕ} → FirstNoTo s b ⊥ ⊥ n place → StartAnswers s b (record { number = n; place = place; block = b })
   started : {t : ℕ} → checkOf s ≡ Accepted t → length b ≡ BLOCK → StartAnswers s b (record { number = 0; place = 0; block = encode initial })
 
 pub data OfferAnswers (s b fl : List ℕ) : Offered → Type 0 where
-  offer-refused : {n place : ℕ} → NoTo s b (length fl ≡ FLAGS) (length fl ≡ FLAGS → ⊥) n place
+  offer-refused : {n place : ℕ} → FirstNoTo s b (length fl ≡ FLAGS) (length fl ≡ FLAGS → ⊥) n place
       → OfferAnswers s b fl (record { number = n; place = place; block = b; flags = fl })
   offered : {t : ℕ} {c : Config} → checkOf s ≡ Accepted t → length fl ≡ FLAGS → Holds s t b c
       → OfferAnswers s b fl (record { number = 0; place = 0; block = b; flags = flagsOf s c })
 
 pub data RunAnswers (s b ns : List ℕ) : Ran → Type 0 where
-  run-refused : {n place : ℕ} → NoTo s b (length ns ≤ CHOICES) (CHOICES < length ns) n place
+  run-refused : {n place : ℕ} → FirstNoTo s b (length ns ≤ CHOICES) (CHOICES < length ns) n place
       → RunAnswers s b ns (record { number = n; place = place; stop = 0; read = 0; moves = 0; block = b })
   has-run : {t : ℕ} {c : Config} → checkOf s ≡ Accepted t → length ns ≤ CHOICES → Holds s t b c → RunAnswers s b ns (ran (report (codeOf s) limits c ns))
 
@@ -72,12 +76,12 @@ pub record Left (s b ns : List ℕ) : Type 0 where
   pub did : Runs (codeOf s) limits before ns outcome
   pub reply : runOf s b ns ≡ ran outcome
   pub holds : Holds s type (runOf s b ns .block) (outcome .config)
-  -- stop 0 with something that can move; 1, 2 or 3 at that end with nothing that can; 4 to 7 with a store full for a move that is due
+  -- choices spent with something that can move; one of the three ends with nothing that can; or a store full for a move that is due
   pub stopped : Stopped (codeOf s) limits (outcome .config) (outcome .stop)
-  -- stop 0 has read all choices
-  pub spent : outcome .stop ≡ 0 → outcome .read ≡ length ns
-  -- 4 to 7: the last choice read names a position whose move due needs more places than are left
-  pub full : 4 ≤ outcome .stop → StopsShort (codeOf s) limits ns outcome
+  -- all choices are read where they are spent
+  pub spent : outcome .stop ≡ Spent → outcome .read ≡ length ns
+  -- a store is full: the last choice read names a position whose move due needs more places than it has left
+  pub full : {k : Store} → outcome .stop ≡ Full k → StopsShort (codeOf s) limits before ns outcome k
 
 -- A buffer after a call is as long as before, and still bytes.
 pub record KeepsBytes (before after : List ℕ) : Type 0 where
@@ -95,5 +99,5 @@ pub record ReachedBy (s : List ℕ) (t : ℕ) (b : List ℕ) (c : Config) (q : R
   pub config : Config
   pub holds : Holds s t (runOf s b choices .block) config
   -- a store has too few places left for the move due at p, or every choice made its move
-  pub ends : ((4 ≤ runOf s b choices .stop) × (move (codeOf s) limits (by .middle) p ≡ full (runOf s b choices .stop)))
+  pub ends : ((k : Store) × (runOf s b choices .stop ≡ storeNumber k) × (move (codeOf s) limits (by .middle) p ≡ full k))
       ⊎ ((runOf s b choices .moves ≡ length choices) × (reading (codeOf s) config ≡ q))

@@ -9,16 +9,18 @@ use lib.ListN.{length}
 use Rattle.limits.specs.Limits.{BLOCK, CHOICES, FLAGS}
 use Rattle.script.specs.Lists.{run}
 use Rattle.script.specs.Asking.{numberOf}
-use Rattle.script.specs.Reading.{programOf}
 use Rattle.typing.specs.declared.Verdict.{Verdict}
 use Rattle.typing.specs.declared.Verdict.the-variants.{Accepted, Refused}
 use Rattle.typing.specs.Check.{checkOf}
+use Rattle.machine.specs.Stops.{stopNumber}
 use Rattle.machine.specs.Config.{Config, codeOf}
-use Rattle.machine.specs.Machine.{fieldsOf, oneIf, limits, canMove, initial}
+use Rattle.machine.specs.Machine.{fieldCount, oneIf, limits, canMove, initial}
 use Rattle.machine.specs.Decide.{only, wellFormedTest}
 use Rattle.machine.specs.Runs.{Report, report}
 use Rattle.block.specs.Block.{encode}
 use Rattle.block.specs.Decode.{decode}
+use Rattle.calls.specs.declared.LentQuestion.{LentQuestion}
+use Rattle.calls.specs.declared.LentQuestion.the-variants.{BlockLength, BufferLength, BlockForm}
 
 -- What the questions to a call come to: the first no, with its number and place; or yes to all, with the configuration to go on with.
 pub data Questioned : Type 0 where
@@ -30,19 +32,21 @@ abbrev pub askScript : Verdict → (ℕ → Questioned) → Questioned
 askScript (Accepted t) next = next t
 askScript (Refused q place) next = no-at (numberOf q) place
 
+-- "Is the state block 49,152 bytes? 20", "Is the choice list at most 4,096 bytes (Run), or the flag buffer exactly 63 (Offer)? 22", "Is the block a well-formed configuration of this
+-- script? 21"
+abbrev pub lentNumber : LentQuestion → ℕ
+lentNumber BlockLength = 20
+lentNumber BufferLength = 22
+lentNumber BlockForm = 21
+
 -- A question about "a block, a choice list or another lent buffer" has place 0.
-abbrev pub ask : ℕ → Bool → Questioned → Questioned
-ask n true next = next
-ask n false next = no-at n 0
+abbrev pub ask : LentQuestion → Bool → Questioned → Questioned
+ask q true next = next
+ask q false next = no-at (lentNumber q) 0
 
--- "Is the block a well-formed configuration of this script? 21"
 abbrev pub askForm : Option Config → Questioned
-askForm none = no-at 21 0
+askForm none = no-at (lentNumber BlockForm) 0
 askForm (some c) = yes-with c
-
--- How many fields a class type of the script declares.
-abbrev pub fieldCount : List ℕ → ℕ → ℕ
-fieldCount s t = length (fieldsOf (programOf s) t)
 
 -- The configuration, if it is well formed for a script whose start has type t.
 abbrev pub wellFormed : List ℕ → ℕ → Option Config → Option Config
@@ -53,23 +57,23 @@ wellFormed s t (some c) = only (wellFormedTest (codeOf s) limits t c) (some c)
 unfoldable pub configOf : List ℕ → ℕ → List ℕ → Option Config
 configOf s t b = wellFormed s t (decode (fieldCount s) b)
 
--- "Is the state block 49,152 bytes? 20"
+-- "Is the state block 49,152 bytes?"
 abbrev pub blockLong : List ℕ → Bool
 blockLong b = eqb (length b) BLOCK
 
--- "Is the choice list at most 4,096 bytes (Run), or the flag buffer exactly 63 (Offer)? 22"
+-- "Is the choice list at most 4,096 bytes (Run), or the flag buffer exactly 63 (Offer)?"
 abbrev pub choicesFew : List ℕ → Bool
 choicesFew ns = leb (length ns) CHOICES
 
 abbrev pub flagsLong : List ℕ → Bool
 flagsLong fl = eqb (length fl) FLAGS
 
--- The questions to Start, and to Offer or Run with question 22's answer, in document 01's order: 20, 22, 21.
+-- The questions to Start, and to Offer or Run with the other buffer's answer, in document 01's order.
 unfoldable pub startAsked : List ℕ → List ℕ → Questioned
-startAsked s b = askScript (checkOf s) (λ t. ask 20 (blockLong b) (yes-with initial))
+startAsked s b = askScript (checkOf s) (λ t. ask BlockLength (blockLong b) (yes-with initial))
 
 unfoldable pub blockAsked : List ℕ → List ℕ → Bool → Questioned
-blockAsked s b lent = askScript (checkOf s) (λ t. ask 20 (blockLong b) (ask 22 lent (askForm (configOf s t b))))
+blockAsked s b lent = askScript (checkOf s) (λ t. ask BlockLength (blockLong b) (ask BufferLength lent (askForm (configOf s t b))))
 
 -- "A refusal returns its number and place, with every other number 0, and lent buffers unchanged. A call that is not refused has number 0 and place 0."
 pub record Started : Type 0 where
@@ -113,7 +117,7 @@ offerOf s b fl = offeredFrom s b fl (blockAsked s b (flagsLong fl))
 
 -- "Run reads choices." "It returns choices read and moves made"
 abbrev pub ran : Report → Ran
-ran r = record { number = 0; place = 0; stop = r .stop; read = r .read; moves = r .moves; block = encode (r .config) }
+ran r = record { number = 0; place = 0; stop = stopNumber (r .stop); read = r .read; moves = r .moves; block = encode (r .config) }
 
 abbrev pub ranFrom : List ℕ → List ℕ → List ℕ → Questioned → Ran
 ranFrom s b ns (no-at n place) = record { number = n; place = place; stop = 0; read = 0; moves = 0; block = b }

@@ -1,1 +1,3 @@
 pub mod Replies
+pub mod RunReplies
+pub mod OfferReplies

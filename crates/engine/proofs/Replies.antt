@@ -1,11 +1,20 @@
--- The reply that a verdict makes.
+-- The replies that a verdict makes.
 use Prim.Native.Nat.{ℕ}
-use mathlib.Core.Path.{_≡_, refl}
+use mathlib.Core.Path.{_≡_, refl, sym, _∙_}
+use mathlib.Core.List.{List}
+use lib.ListN.{length}
+use borrow.Author.Tests.{eq-eqb, ne-eqb}
+use Rattle.limits.specs.Limits.{BLOCK}
 use Rattle.script.specs.declared.Question.{Question}
 use Rattle.script.specs.Asking.{numberOf}
 use Rattle.typing.specs.declared.Verdict.{Verdict}
 use Rattle.typing.specs.declared.Verdict.the-variants.{Accepted, Refused}
-use Rattle.typing.specs.Check.{verdictNumber, verdictPlace, verdictType}
+use Rattle.typing.specs.Check.{checkOf, verdictNumber, verdictPlace, verdictType}
+use Rattle.machine.specs.Machine.{initial}
+use Rattle.block.specs.Block.{encode}
+use Rattle.calls.specs.declared.LentQuestion.the-variants.{BlockLength}
+use Rattle.calls.specs.Calls.{lentNumber, startOf, startAsked}
+use Rattle.calls.proofs.Runs.{number-some}
 
 module _ (v w : Verdict) (h : v ≡ w) where
   pub accepted : (t : ℕ) → v ≡ Accepted t → (0 ≡ verdictNumber w) × ((0 ≡ verdictPlace w) × (t ≡ verdictType w))
@@ -13,3 +22,31 @@ module _ (v w : Verdict) (h : v ≡ w) where
 
   pub refused : (q : Question) (place number : ℕ) → v ≡ Refused q place → number ≡ numberOf q → (number ≡ verdictNumber w) × ((place ≡ verdictPlace w) × (0 ≡ verdictType w))
   refused q place number e n = rw (← h, e, n) (refl, (refl, refl))
+
+-- What Start replies and leaves, after each of its answers: the script is refused, the block is refused, the initial block is written.
+module _ (s b : List ℕ) where
+  abbrev pub StartSays : ℕ → ℕ → List ℕ → Type 0
+  StartSays number place after = (number ≡ startOf s b .number) × ((place ≡ startOf s b .place) × (after ≡ startOf s b .block))
+
+  pub script-refused : (number place : ℕ) → number ≡ verdictNumber (checkOf s) → place ≡ verdictPlace (checkOf s) → (number ≡ 0 → ⊥) → StartSays number place b
+  unfolding startOf startAsked
+  script-refused number place n p ne = go (checkOf s) refl n p
+    where
+      go : (v : Verdict) → checkOf s ≡ v → number ≡ verdictNumber v → place ≡ verdictPlace v → StartSays number place b
+      go (Accepted t) e n p = absurd (ne n)
+      go (Refused q at) e n p = rw (e, n, p) (refl, (refl, refl))
+
+  pub accepts : 0 ≡ verdictNumber (checkOf s) → (t : ℕ) × (checkOf s ≡ Accepted t)
+  accepts n = go (checkOf s) refl n
+    where
+      go : (v : Verdict) → checkOf s ≡ v → 0 ≡ verdictNumber v → (t : ℕ) × (checkOf s ≡ Accepted t)
+      go (Accepted t) e n = (t, e)
+      go (Refused q at) e n = absurd (number-some q (sym n))
+
+  pub block-refused : (checked number : ℕ) → checked ≡ verdictNumber (checkOf s) → checked ≡ 0 → (length b ≡ BLOCK → ⊥) → number ≡ lentNumber BlockLength → StartSays number 0 b
+  unfolding startOf startAsked
+  block-refused checked number c z ne n = rw (accepts (sym z ∙ c) .1, ne-eqb _ _ ne, n) (refl, (refl, refl))
+
+  pub started : (checked : ℕ) (after : List ℕ) → checked ≡ verdictNumber (checkOf s) → checked ≡ 0 → length b ≡ BLOCK → after ≡ encode initial → StartSays 0 0 after
+  unfolding startOf startAsked
+  started checked after c z l w = rw (accepts (sym z ∙ c) .1, eq-eqb _ _ l, w) (refl, (refl, refl))

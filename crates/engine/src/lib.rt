@@ -1,38 +1,14 @@
 // The calls that a C program makes.
-use script::Question;
-use typing::Verdict;
-ghost use mathlib.Core.Path.{_≡_};
-ghost use Rattle.typing.specs.Check.{checkOf, verdictNumber, verdictPlace, verdictType};
+mod check;
+mod offer;
+mod run;
+mod start;
 
-// Check's reply: the number of the question that gets a no and its place, or 0, 0 and the start's type. All by value, so no lent byte is written.
-#[repr(C)]
-pub struct CheckReply {
-    pub number: u16,
-    pub place: u16,
-    pub start_type: u16,
-}
-
-// Check: questions 1 to 15 about a script, whatever its bytes and its length.
-#[no_mangle]
-pub extern "C" fn oolong_check(script: &[u8]) -> CheckReply
-    ensures number { λ r. ⌜ r .number ≡ verdictNumber (checkOf (now (script .entry))) ⌝ }
-    ensures place { λ r. ⌜ r .place ≡ verdictPlace (checkOf (now (script .entry))) ⌝ }
-    ensures start_type { λ r. ⌜ r .«start_type» ≡ verdictType (checkOf (now (script .entry))) ⌝ }
-{
-    let v = typing::verdict_of(script);
-    match v {
-        Verdict::Accepted(t) => CheckReply {
-            number: 0,
-            place: 0,
-            start_type: t,
-        },
-        Verdict::Refused(q, place) => {
-            let number = script::number_of(q);
-            CheckReply {
-                number,
-                place,
-                start_type: 0,
-            }
-        }
-    }
-}
+pub use check::CheckReply;
+pub use check::oolong_check;
+pub use offer::OfferReply;
+pub use offer::oolong_offer;
+pub use run::RunReply;
+pub use run::oolong_run;
+pub use start::StartReply;
+pub use start::oolong_start;

@@ -48,6 +48,10 @@ FRAMES = 2048
 abbrev pub THREADS : ℕ
 THREADS = 32
 
+-- A tree of joins with at most 32 threads has at most 2 * 32 - 1 positions.
+abbrev pub POSITIONS : ℕ
+POSITIONS = 63
+
 -- Question 22: the longest choice list, and the flag buffer, a byte for each position of a tree with the most threads.
 abbrev pub CHOICES : ℕ
 CHOICES = 4096

@@ -15,6 +15,7 @@ ghost use Rattle.limits.specs.Limits.{
   BINDINGS,
   FRAMES,
   THREADS,
+  POSITIONS,
   CHOICES,
   FLAGS,
   SILENT,
@@ -52,6 +53,8 @@ impl Limits {
 
     pub const THREADS: usize = 32;
 
+    pub const POSITIONS: usize = 63;
+
     pub const CHOICES: usize = 4096;
 
     pub const FLAGS: usize = 63;
@@ -75,6 +78,7 @@ pub fn agreed()
     ensures { λ r. do ⌜ (← ⟦Limits::BINDINGS⟧ .entry) ≡ BINDINGS ⌝ }
     ensures { λ r. do ⌜ (← ⟦Limits::FRAMES⟧ .entry) ≡ FRAMES ⌝ }
     ensures { λ r. do ⌜ (← ⟦Limits::THREADS⟧ .entry) ≡ THREADS ⌝ }
+    ensures { λ r. do ⌜ (← ⟦Limits::POSITIONS⟧ .entry) ≡ POSITIONS ⌝ }
     ensures { λ r. do ⌜ (← ⟦Limits::CHOICES⟧ .entry) ≡ CHOICES ⌝ }
     ensures { λ r. do ⌜ (← ⟦Limits::FLAGS⟧ .entry) ≡ FLAGS ⌝ }
     ensures { λ r. do ⌜ (← ⟦Limits::SILENT⟧ .entry) ≡ SILENT ⌝ }

@@ -8,19 +8,18 @@ use Rattle.words.specs.Word.{wordAt}
 use Rattle.script.specs.declared.Section.the-variants.{Classes as classes, Methods as methods, Nodes as nodes}
 use Rattle.script.specs.Lists.{_∈_, sumBelow}
 use Rattle.script.specs.Section.{countOf, recordAt, recordWord}
-use Rattle.script.specs.Syntax.{Point, Expr, Node, n-null, n-var, n-select, n-update, n-call, n-bind, n-new, n-cast, n-fork, n-lock, parts, build, Method, Class, declarationAt, a-class}
-use Rattle.script.specs.Reading.{Kind, null-kind, var-kind, select-kind, update-kind, call-kind, bind-kind, new-kind, cast-kind, fork-kind, lock-kind, unknown-kind, nodeOf, kindOf, viewAt, ownMethods, exprAt, methodAt, classAt, programOf}
-use Rattle.script.specs.Statements.{OperandIs, WithinLayout}
-use Rattle.script.specs.Regular.{Formed}
+use Rattle.script.specs.Syntax.{Point, n-bind, Method, Class, declarationAt, a-class}
+use Rattle.script.specs.Reading.{Kind, null-kind, var-kind, select-kind, update-kind, call-kind, bind-kind, new-kind, cast-kind, fork-kind, lock-kind, unknown-kind, nodeOf, kindOf, viewAt, ownMethods, methodAt, classAt, programOf}
+use Rattle.script.specs.Statements.{WithinLayout}
 use Rattle.script.proofs.Lists.{in-run, sum-more}
-use Rattle.script.proofs.Declarations.{length-interfaces, length-classes, class-from}
-use Rattle.script.proofs.Reading.{first, second, third, expr-at, every-node}
-use Rattle.script.proofs.Regular.{regular}
-use Rattle.typing.specs.declared.Verdict.the-variants.{Accepted as Accepts}
+use Rattle.script.proofs.Declarations.{class-from}
+use Rattle.script.proofs.Reading.{expr-at}
+use Rattle.script.proofs.Regular.{formed, regular}
+use Rattle.typing.specs.declared.Verdict.the-variants.{Accepted}
 use Rattle.typing.specs.Check.{checkOf}
 use Rattle.typing.proofs.Exact.{exact, outside-refused}
 use Rattle.machine.specs.Config.{codeOf}
-use Rattle.machine.specs.Accepted.{BodyAt, Accepted}
+use Rattle.machine.specs.Accepted.{BodyAt, AcceptedCode}
 
 -- a let's variable is a word of its node
 bound-word : (k : Kind) (a b c x : ℕ) (p q : Point) → nodeOf k a b c ≡ n-bind x p q → x ≡ a
@@ -48,24 +47,6 @@ module _ (s : List ℕ) where
   small bytes n x a b e = rw (bound-word (kindOf (recordWord s nodes n 0)) _ _ _ x a b e) (word-small bytes n 1)
 
   module _ (w : WithinLayout s) where
-    -- Every expression of the script is formed: question 6.
-    formed-node : (n : Point) (f : Point → Expr) (v : Node) → OperandIs s v → ((p : Point) → p ∈ parts v → Formed (programOf s) (f p)) → Formed (programOf s) (build n f v)
-    formed-node n f n-null h e = tt
-    formed-node n f (n-var x) h e = tt
-    formed-node n f (n-select x y) h e = tt
-    formed-node n f (n-update x y p) h e = e p first
-    formed-node n f (n-call x m p) h e = e p first
-    formed-node n f (n-bind x p q) h e = (e p first, e q second)
-    formed-node n f (n-new c) h e = record { past = rw (length-interfaces s) (h .past); last = rw (length-interfaces s, length-classes s) (h .last) }
-    formed-node n f (n-cast t p) h e = (rw (length-interfaces s, length-classes s) h, e p first)
-    formed-node n f (n-fork p q r) h e = (e p first, e q second, e r third)
-    formed-node n f (n-lock x p) h e = e p first
-
-    formed : (n : Point) → n < countOf s nodes → Formed (programOf s) (exprAt s n)
-    formed =
-        every-node s (λ n. Formed (programOf s) (exprAt s n)) (λ n h. w .nodes-are nodes n h .in-order)
-        (λ n h e. rw (expr-at s n h (w .nodes-are nodes n h .in-order)) (formed-node n (exprAt s) (viewAt s n) (w .types-are nodes n h) e))
-
     -- a body is the expression at a node
     body-at : (m : Method) (c : ℕ) → c < countOf s classes → m ∈ classAt s c .methods → BodyAt (codeOf s) m
     unfolding classAt methodAt
@@ -78,7 +59,7 @@ module _ (s : List ℕ) where
     bodies u c m d k = let x = class-from s u c d in body-at m (x .0) (x .1) (rw (x .3) at k)
 
 -- Every byte is below 256 in what a slice lends.
-pub accepted : (s : List ℕ) (t : ℕ) → ((i : ℕ) → getD s i 0 < 256) → checkOf s ≡ Accepts t → Accepted (codeOf s) t
+pub accepted : (s : List ℕ) (t : ℕ) → ((i : ℕ) → getD s i 0 < 256) → checkOf s ≡ Accepted t → AcceptedCode (codeOf s) t
 unfolding programOf
 accepted s t bytes e =
     let w = outside-refused s t e in

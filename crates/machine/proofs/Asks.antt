@@ -6,36 +6,39 @@ use mathlib.Core.List.{List}
 use Rattle.script.specs.Syntax.{Point, n-update, n-call, select}
 use Rattle.typing.specs.Members.{typeIn}
 use Rattle.typing.specs.Published.{Sub, FieldIn, MsigIn, BD-INFER-VAR, BD-INFER-SELECT}
-use Rattle.machine.specs.Config.{Code, ref, Object, Stores, Tree}
+use Rattle.machine.specs.declared.Value.the-variants.{Ref as ref}
+use Rattle.machine.specs.Config.{Code, Object, Stores, Tree}
 use Rattle.machine.specs.Machine.{context, object, Path}
-use Rattle.machine.specs.WellFormed.{Want, upto, meets-type, Fits, fits-ref, Gives, gives-type, StoresOk, Awaits, a-write, a-call, a-node, TreeOk, running-ok, returning-ok, join-ok}
-use Rattle.machine.specs.Accepted.{Accepted}
-use Rattle.machine.specs.Asks.{Target, AsksField, reads, writes, field-left, field-right, AsksMethod, invokes, method-left, method-right}
+use Rattle.machine.specs.declared.Want.{Want}
+use Rattle.machine.specs.declared.Want.the-variants.{Upto as upto}
+use Rattle.machine.specs.WellFormed.{meets-type, ValueFits, fits-ref, Gives, gives-type, StoresOk, Awaits, a-write, a-call, a-node, TreeOk, running-ok, returning-ok, join-ok}
+use Rattle.machine.specs.Accepted.{AcceptedCode}
+use Rattle.machine.specs.Asks.{TargetObject, AsksField, reads, writes, field-left, field-right, AsksMethod, invokes, method-left, method-right}
 use Rattle.machine.proofs.Types.{below-class, below-method, field-declared}
-use Rattle.machine.proofs.Store.{seen}
+use Rattle.machine.proofs.Stores.{seen}
 
-ref-below : {s : Code} {xs : List Object} {o t : ℕ} {y : Object} → object xs o ≡ some y → Fits s xs (ref o) (upto t) → Sub (s .program) (y .class) t
+ref-below : {s : Code} {xs : List Object} {o t : ℕ} {y : Object} → object xs o ≡ some y → ValueFits s xs (ref o) (upto t) → Sub (s .program) (y .class) t
 ref-below {s} {t = t} {y = y} h (fits-ref {x = z} k (meets-type b)) = let e : z ≡ y = cc in rw e at b
 
-module _ {s : Code} {start : ℕ} {st : Stores} (acc : Accepted s start) (ok : StoresOk s st) where
-  pub target-below : {y : Object} (e x t : ℕ) → typeIn (context (st .bindings) e) x ≡ some t → Target st e x y → Sub (s .program) (y .class) t
+module _ {s : Code} {start : ℕ} {st : Stores} (acc : AcceptedCode s start) (ok : StoresOk s st) where
+  pub target-below : {y : Object} (e x t : ℕ) → typeIn (context (st .bindings) e) x ≡ some t → TargetObject st e x y → Sub (s .program) (y .class) t
   target-below e x t h g =
       let k = seen e x t (ok .bindings) h in
       let i : k .binding .value ≡ ref (g .number) = cc (k .there, g .there, g .value) in
       ref-below (g .object) (rw i at (k .fits))
 
   -- A field of the variable's type is one of the object's class.
-  target-field : {c u : ℕ} (f : ℕ) (y : Object) (x e : ℕ) → Target st e x y → typeIn (context (st .bindings) e) x ≡ some c → FieldIn (s .program) c f u
+  target-field : {c u : ℕ} (f : ℕ) (y : Object) (x e : ℕ) → TargetObject st e x y → typeIn (context (st .bindings) e) x ≡ some c → FieldIn (s .program) c f u
       → (u : ℕ) × FieldIn (s .program) (y .class) f u
   target-field {c} {u} f y x e g h d = let i : y .class ≡ c = below-class acc (field-declared acc d .0) (target-below e x c h g) in (u, rw i d)
 
-  select-there : {n : Point} (f : ℕ) (y : Object) (x e : ℕ) (v : Want) → Target st e x y → Gives s (context (st .bindings) e) (select n x f) v → (u : ℕ) × FieldIn (s .program) (y .class) f u
+  select-there : {n : Point} (f : ℕ) (y : Object) (x e : ℕ) (v : Want) → TargetObject st e x y → Gives s (context (st .bindings) e) (select n x f) v → (u : ℕ) × FieldIn (s .program) (y .class) f u
   select-there f y x e v g (gives-type (BD-INFER-SELECT (BD-INFER-VAR w h) d) m) = target-field f y x e g h d
 
-  update-there : {t u : ℕ} {a : Point} (f : ℕ) (y : Object) (x e : ℕ) → Target st e x y → Awaits s (context (st .bindings) e) (n-update x f a) t u → (u : ℕ) × FieldIn (s .program) (y .class) f u
+  update-there : {t u : ℕ} {a : Point} (f : ℕ) (y : Object) (x e : ℕ) → TargetObject st e x y → Awaits s (context (st .bindings) e) (n-update x f a) t u → (u : ℕ) × FieldIn (s .program) (y .class) f u
   update-there f y x e g (a-write h d) = target-field f y x e g h d
 
-  call-there : {t u : ℕ} {a : Point} (m : ℕ) (y : Object) (x e : ℕ) → Target st e x y → Awaits s (context (st .bindings) e) (n-call x m a) t u
+  call-there : {t u : ℕ} {a : Point} (m : ℕ) (y : Object) (x e : ℕ) → TargetObject st e x y → Awaits s (context (st .bindings) e) (n-call x m a) t u
       → (t u : ℕ) × MsigIn (s .program) (y .class) (record { name = m; param = t; result = u })
   call-there {t} {u} m y x e q (a-call {c = c} h i) = (t, u, below-method acc (target-below e x c h q) i)
 

@@ -6,10 +6,13 @@ use mathlib.Core.List.{List, [], _∷_, _++_}
 use mathlib.Core.Logic.{_⊎_, inl, inr, ⊎-elim}
 use mathlib.Core.Option.{Option, none, some}
 use lib.ListN.{take}
+use Rattle.machine.specs.declared.Ending.{Ending}
+use Rattle.machine.specs.declared.Stop.{Stop}
+use Rattle.machine.specs.declared.Stop.the-variants.{Spent, Ended, Full}
 use Rattle.machine.specs.Config.{Code, Stores, Tree, failed, Config}
 use Rattle.machine.specs.Machine.{limits, Outcome, still, full, moved, Path, here, left, right, locate, chosen, choice, initial}
 use Rattle.machine.specs.WellFormed.{WellFormed}
-use Rattle.machine.specs.Accepted.{Accepted}
+use Rattle.machine.specs.Accepted.{AcceptedCode}
 use Rattle.machine.specs.Silent.{part}
 use Rattle.machine.specs.Runs.{unless, follow, look, report}
 use Rattle.machine.specs.Promise.{Kept}
@@ -43,9 +46,9 @@ module _ (s : Code) where
   step-first c x (full j) e = stays
   step-first c x (moved st t) e = steps x e
 
-  step-look : (c : Config) (x j : ℕ) → Step s c (unless j c (λ d. follow d (λ e. report s limits e []) (choice s limits d x)) .config)
-  step-look c x zero = step-first c x (choice s limits c x) refl
-  step-look c x (suc j) = stays
+  step-look : (c : Config) (x : ℕ) (o : Option Ending) → Step s c (unless o c (λ d. follow d (λ e. report s limits e []) (choice s limits d x)) .config)
+  step-look c x none = step-first c x (choice s limits c x) refl
+  step-look c x (some k) = stays
 
   module _ (ns ms : List ℕ) (rec : (d : Config) → Step s (report s limits d ns .config) (report s limits d ms .config)) where
     step-under : (c : Config) (o : Outcome) → Step s (follow c (λ e. report s limits e ns) o .config) (follow c (λ e. report s limits e ms) o .config)
@@ -53,10 +56,10 @@ module _ (s : Code) where
     step-under c (full j) = stays
     step-under c (moved st t) = rec _
 
-    step-past : (c : Config) (x j : ℕ)
-        → Step s (unless j c (λ d. follow d (λ e. report s limits e ns) (choice s limits d x)) .config) (unless j c (λ d. follow d (λ e. report s limits e ms) (choice s limits d x)) .config)
-    step-past c x zero = step-under c (choice s limits c x)
-    step-past c x (suc j) = stays
+    step-past : (c : Config) (x : ℕ) (o : Option Ending)
+        → Step s (unless o c (λ d. follow d (λ e. report s limits e ns) (choice s limits d x)) .config) (unless o c (λ d. follow d (λ e. report s limits e ms) (choice s limits d x)) .config)
+    step-past c x none = step-under c (choice s limits c x)
+    step-past c x (some k) = stays
 
   one-more : (n : ℕ) (ns : List ℕ) (c : Config) → Step s (report s limits c (take n ns) .config) (report s limits c (take (suc n) ns) .config)
   unfolding report
@@ -84,7 +87,7 @@ module _ (s : Code) where
   next-fails next-start = λ q k. absurd (initial-unfailed q k)
   next-fails (after-next call x) = next-fails x
 
-module _ {s : Code} {start : ℕ} (acc : Accepted s start) where
+module _ {s : Code} {start : ℕ} (acc : AcceptedCode s start) where
   claimed : {d : Config} → WellFormed s limits start d → Claimed s start d
   claimed {d} h = record { formed = h; promised = promised acc limits h; stops = λ ns. run-leaves acc limits ns d h }
 
@@ -103,9 +106,10 @@ module _ {s : Code} {start : ℕ} (acc : Accepted s start) where
   more-keeps : (c : Config) (ns ms : List ℕ) → WellFormed s limits start c → Kept (report s limits c ns .config) (report s limits c (ns ++ ms) .config)
   more-keeps c ns ms h = go (report s limits c ns .stop) refl
     where
-      go : (j : ℕ) → report s limits c ns .stop ≡ j → Kept (report s limits c ns .config) (report s limits c (ns ++ ms) .config)
-      go zero e = rw (run-more acc limits ns ms c h e) (run-keeps acc limits ms (report s limits c ns .config) (run-leaves acc limits ns c h .formed))
-      go (suc j) e = rw (run-same s limits ns ms c (omega (arith, e))) (kept-same (report s limits c ns .config))
+      go : (j : Stop) → report s limits c ns .stop ≡ j → Kept (report s limits c ns .config) (report s limits c (ns ++ ms) .config)
+      go Spent e = rw (run-more s limits ns ms c e) (run-keeps acc limits ms (report s limits c ns .config) (run-leaves acc limits ns c h .formed))
+      go (Ended k) e = rw (run-same s limits ns ms c (λ i. let z : _≡_ {A = ℕ} 0 1 = cc in omega arith)) (kept-same (report s limits c ns .config))
+      go (Full k) e = rw (run-same s limits ns ms c (λ i. let z : _≡_ {A = ℕ} 0 1 = cc in omega arith)) (kept-same (report s limits c ns .config))
 
   part-keeps : (c : Config) (ms ns : List ℕ) → (r : List ℕ) × (ns ≡ ms ++ r) → WellFormed s limits start c → Kept (report s limits c ms .config) (report s limits c ns .config)
   part-keeps c ms ns q h = go ns (q .1)

@@ -4,7 +4,7 @@ use native.Mathlib.Omega.{arith}
 use native.Mathlib.Decide.{decLt, ℕ-discrete}
 use mathlib.Core.Path.{_≡_, refl}
 use mathlib.Core.Bool.{Bool, true, false, cond, _&&_, _||_}
-use mathlib.Core.List.{List, [], _∷_, _++_, map, List·Memᴰ·head, List·Memᴰ·tail, List·Memᴰ·cases-cons, List·Memᴰ·not-nil, Memᴰ·append-left, Memᴰ·append-right}
+use mathlib.Core.List.{List, [], _∷_, map, List·Memᴰ·head, List·Memᴰ·tail, List·Memᴰ·cases-cons, List·Memᴰ·not-nil}
 use mathlib.Core.Logic.{_⊎_, inl, inr, ⊎-elim}
 use mathlib.Core.Option.{Option, none, some, Option·none-ne-some}
 use lib.Dec.{eqb, leb, ltb}
@@ -12,6 +12,7 @@ use lib.ListN.{length}
 use borrow.Author.Tests.{leb-true, le-leb, ltb-true, lt-ltb}
 use Rattle.script.specs.Lists.{_∈_}
 use Rattle.script.specs.Asking.{Decides, holds, fails}
+use Rattle.script.specs.Questions.{allOf}
 use Rattle.script.specs.Syntax.{Point, Node, n-null, n-var, n-select, n-update, n-call, n-bind, n-new, n-cast, n-fork, n-lock, Expr, null, var, select, update, call, bind, new, cast, fork, lock, isNull, parts, Slot, Signature, Program}
 use Rattle.script.specs.Regular.{IsType, IsClass, Formed}
 use Rattle.script.proofs.Tests.{says-yes, yes-said, decides-as, decides-and, decides-or, decides-not, decides-eq, decides-le, decides-lt, decides-all}
@@ -25,14 +26,19 @@ use Rattle.typing.proofs.Types.{type-wf}
 use Rattle.typing.proofs.Subtype.{decides-below}
 use Rattle.typing.proofs.Members.{field-in, method-in, method-only, signature-types}
 use Rattle.typing.proofs.Rules.{Judged, types, refuses, env-more, judged}
-use Rattle.machine.specs.Config.{Code, Value, nil, ref, Object, Binding, Stores, Frame, awaits, casts, locks, Tree, running, returning, failed, join, Config}
-use Rattle.machine.specs.Machine.{fieldsOf, scope, slot, context, object, lockFrames, Places}
-use Rattle.machine.specs.WellFormed.{Want, any, upto, Meets, meets-any, meets-type, Fits, fits-nil, fits-ref, Gives, gives-null, gives-type, At, BindingOk, BindingsOk, no-bindings, a-binding, FieldsOk, no-fields, a-field, StoresOk, Awaits, a-let, a-write, a-call, FramesOk, no-frames, a-node, a-cast, a-lock, TreeOk, running-ok, returning-ok, failed-ok, join-ok, lockCount, failures, shutAt, Within, WellFormed}
-use Rattle.machine.specs.Accepted.{Later, Accepted}
-use Rattle.machine.specs.ReadAs.{held}
-use Rattle.machine.specs.Decide.{given, ifTyped, only, meetsTest, objectTest, fitsTest, answerTest, givesTest, atTest, classTest, fieldsTest, everyObject, bindingTest, bindingsTest, storesTest, Turn, turn, castType, expects, wantTest, treeTest, lockList, distinctTest, numbersBelow, coveredTest, withinTest, wellFormedTest}
+use Rattle.machine.specs.declared.Value.{Value}
+use Rattle.machine.specs.declared.Value.the-variants.{Null as nil, Ref as ref}
+use Rattle.machine.specs.declared.Frame.{Frame}
+use Rattle.machine.specs.declared.Frame.the-variants.{Awaits as awaits, Casts as casts, Locks as locks}
+use Rattle.machine.specs.Config.{Code, Object, Binding, Stores, Tree, running, returning, failed, join, Config}
+use Rattle.machine.specs.Machine.{fieldsOf, scope, slot, context, object, Places}
+use Rattle.machine.specs.declared.Want.{Want}
+use Rattle.machine.specs.declared.Want.the-variants.{Any as any, Upto as upto}
+use Rattle.machine.specs.WellFormed.{Meets, meets-any, meets-type, ValueFits, fits-nil, fits-ref, Gives, gives-null, gives-type, NodeGives, BindingOk, BindingsOk, no-bindings, a-binding, FieldsOk, no-fields, a-field, StoresOk, Awaits, a-let, a-write, a-call, FramesOk, no-frames, a-node, a-cast, a-lock, TreeOk, running-ok, returning-ok, failed-ok, join-ok, lockCount, failures, shutAt, Within, WellFormed}
+use Rattle.machine.specs.Accepted.{LaterPart, AcceptedCode}
+use Rattle.machine.specs.Decide.{given, ifTyped, only, meetsTest, objectTest, valueFitsTest, answerTest, givesTest, atTest, isClassTest, fieldsTest, bindingTest, bindingsTest, storesTest, Turn, turn, castType, expects, wantTest, treeTest, lockList, distinctTest, numbersBelow, coveredTest, withinLimitsTest, wellFormedTest}
 use Rattle.machine.proofs.Types.{infer-computes, rules-function}
-use Rattle.machine.proofs.Steps.{held-in}
+use Rattle.machine.proofs.Locks.{lock-listed}
 
 -- a second test that decides where the first passes
 decides-then : {P Q : Type 0} {a b : Bool} → Decides P a → (P → Decides Q b) → Decides (P × Q) (a && b)
@@ -60,7 +66,8 @@ some-same : {A : Type 0} (a b : A) → _≡_ {A = Option A} (some a) (some b) �
 some-same a b h = cc
 
 -- every object of a list
-decides-every : (P : Object → Type 0) (test : Object → Bool) (xs : List Object) → ((x : Object) → Decides (P x) (test x)) → Decides ((o : ℕ) (x : Object) → object xs o ≡ some x → P x) (everyObject test xs)
+decides-every : (P : Object → Type 0) (test : Object → Bool) (xs : List Object) → ((x : Object) → Decides (P x) (test x)) → Decides ((o : ℕ) (x : Object) → object xs o ≡ some x → P x) (allOf test xs)
+unfolding allOf
 decides-every P test [] d = holds (λ o x e. absurd (Option·none-ne-some _ e))
 decides-every P test (y ∷ xs) d = decides-as both each (decides-and (d y) (decides-every P test xs d))
   where
@@ -74,7 +81,7 @@ decides-every P test (y ∷ xs) d = decides-as both each (decides-and (d y) (dec
 abbrev Classes : Code → List Object → Type 0
 Classes s xs = (o : ℕ) (x : Object) → object xs o ≡ some x → IsClass (s .program) (x .class)
 
-decides-class : (s : Code) (x : Object) → Decides (IsClass (s .program) (x .class)) (classTest s x)
+decides-class : (s : Code) (x : Object) → Decides (IsClass (s .program) (x .class)) (isClassTest s x)
 decides-class s x =
     decides-as (λ h. record { past = h .0; last = h .1 }) (λ i. (i .past, i .last)) (decides-and (decides-lt (length (s .program .interfaces)) (x .class)) (decides-le (x .class) (length (s .program .interfaces) + length (s .program .classes))))
 
@@ -88,7 +95,7 @@ cond-types {s} (a-binding {b = c} {bs = bs} h ok) e b m = go (eqb e (suc (length
     go true m f g = ⊎-elim (λ (q : b ≡ slot c). rw q (type-wf (s .program) (c .type) .0 (h .type))) f (List·Memᴰ·cases-cons m)
     go false m f g = g m
 
-context-wf : {s : Code} {xs : List Object} {bs : List Binding} → BindingsOk s xs bs → (e : ℕ) → WfEnv (s .program) (context bs e)
+pub context-wf : {s : Code} {xs : List Object} {bs : List Binding} → BindingsOk s xs bs → (e : ℕ) → WfEnv (s .program) (context bs e)
 context-wf ok e = WF-ENV (cond-types ok e)
 
 null-gives : {s : Code} {Γ : List Slot} {w : Want} (e : Expr) → isNull e ≡ true → Gives s Γ e w
@@ -106,10 +113,10 @@ null-gives (lock n x a) h = absurd (let z : _≡_ {A = ℕ} 0 1 = cc in omega ar
 meets-sub : {s : Code} {t u : ℕ} → Meets s t (upto u) → Sub (s .program) t u
 meets-sub (meets-type b) = b
 
-fits-object : {s : Code} {xs : List Object} {o : ℕ} {w : Want} → Fits s xs (ref o) w → (x : Object) × (object xs o ≡ some x) × Meets s (x .class) w
+fits-object : {s : Code} {xs : List Object} {o : ℕ} {w : Want} → ValueFits s xs (ref o) w → (x : Object) × (object xs o ≡ some x) × Meets s (x .class) w
 fits-object (fits-ref {x = x} h m) = (x, h, m)
 
-fields-both : {s : Code} {xs : List Object} {d : Slot} {ds : List Slot} {v : Value} {l : List Value} → FieldsOk s xs (d ∷ ds) (v ∷ l) → Fits s xs v (upto (d .type)) × FieldsOk s xs ds l
+fields-both : {s : Code} {xs : List Object} {d : Slot} {ds : List Slot} {v : Value} {l : List Value} → FieldsOk s xs (d ∷ ds) (v ∷ l) → ValueFits s xs v (upto (d .type)) × FieldsOk s xs ds l
 fields-both (a-field f fs) = (f, fs)
 
 fields-short : {s : Code} {xs : List Object} {d : Slot} {ds : List Slot} → FieldsOk s xs (d ∷ ds) [] → ⊥
@@ -140,17 +147,17 @@ cast-view (n-cast u a) t h = (a, cc)
 cast-view (n-fork a b c) t h = absurd (Option·none-ne-some _ h)
 cast-view (n-lock x a) t h = absurd (Option·none-ne-some _ h)
 
-module _ {s : Code} {start : ℕ} (acc : Accepted s start) where
+module _ {s : Code} {start : ℕ} (acc : AcceptedCode s start) where
   decides-meets : (t : ℕ) (w : Want) → IsType (s .program) t → Decides (Meets s t w) (meetsTest s t w)
   decides-meets t any i = holds meets-any
   decides-meets t (upto u) i = decides-as meets-type meets-sub (decides-below (s .program) (acc .regular) t u i)
 
   module _ (xs : List Object) (classes : Classes s xs) where
-    decides-fits : (v : Value) (w : Want) → Decides (Fits s xs v w) (fitsTest s xs v w)
+    decides-fits : (v : Value) (w : Want) → Decides (ValueFits s xs v w) (valueFitsTest s xs v w)
     decides-fits nil w = holds fits-nil
     decides-fits (ref o) w = go (object xs o) refl
       where
-        go : (q : Option Object) → object xs o ≡ q → Decides (Fits s xs (ref o) w) (objectTest s w q)
+        go : (q : Option Object) → object xs o ≡ q → Decides (ValueFits s xs (ref o) w) (objectTest s w q)
         go none e = fails (λ f. let q = fits-object f in let z : _≡_ {A = ℕ} 0 1 = cc (q .1) in omega arith)
         go (some x) e =
             decides-as (fits-ref e) (λ f. let q = fits-object f in let i : q .0 ≡ x = cc (q .1) in rw i at (q .2)) (decides-meets (x .class) w (classes o x e .last))
@@ -178,7 +185,7 @@ module _ {s : Code} {start : ℕ} (acc : Accepted s start) where
       decides-as
       (λ h. record { bindings = h .1 .1; heap = λ o x e. record { class = h .0 o x e; fields = h .1 .0 o x e } })
       (λ h. (λ o x e. h .heap o x e .class, (λ o x e. h .heap o x e .fields, h .bindings)))
-      (decides-then (decides-every _ (classTest s) (st .objects) (decides-class s))
+      (decides-then (decides-every _ (isClassTest s) (st .objects) (decides-class s))
       (λ classes.
       decides-and (decides-every _ _ (st .objects) (λ x. decides-fields (st .objects) classes (fieldsOf (s .program) (x .class)) (x .fields))) (decides-bindings (st .objects) classes (st .bindings))))
 
@@ -202,7 +209,7 @@ module _ {s : Code} {start : ℕ} (acc : Accepted s start) where
       go true n = holds (null-gives e n)
       go false n = gives-judged (judged (s .program) (acc .regular) Γ e env f) refl w n
 
-  decides-at : (Γ : List Slot) (a : Point) (w : Want) → WfEnv (s .program) Γ → Decides (At s Γ a w) (atTest s Γ a w)
+  decides-at : (Γ : List Slot) (a : Point) (w : Want) → WfEnv (s .program) Γ → Decides (NodeGives s Γ a w) (atTest s Γ a w)
   decides-at Γ a w env =
       decides-as (λ h. record { node = h .0; gives = h .1 }) (λ h. (h .node, h .gives))
       (decides-then (decides-lt a (s .size)) (λ l. decides-gives Γ (s .expr a) w env (acc .formed a l)))
@@ -211,7 +218,7 @@ module _ {s : Code} {start : ℕ} (acc : Accepted s start) where
   inferred-typed : (Γ : List Slot) (e : Expr) (t : ℕ) → WfEnv (s .program) Γ → Formed (s .program) e → inferred (s .program) Γ e ≡ Typed t → Infer (s .program) Γ e t × IsType (s .program) t
   inferred-typed Γ e t env f h = judged-typed (judged (s .program) (acc .regular) Γ e env f) h
 
-  turn-sound : (Γ : List Slot) (i : Point) (n : Node) → WfEnv (s .program) Γ → ((q : Point) → q ∈ parts n → Later s i q) → (k : Turn) → turn s Γ n ≡ some k
+  turn-sound : (Γ : List Slot) (i : Point) (n : Node) → WfEnv (s .program) Γ → ((q : Point) → q ∈ parts n → LaterPart s i q) → (k : Turn) → turn s Γ n ≡ some k
       → Awaits s Γ n (k .wanted) (k .gives) × IsType (s .program) (k .gives)
   turn-sound Γ i n-null env y k h = absurd (Option·none-ne-some _ h)
   turn-sound Γ i (n-var x) env y k h = absurd (Option·none-ne-some _ h)
@@ -299,18 +306,18 @@ module _ {s : Code} {start : ℕ} (acc : Accepted s start) where
     env-at : (e : ℕ) → WfEnv (s .program) (context (st .bindings) e)
     env-at = context-wf (ok .bindings)
 
-    fits-at : (v : Value) (w : Want) → Decides (Fits s (st .objects) v w) (fitsTest s (st .objects) v w)
+    fits-at : (v : Value) (w : Want) → Decides (ValueFits s (st .objects) v w) (valueFitsTest s (st .objects) v w)
     fits-at = decides-fits (st .objects) (λ o x e. ok .heap o x e .class)
 
     running-parts : {w : Want} {a : Point} {e : ℕ} {fs : List Frame} → TreeOk s st w (running a e fs)
-        → (e ≤ length (st .bindings)) × ((v : Want) × FramesOk s (st .bindings) w fs v × At s (context (st .bindings) e) a v)
+        → (e ≤ length (st .bindings)) × ((v : Want) × FramesOk s (st .bindings) w fs v × NodeGives s (context (st .bindings) e) a v)
     running-parts (running-ok {v = v} le g r) = (le, (v, r, g))
 
-    returning-parts : {w : Want} {x : Value} {fs : List Frame} → TreeOk s st w (returning x fs) → (v : Want) × FramesOk s (st .bindings) w fs v × Fits s (st .objects) x v
+    returning-parts : {w : Want} {x : Value} {fs : List Frame} → TreeOk s st w (returning x fs) → (v : Want) × FramesOk s (st .bindings) w fs v × ValueFits s (st .objects) x v
     returning-parts (returning-ok {v = v} f r) = (v, r, f)
 
     join-parts : {w : Want} {a : Point} {e : ℕ} {fs : List Frame} {l r : Tree} → TreeOk s st w (join fs a e l r)
-        → (e ≤ length (st .bindings)) × (((v : Want) × FramesOk s (st .bindings) w fs v × At s (context (st .bindings) e) a v) × (TreeOk s st any l × TreeOk s st any r))
+        → (e ≤ length (st .bindings)) × (((v : Want) × FramesOk s (st .bindings) w fs v × NodeGives s (context (st .bindings) e) a v) × (TreeOk s st any l × TreeOk s st any r))
     join-parts (join-ok {v = v} le g r x y) = (le, ((v, r, g), (x, y)))
 
     decides-tree : (w : Want) (t : Tree) → Decides (TreeOk s st w t) (treeTest s st w t)
@@ -325,17 +332,6 @@ module _ {s : Code} {start : ℕ} (acc : Accepted s start) where
         (decides-and (decides-want (st .bindings) env-at _ _ w fs (λ v. decides-at (context (st .bindings) e) a v (env-at e))) (decides-and (decides-tree any l) (decides-tree any r))))
 
 -- locks
-lock-listed : (o : ℕ) (t : Tree) → 1 ≤ lockCount o t → o ∈ lockList t
-lock-listed o (running a e fs) h = held-in o fs h
-lock-listed o (returning v fs) h = held-in o fs h
-lock-listed o failed h = absurd (omega arith)
-lock-listed o (join fs a e l r) h = go (decLt 0 (lockFrames o fs)) (decLt 0 (lockCount o l)) (lock-listed o l) (lock-listed o r)
-  where
-    go : Dec (0 < lockFrames o fs) → Dec (0 < lockCount o l) → (1 ≤ lockCount o l → o ∈ lockList l) → (1 ≤ lockCount o r → o ∈ lockList r) → o ∈ held fs ++ (lockList l ++ lockList r)
-    go (yes k) d f g = Memᴰ·append-left (lockList l ++ lockList r) (held-in o fs k)
-    go (no k) (yes d) f g = Memᴰ·append-right (held fs) (Memᴰ·append-left (lockList r) (f d))
-    go (no k) (no d) f g = Memᴰ·append-right (held fs) (Memᴰ·append-right (lockList l) (g (omega arith)))
-
 decides-distinct : (xs : List Object) (t : Tree) → Decides ((o : ℕ) → lockCount o t ≤ shutAt xs o) (distinctTest xs t)
 decides-distinct xs t = decides-as all (λ h o m. h o) (decides-all (λ o. lockCount o t ≤ shutAt xs o) _ (lockList t) (λ o. decides-le (lockCount o t) (shutAt xs o)))
   where
@@ -382,7 +378,7 @@ decides-covered xs t =
         go (yes e) = inr (λ o m. h e o)
         go (no e) = inl e
 
-decides-within : (lim : Places) (c : Config) → Decides (Within lim c) (withinTest lim c)
+decides-within : (lim : Places) (c : Config) → Decides (Within lim c) (withinLimitsTest lim c)
 decides-within lim c =
     decides-as
     (λ h. record { objects = h .0; bindings = h .1 .0; frames = h .1 .1 .0; threads = h .1 .1 .1 })
@@ -390,7 +386,7 @@ decides-within lim c =
     (decides-and (decides-le _ (lim .objects)) (decides-and (decides-le _ (lim .bindings)) (decides-and (decides-le _ (lim .frames)) (decides-le _ (lim .threads)))))
 
 -- Question 21: the test says whether the configuration is well formed for this script.
-pub decides-well-formed : {s : Code} {start : ℕ} → Accepted s start → (lim : Places) (c : Config) → Decides (WellFormed s lim start c) (wellFormedTest s lim start c)
+pub decides-well-formed : {s : Code} {start : ℕ} → AcceptedCode s start → (lim : Places) (c : Config) → Decides (WellFormed s lim start c) (wellFormedTest s lim start c)
 unfolding wellFormedTest
 decides-well-formed {s} {start} acc lim c =
     decides-as

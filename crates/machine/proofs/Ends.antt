@@ -4,14 +4,20 @@ use native.Mathlib.Omega.{arith}
 use native.Mathlib.Decide.{decLe}
 use mathlib.Core.Path.{_≡_, refl, sym, _∙_, ap}
 use mathlib.Core.Bool.{false}
+use mathlib.Core.Option.{Option, some}
 use mathlib.Core.Logic.{_⊎_, inl, inr, ⊎-elim}
 use mathlib.Core.List.{List, [], _∷_, _++_}
 use Rattle.script.specs.Syntax.{Point, Node}
-use Rattle.machine.specs.Config.{Code, Value, Stores, Frame, awaits, casts, locks, Tree, running, returning, failed, join, Config}
+use Rattle.machine.specs.declared.Ending.{Ending}
+use Rattle.machine.specs.declared.Value.{Value}
+use Rattle.machine.specs.declared.Frame.{Frame}
+use Rattle.machine.specs.declared.Frame.the-variants.{Awaits as awaits, Casts as casts, Locks as locks}
+use Rattle.machine.specs.Config.{Code, Stores, Tree, running, returning, failed, join, Config}
 use Rattle.machine.specs.Machine.{lockFrames, Places, Outcome, spare, still, full, moved, Phase, finished, broken, busy, phase, fold, inLeft, inRight, Path, here, left, right, moveAt, move}
-use Rattle.machine.specs.WellFormed.{Want, StoresOk, TreeOk, running-ok, returning-ok, join-ok, lockCount, failures, shutAt, WfConfig}
-use Rattle.machine.specs.Accepted.{Accepted}
-use Rattle.machine.specs.Standing.{Waits, waits, ThreadAt, is-running, is-returning, in-left, in-right, FinishedAt, finished-here, finished-left, finished-right, WaitsAt, waits-here, waits-left, waits-right, heldBy, Blocked, Deadlock, verdict, End, ends-finished, ends-failed, ends-deadlocked}
+use Rattle.machine.specs.declared.Want.{Want}
+use Rattle.machine.specs.WellFormed.{StoresOk, TreeOk, running-ok, returning-ok, join-ok, lockCount, failures, shutAt, WfConfig}
+use Rattle.machine.specs.Accepted.{AcceptedCode}
+use Rattle.machine.specs.Standing.{Waits, waits, ThreadAt, thread-running, thread-returning, thread-left, thread-right, FinishedAt, finished-here, finished-left, finished-right, WaitsAt, waits-here, waits-left, waits-right, heldBy, Blocked, Deadlock, ending, End, ends-finished, ends-failed, ends-deadlocked}
 use Rattle.machine.proofs.Move.{Judged, no-move, run-good, resume-good}
 use Rattle.machine.proofs.Trees.{finished-locks}
 
@@ -53,7 +59,7 @@ join-stands {st = st} above fs a e l r n (inr x) (inr y) = stands-join x y (λ u
 returning-stands : {s : Code} {st : Stores} (above : List Frame) (v : Value) (fs : List Frame) → fs ≡ [] → Stands s st above (returning v fs)
 returning-stands above v fs h = rw h stands-finished
 
-module _ {s : Code} {st : Stores} {start : ℕ} (acc : Accepted s start) (room : Places) (ok : StoresOk s st) where
+module _ {s : Code} {st : Stores} {start : ℕ} (acc : AcceptedCode s start) (room : Places) (ok : StoresOk s st) where
   stands : {w : Want} (above : List Frame) (t : Tree) → TreeOk s st w t → ((o : ℕ) → lockCount o t ≤ shutAt (st .objects) o)
       → ((p : Path) → moveAt s room st above t p ≡ still) → (t ≡ failed) ⊎ Stands s st above t
   stands above (running a e fs) (running-ok le g r) k n = inr (stands-waiting (because (rw (n here) at (run-good ok acc room above fs a _ r e le (s .view a) (g .node) refl (acc .in-order a (g .node)) (rw (acc .built a (g .node)) at (g .gives)))) .1))
@@ -84,10 +90,10 @@ either-right (inl f) = inl (finished-right f)
 either-right (inr w) = inr (w .0, waits-right (w .1))
 
 each : {s : Code} {st : Stores} {above : List Frame} {t : Tree} → Stands s st above t → {p : Path} → ThreadAt t p → FinishedAt t p ⊎ Waiter s st above t p
-each stands-finished is-returning = inl finished-here
-each (stands-waiting {o = o} x) is-running = inr (o, waits-here x)
-each (stands-join x y z) (in-left p) = either-left (each x p)
-each (stands-join x y z) (in-right p) = either-right (each y p)
+each stands-finished thread-returning = inl finished-here
+each (stands-waiting {o = o} x) thread-running = inr (o, waits-here x)
+each (stands-join x y z) (thread-left p) = either-left (each x p)
+each (stands-join x y z) (thread-right p) = either-right (each y p)
 
 -- a tree that is not finished has a thread that waits
 one-of : {s : Code} {st : Stores} (above fs : List Frame) (a : Point) (e : ℕ) (l r : Tree) → (phase l ≡ finished → phase r ≡ finished → ⊥)
@@ -132,10 +138,10 @@ waits-shut (waits-here x) = wait-shut x
 waits-shut (waits-left x) = waits-shut x
 waits-shut (waits-right x) = waits-shut x
 
-Holder : ℕ → ℕ → Tree → Type 0
+unfoldable pub Holder : ℕ → ℕ → Tree → Type 0
 Holder o n t = (p : Path) × (1 ≤ heldBy o n t p)
 
-holder : (o n : ℕ) (t : Tree) → failures t ≡ 0 → 1 ≤ n + lockCount o t → Holder o n t
+pub holder : (o n : ℕ) (t : Tree) → failures t ≡ 0 → 1 ≤ n + lockCount o t → Holder o n t
 unfolding Holder
 holder o n (running a e fs) z h = (here, omega arith)
 holder o n (returning v fs) z h = (here, omega arith)
@@ -175,6 +181,16 @@ stands-unbroken stands-finished h = let z : _≡_ {A = ℕ} 0 1 = cc in omega ar
 stands-unbroken (stands-waiting x) h = let z : _≡_ {A = ℕ} 0 1 = cc in omega arith
 stands-unbroken (stands-join x y q) h = let z : _≡_ {A = ℕ} 0 1 = cc in omega arith
 
+-- an end is seen, and it is that of the configuration
+pub data SeenEnd (s : Code) (c : Config) : Option Ending → Type 0 where
+  seen : {k : Ending} → End s c k → SeenEnd s c (some k)
+
+pub seen-end : {s : Code} {c : Config} {k : Ending} → SeenEnd s c (some k) → End s c k
+seen-end (seen x) = x
+
+pub some-end : {s : Code} {c : Config} {o : Option Ending} → SeenEnd s c o → (k : Ending) × End s c k
+some-end (seen {k = k} x) = (k, x)
+
 module _ {s : Code} {w : Want} {c : Config} (h : WfConfig s w c) (x : Stands s (c .stores) [] (c .tree)) where
   whole-locks : (o : ℕ) → shutAt (c .stores .objects) o ≤ lockCount o (c .tree)
   whole-locks = h .covered (stands-whole x)
@@ -188,17 +204,17 @@ module _ {s : Code} {w : Want} {c : Config} (h : WfConfig s w c) (x : Stands s (
         waiting = blocked (c .tree) (y .0) (stands-whole x) whole-locks (y .1);
       }
 
-  ended : (q : Phase) → phase (c .tree) ≡ q → End s c (verdict q false)
-  ended finished e = ends-finished (finished-at (c .tree) e) (λ o. omega (arith, whole-locks o, finished-locks (c .tree) e o))
+  ended : (q : Phase) → phase (c .tree) ≡ q → SeenEnd s c (ending q false)
+  ended finished e = seen (ends-finished (finished-at (c .tree) e) (λ o. omega (arith, whole-locks o, finished-locks (c .tree) e o)))
   ended broken e = absurd (stands-unbroken x e)
-  ended busy e = ends-deadlocked (deadlocked (λ k. absurd (let z : _≡_ {A = ℕ} 0 1 = cc in omega arith)))
+  ended busy e = seen (ends-deadlocked (deadlocked (λ k. absurd (let z : _≡_ {A = ℕ} 0 1 = cc in omega arith))))
 
-failed-end : {s : Code} {c : Config} → c .tree ≡ failed → End s c (verdict (phase (c .tree)) false)
-failed-end {s} {c} e = let p : phase (c .tree) ≡ broken = ap phase e in rw p (ends-failed e)
+failed-end : {s : Code} {c : Config} → c .tree ≡ failed → SeenEnd s c (ending (phase (c .tree)) false)
+failed-end {s} {c} e = let p : phase (c .tree) ≡ broken = ap phase e in rw p (seen (ends-failed e))
 
 -- Where no place can move, the run has ended in one of the three ways.
-pub classified : {s : Code} {start : ℕ} (acc : Accepted s start) (lim : Places) {w : Want} {c : Config} → WfConfig s w c → ((p : Path) → move s lim c p ≡ still)
-    → End s c (verdict (phase (c .tree)) false)
+pub classified : {s : Code} {start : ℕ} (acc : AcceptedCode s start) (lim : Places) {w : Want} {c : Config} → WfConfig s w c → ((p : Path) → move s lim c p ≡ still)
+    → SeenEnd s c (ending (phase (c .tree)) false)
 unfolding move
 classified acc lim {c = c} h n =
     ⊎-elim failed-end (λ x. ended h x (phase (c .tree)) refl) (stands acc (spare lim (c .stores) (c .tree)) (h .stores) [] (c .tree) (h .tree) (h .distinct) n)

@@ -7,10 +7,13 @@ use mathlib.Core.Option.{some, Option·none-ne-some}
 use mathlib.Core.Bool.{Bool}
 use lib.ListN.{length}
 use Rattle.script.specs.Syntax.{Point, Expr, Slot}
-use Rattle.machine.specs.Config.{Code, Value, Object, Binding, Stores, Frame, Tree}
+use Rattle.machine.specs.declared.Value.{Value}
+use Rattle.machine.specs.declared.Frame.{Frame}
+use Rattle.machine.specs.Config.{Code, Object, Binding, Stores, Tree}
 use Rattle.machine.specs.Machine.{fieldsOf, scope, slot, context, object, setShut, setFields}
-use Rattle.machine.specs.WellFormed.{Want, Fits, fits-nil, fits-ref, Gives, At, BindingsOk, no-bindings, a-binding, FieldsOk, no-fields, a-field, ObjectOk, FramesOk, no-frames, a-node, a-cast, a-lock, TreeOk, running-ok, returning-ok, failed-ok, join-ok}
-use Rattle.machine.proofs.Store.{Keeps, keeps-same, scope-older}
+use Rattle.machine.specs.declared.Want.{Want}
+use Rattle.machine.specs.WellFormed.{ValueFits, fits-nil, fits-ref, Gives, NodeGives, BindingsOk, no-bindings, a-binding, FieldsOk, no-fields, a-field, TypedObject, FramesOk, no-frames, a-node, a-cast, a-lock, TreeOk, running-ok, returning-ok, failed-ok, join-ok}
+use Rattle.machine.proofs.Stores.{Keeps, keeps-same, scope-older}
 
 -- Objects keep their classes, and environments their bindings.
 pub record Grows (st su : Stores) : Type 0 where
@@ -20,7 +23,7 @@ pub record Grows (st su : Stores) : Type 0 where
   pub more : length (st .bindings) ≤ length (su .bindings)
   pub same : (e : ℕ) → e ≤ length (st .bindings) → scope (su .bindings) e ≡ scope (st .bindings) e
 
-pub fits-grows : {s : Code} {xs ys : List Object} {v : Value} {w : Want} → Keeps xs ys → Fits s xs v w → Fits s ys v w
+pub fits-grows : {s : Code} {xs ys : List Object} {v : Value} {w : Want} → Keeps xs ys → ValueFits s xs v w → ValueFits s ys v w
 fits-grows g fits-nil = fits-nil
 fits-grows {s} g (fits-ref {o = o} {x = x} {w = w} h m) =
     let k = g o x h in
@@ -38,7 +41,7 @@ module _ {s : Code} {st su : Stores} (g : Grows st su) where
   gives-grows : {a : Expr} {w : Want} (e : ℕ) → e ≤ length (st .bindings) → Gives s (context (st .bindings) e) a w → Gives s (context (su .bindings) e) a w
   gives-grows e h p = rw (context-same g e h) p
 
-  pub at-grows : {a : Point} {w : Want} (e : ℕ) → e ≤ length (st .bindings) → At s (context (st .bindings) e) a w → At s (context (su .bindings) e) a w
+  pub at-grows : {a : Point} {w : Want} (e : ℕ) → e ≤ length (st .bindings) → NodeGives s (context (st .bindings) e) a w → NodeGives s (context (su .bindings) e) a w
   at-grows e h p = record { node = p .node; gives = gives-grows e h (p .gives) }
 
   pub frames-grow : {w v : Want} {fs : List Frame} → FramesOk s (st .bindings) w fs v → FramesOk s (su .bindings) w fs v
@@ -80,22 +83,22 @@ fields-grow g no-fields = no-fields
 fields-grow g (a-field f fs) = a-field (fits-grows g f) (fields-grow g fs)
 
 abbrev pub HeapOk : Code → List Object → List Object → Type 0
-HeapOk s xs ys = (o : ℕ) (x : Object) → object ys o ≡ some x → ObjectOk s xs x
+HeapOk s xs ys = (o : ℕ) (x : Object) → object ys o ≡ some x → TypedObject s xs x
 
 pub heap-grows : {s : Code} {xs ys : List Object} (zs : List Object) → Keeps xs ys → HeapOk s xs zs → HeapOk s ys zs
 heap-grows zs g h o x e = let k = h o x e in record { class = k .class; fields = fields-grow g (k .fields) }
 
-pub heap-append : {s : Code} {zs : List Object} (xs : List Object) (y : Object) → HeapOk s zs xs → ObjectOk s zs y → HeapOk s zs (xs ++ (y ∷ []))
+pub heap-append : {s : Code} {zs : List Object} (xs : List Object) (y : Object) → HeapOk s zs xs → TypedObject s zs y → HeapOk s zs (xs ++ (y ∷ []))
 heap-append [] y h k zero x e = let i : y ≡ x = cc in rw i at k
 heap-append [] y h k (suc o) x e = absurd (Option·none-ne-some _ e)
 heap-append (z ∷ xs) y h k zero x e = h zero x e
 heap-append (z ∷ xs) y h k (suc o) x e = heap-append xs y (λ p. h (suc p)) k o x e
 
-same-object : {s : Code} {zs : List Object} {z : Object} (b : Bool) → ObjectOk s zs z → ObjectOk s zs (record { class = z .class; shut = b; fields = z .fields })
+same-object : {s : Code} {zs : List Object} {z : Object} (b : Bool) → TypedObject s zs z → TypedObject s zs (record { class = z .class; shut = b; fields = z .fields })
 same-object b k = record { class = k .class; fields = k .fields }
 
-new-fields : {s : Code} {zs : List Object} {z : Object} (l : List Value) → ObjectOk s zs z → FieldsOk s zs (fieldsOf (s .program) (z .class)) l
-    → ObjectOk s zs (record { class = z .class; shut = z .shut; fields = l })
+new-fields : {s : Code} {zs : List Object} {z : Object} (l : List Value) → TypedObject s zs z → FieldsOk s zs (fieldsOf (s .program) (z .class)) l
+    → TypedObject s zs (record { class = z .class; shut = z .shut; fields = l })
 new-fields l k f = record { class = k .class; fields = f }
 
 pub heap-shut : {s : Code} {zs : List Object} (b : Bool) (xs : List Object) (p : ℕ) → HeapOk s zs xs → HeapOk s zs (setShut b xs p)

@@ -1,16 +1,19 @@
+pub mod Stops
 pub mod Maps
 pub mod Spent
 pub mod Accepted
 pub mod Types
-pub mod Store
+pub mod Stores
 pub mod Grow
 pub mod Move
 pub mod Trees
 pub mod Ends
+pub mod Locks
 pub mod Positions
 pub mod Names
 pub mod Unplug
 pub mod Steps
+pub mod HeldLocks
 pub mod Within
 pub mod Run
 pub mod Stays
@@ -23,4 +26,3 @@ pub mod Reached
 pub mod Decide
 pub mod Promise
 pub mod Calls
-pub mod Samples

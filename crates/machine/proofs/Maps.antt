@@ -8,7 +8,8 @@ use mathlib.Core.Option.{some}
 use lib.Dec.{eqb}
 use borrow.Author.Tests.{eqb-true}
 use Rattle.script.specs.Syntax.{Slot}
-use Rattle.machine.specs.Config.{Value, Object}
+use Rattle.machine.specs.declared.Value.{Value}
+use Rattle.machine.specs.Config.{Object}
 use Rattle.machine.specs.Machine.{object, setShut, setFields, fieldValue, setField}
 
 -- F[f ↦ v](f) = v, where F has f

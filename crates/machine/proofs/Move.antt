@@ -16,13 +16,20 @@ use Rattle.typing.specs.declared.Answer.the-variants.{Typed}
 use Rattle.typing.specs.Members.{typeIn}
 use Rattle.typing.specs.Published.{T-SUB-EQ, FieldIn, MsigIn, Infer, BD-INFER-VAR, BD-INFER-LET, BD-INFER-CALL, BD-INFER-CAST, BD-INFER-SELECT, BD-INFER-UPDATE, BD-INFER-NEW, BD-INFER-LOCK, BD-INFER-FJ}
 use Rattle.typing.proofs.Types.{type-wf}
-use Rattle.machine.specs.Config.{Code, Value, nil, ref, Object, Binding, Stores, Frame, awaits, casts, locks, Tree, running, returning, failed}
-use Rattle.machine.specs.Machine.{fieldsOf, scope, slot, context, find, object, setShut, setFields, setField, nulls, oneIf, lockFrames, Places, Outcome, still, full, moved, give, descend, make, spawn, enter, take, lockObject, lockValue, lockTarget, extend, selectValue, selectTarget, updateValue, callMethod, callValue, run, wake, resume}
-use Rattle.machine.specs.WellFormed.{Want, any, upto, Meets, meets-any, meets-type, Fits, fits-nil, fits-ref, Gives, gives-type, At, a-binding, FieldsOk, StoresOk, Awaits, a-let, a-write, a-call, FramesOk, no-frames, a-node, a-cast, a-lock, TreeOk, running-ok, returning-ok, failed-ok, join-ok, lockCount, failures, shutAt}
-use Rattle.machine.specs.Accepted.{Later, Accepted}
+use Rattle.machine.specs.declared.Store.{Store}
+use Rattle.machine.specs.declared.Value.{Value}
+use Rattle.machine.specs.declared.Value.the-variants.{Null as nil, Ref as ref}
+use Rattle.machine.specs.declared.Frame.{Frame}
+use Rattle.machine.specs.declared.Frame.the-variants.{Awaits as awaits, Casts as casts, Locks as locks}
+use Rattle.machine.specs.Config.{Code, Object, Binding, Stores, Tree, running, returning, failed}
+use Rattle.machine.specs.Machine.{fieldsOf, scope, slot, context, find, object, setShut, setFields, setField, nulls, oneIf, lockFrames, Places, Outcome, still, full, moved, give, descend, make, spawn, enter, shutAndEnter, lockObject, lockValue, lockTarget, extend, selectValue, selectTarget, updateValue, callMethod, callValue, runNode, wake, resume}
+use Rattle.machine.specs.declared.Want.{Want}
+use Rattle.machine.specs.declared.Want.the-variants.{Any as any, Upto as upto}
+use Rattle.machine.specs.WellFormed.{Meets, meets-any, meets-type, ValueFits, fits-nil, fits-ref, Gives, gives-type, NodeGives, a-binding, FieldsOk, StoresOk, Awaits, a-let, a-write, a-call, FramesOk, no-frames, a-node, a-cast, a-lock, TreeOk, running-ok, returning-ok, failed-ok, join-ok, lockCount, failures, shutAt}
+use Rattle.machine.specs.Accepted.{LaterPart, AcceptedCode}
 use Rattle.machine.specs.Standing.{Waits, waits}
 use Rattle.machine.proofs.Types.{meets-below, check-gives, gives-meets, let-type, below-class, below-method, infer-computes, field-declared, class-below, Defined, defined}
-use Rattle.machine.proofs.Store.{keeps-append, keeps-shut, keeps-fields, scope-newest, scope-empty, shutAt-fields, field-seen, set-field, nulls-ok, seen, object-last, shutAt-new, shutAt-le, shutAt-object, opens, shuts}
+use Rattle.machine.proofs.Stores.{keeps-append, keeps-shut, keeps-fields, scope-newest, scope-empty, shutAt-fields, field-seen, set-field, nulls-ok, seen, object-last, shutAt-new, shutAt-le, shutAt-object, opens, shuts}
 use Rattle.machine.proofs.Grow.{Grows, grows-same, grows-objects, grows-binding, grows-call, heap-grows, heap-append, heap-shut, heap-fields, fields-grow, fits-grows, bindings-grow, frames-grow}
 
 -- What a move of a part of the tree, from `t` to `u`, leaves well formed, and what it does to the locks.
@@ -36,14 +43,14 @@ pub record Fine (s : Code) (w : Want) (st : Stores) (t : Tree) (su : Stores) (u 
 -- What holds of an outcome: Q where there is no move.
 pub data Judged (s : Code) (w : Want) (st : Stores) (t : Tree) (Q : Type 0) : Outcome → Type 0 where
   no-move : Q → Judged s w st t Q still
-  no-room : {k : ℕ} → (4 ≤ k) × (k ≤ 7) → Judged s w st t Q (full k)
+  no-room : {k : Store} → Judged s w st t Q (full k)
   a-move : {su : Stores} {u : Tree} → Fine s w st t su u → Judged s w st t Q (moved su u)
 
 abbrev pub Waiting : Stores → List Frame → List Frame → ℕ → Node → Type 0
 Waiting st above fs e a = (o : ℕ) × Waits st above fs e o a
 
 -- a value of a type fits what the type meets
-fits-meets : {s : Code} {xs : List Object} {v : Value} {t : ℕ} {u : Want} → Fits s xs v (upto t) → Meets s t u → Fits s xs v u
+fits-meets : {s : Code} {xs : List Object} {v : Value} {t : ℕ} {u : Want} → ValueFits s xs v (upto t) → Meets s t u → ValueFits s xs v u
 fits-meets fits-nil m = fits-nil
 fits-meets (fits-ref h (meets-type b)) m = fits-ref h (meets-below b m)
 
@@ -70,7 +77,7 @@ module _ {s : Code} {w : Want} {st : Stores} (ok : StoresOk s st) where
         whole = λ f. absurd (omega arith);
       }
 
-  module _ {start : ℕ} (acc : Accepted s start) (room : Places) (above fs : List Frame) (p : Point) (v : Want) (r : FramesOk s (st .bindings) w fs v) (e : ℕ) (le : e ≤ length (st .bindings)) where
+  module _ {start : ℕ} (acc : AcceptedCode s start) (room : Places) (above fs : List Frame) (p : Point) (v : Want) (r : FramesOk s (st .bindings) w fs v) (e : ℕ) (le : e ≤ length (st .bindings)) where
     give-good : {Q : Type 0} (x t : ℕ) → typeIn (context (st .bindings) e) x ≡ some t → Meets s t v
         → Judged s w st (running p e fs) Q (give st fs (find (scope (st .bindings) e) x))
     give-good x t h m =
@@ -78,20 +85,20 @@ module _ {s : Code} {w : Want} {st : Stores} (ok : StoresOk s st) where
         rw (f .there) (a-move (kept _ _ (returning-ok (fits-meets (f .fits) m) r) refl (λ o. refl)))
 
     -- a part is run first
-    descend-good : {Q : Type 0} (a : Point) {u : Want} (f : Frame) → At s (context (st .bindings) e) a u → FramesOk s (st .bindings) w (f ∷ fs) u → ((o : ℕ) → lockFrames o (f ∷ fs) ≡ lockFrames o fs)
+    descend-good : {Q : Type 0} (a : Point) {u : Want} (f : Frame) → NodeGives s (context (st .bindings) e) a u → FramesOk s (st .bindings) w (f ∷ fs) u → ((o : ℕ) → lockFrames o (f ∷ fs) ≡ lockFrames o fs)
         → (k : ℕ) → Judged s w st (running p e fs) Q (descend st fs e f a k)
-    descend-good a f g h i zero = no-room {k = 6} (omega arith)
+    descend-good a f g h i zero = no-room
     descend-good a f g h i (suc k) = a-move (kept _ _ (running-ok le g h) refl i)
 
-    spawn-good : {Q : Type 0} (a b c : Point) → At s (context (st .bindings) e) a any → At s (context (st .bindings) e) b any
-        → At s (context (st .bindings) e) c v → (k : ℕ) → Judged s w st (running p e fs) Q (spawn st fs e a b c k)
-    spawn-good a b c i j g zero = no-room {k = 7} (omega arith)
+    spawn-good : {Q : Type 0} (a b c : Point) → NodeGives s (context (st .bindings) e) a any → NodeGives s (context (st .bindings) e) b any
+        → NodeGives s (context (st .bindings) e) c v → (k : ℕ) → Judged s w st (running p e fs) Q (spawn st fs e a b c k)
+    spawn-good a b c i j g zero = no-room
     spawn-good a b c i j g (suc k) =
         a-move
         (kept _ _ (join-ok le g r (running-ok le i no-frames) (running-ok le j no-frames)) refl (λ o. omega arith))
 
     make-good : {Q : Type 0} (c : ℕ) → IsClass (s .program) c → Meets s c v → (k : ℕ) → Judged s w st (running p e fs) Q (make s st fs c k)
-    make-good c i m zero = no-room {k = 4} (omega arith)
+    make-good c i m zero = no-room
     make-good c i m (suc k) =
         let y : Object = record { class = c; shut = false; fields = nulls (fieldsOf (s .program) c) } in
         let q = keeps-append (st .objects) (y ∷ []) in
@@ -110,14 +117,14 @@ module _ {s : Code} {w : Want} {st : Stores} (ok : StoresOk s st) where
         })
 
     lock-enters : (x o : ℕ) (a : Point) (b : Binding) → find (scope (st .bindings) e) x ≡ some b → b .value ≡ ref o → shutAt (st .objects) o ≡ 1
-        → At s (context (st .bindings) e) a v → (n : ℕ) → lockFrames o fs + lockFrames o above ≡ n
+        → NodeGives s (context (st .bindings) e) a v → (n : ℕ) → lockFrames o fs + lockFrames o above ≡ n
         → Judged s w st (running p e fs) (Waiting st above fs e (n-lock x a)) (enter st fs a e n)
     lock-enters x o a b h k z g zero q = no-move (o, waits h k z q)
     lock-enters x o a b h k z g (suc n) q = a-move (kept _ _ (running-ok le g r) refl (λ o. refl))
 
-    lock-takes : {Q : Type 0} (o : ℕ) (a : Point) (y : Object) → object (st .objects) o ≡ some y → y .shut ≡ false → At s (context (st .bindings) e) a v
-        → (k : ℕ) → Judged s w st (running p e fs) Q (take st fs a e o k)
-    lock-takes o a y l z i zero = no-room {k = 6} (omega arith)
+    lock-takes : {Q : Type 0} (o : ℕ) (a : Point) (y : Object) → object (st .objects) o ≡ some y → y .shut ≡ false → NodeGives s (context (st .bindings) e) a v
+        → (k : ℕ) → Judged s w st (running p e fs) Q (shutAndEnter st fs a e o k)
+    lock-takes o a y l z i zero = no-room
     lock-takes o a y l z i (suc k) =
         let g = grows-objects st (setShut true (st .objects) o) (keeps-shut true (st .objects) o) in
         a-move
@@ -130,25 +137,25 @@ module _ {s : Code} {w : Want} {st : Stores} (ok : StoresOk s st) where
         })
 
     lock-object : (x o : ℕ) (a : Point) (b : Binding) (y : Object) → find (scope (st .bindings) e) x ≡ some b → b .value ≡ ref o
-        → object (st .objects) o ≡ some y → At s (context (st .bindings) e) a v → (q : Bool) → y .shut ≡ q
+        → object (st .objects) o ≡ some y → NodeGives s (context (st .bindings) e) a v → (q : Bool) → y .shut ≡ q
         → Judged s w st (running p e fs) (Waiting st above fs e (n-lock x a)) (lockObject st above fs a e (room .frames) o (some (record { class = y .class; shut = q; fields = y .fields })))
     lock-object x o a b y h k l g true z =
         lock-enters x o a b h k (shutAt-object (st .objects) o y l ∙ ap oneIf z) g (lockFrames o fs + lockFrames o above) refl
     lock-object x o a b y h k l g false z = lock-takes o a y l z g (room .frames)
 
     lock-value : (x t : ℕ) (a : Point) (b : Binding) → find (scope (st .bindings) e) x ≡ some b
-        → At s (context (st .bindings) e) a v → (u : Value) → b .value ≡ u → Fits s (st .objects) u (upto t)
+        → NodeGives s (context (st .bindings) e) a v → (u : Value) → b .value ≡ u → ValueFits s (st .objects) u (upto t)
         → Judged s w st (running p e fs) (Waiting st above fs e (n-lock x a)) (lockValue st above fs a e (room .frames) u)
     lock-value x t a b h g nil k f = a-move (fails _)
     lock-value x t a b h g (ref o) k (fits-ref {x = y} l m) = rw l (lock-object x o a b y h k l g (y .shut) refl)
 
-    lock-good : (x t : ℕ) (a : Point) → typeIn (context (st .bindings) e) x ≡ some t → At s (context (st .bindings) e) a v
+    lock-good : (x t : ℕ) (a : Point) → typeIn (context (st .bindings) e) x ≡ some t → NodeGives s (context (st .bindings) e) a v
         → Judged s w st (running p e fs) (Waiting st above fs e (n-lock x a)) (lockTarget st above fs a e (room .frames) (find (scope (st .bindings) e) x))
     lock-good x t a h g =
         let f = seen e x t (ok .bindings) h in
         rw (f .there) (lock-value x t a (f .binding) (f .there) g (f .binding .value) refl (f .fits))
 
-    select-value : {Q : Type 0} (f c u : ℕ) → FieldIn (s .program) c f u → Meets s u v → (y : Value) → Fits s (st .objects) y (upto c)
+    select-value : {Q : Type 0} (f c u : ℕ) → FieldIn (s .program) c f u → Meets s u v → (y : Value) → ValueFits s (st .objects) y (upto c)
         → Judged s w st (running p e fs) Q (selectValue s st fs f y)
     select-value f c u d m nil k = a-move (fails _)
     select-value f c u d m (ref o) (fits-ref {x = y} l (meets-type b)) =
@@ -163,8 +170,8 @@ module _ {s : Code} {w : Want} {st : Stores} (ok : StoresOk s st) where
         let y = seen e x c (ok .bindings) h in
         rw (y .there) (select-value f c u d m (y .binding .value) (y .fits))
 
-    pub run-good : (n : Node) → p < s .size → s .view p ≡ n → ((q : Point) → q ∈ parts n → Later s p q) → Gives s (context (st .bindings) e) (build p (s .expr) n) v
-        → Judged s w st (running p e fs) (Waiting st above fs e n) (run s room st above fs e p n)
+    pub run-good : (n : Node) → p < s .size → s .view p ≡ n → ((q : Point) → q ∈ parts n → LaterPart s p q) → Gives s (context (st .bindings) e) (build p (s .expr) n) v
+        → Judged s w st (running p e fs) (Waiting st above fs e n) (runNode s room st above fs e p n)
     run-good n-null q i y g = a-move (kept _ _ (returning-ok fits-nil r) refl (λ o. refl))
     run-good (n-var x) q i y (gives-type (BD-INFER-VAR z h) m) = give-good x _ h m
     run-good (n-select x f) q i y (gives-type (BD-INFER-SELECT (BD-INFER-VAR z h) d) m) = select-good x f _ _ h d m
@@ -182,12 +189,12 @@ module _ {s : Code} {w : Want} {st : Stores} (ok : StoresOk s st) where
         (record { node = y c third .there; gives = gives-type k m }) (room .threads)
     run-good (n-lock x a) q i y (gives-type (BD-INFER-LOCK (BD-INFER-VAR z h) k) m) = lock-good x _ a h (record { node = y a first .there; gives = gives-type k m })
 
-  module _ {start : ℕ} (acc : Accepted s start) (room : Places) (x : Value) (i : Point) where
+  module _ {start : ℕ} (acc : AcceptedCode s start) (room : Places) (x : Value) (i : Point) where
     bind-good : {Q : Type 0} (n e t u : ℕ) (b : Point) (fs : List Frame) (v : Want) → n < 65536 → b < s .size → e ≤ length (st .bindings)
         → Infer (s .program) (record { name = n; type = t } ∷ context (st .bindings) e) (s .expr b) u → Meets s u v → FramesOk s (st .bindings) w fs v
-        → Fits s (st .objects) x (upto t) → (k : ℕ)
+        → ValueFits s (st .objects) x (upto t) → (k : ℕ)
         → Judged s w st (returning x (awaits i e ∷ fs)) Q (extend st fs n x b e (Typed t) k)
-    bind-good n e t u b fs v a y le q m r f zero = no-room {k = 5} (omega arith)
+    bind-good n e t u b fs v a y le q m r f zero = no-room
     bind-good n e t u b fs v a y le q m r f (suc k) =
         let z : Binding = record { name = n; type = t; value = x; link = e } in
         let g = grows-binding st z in
@@ -226,7 +233,7 @@ module _ {s : Code} {w : Want} {st : Stores} (ok : StoresOk s st) where
         }
 
     update-value : {Q : Type 0} (f e c u : ℕ) (fs : List Frame) (v : Want) → FieldIn (s .program) c f u
-        → FramesOk s (st .bindings) w fs v → Fits s (st .objects) x (upto u) → (y : Value) → Fits s (st .objects) y (upto c)
+        → FramesOk s (st .bindings) w fs v → ValueFits s (st .objects) x (upto u) → (y : Value) → ValueFits s (st .objects) y (upto c)
         → Judged s w st (returning x (awaits i e ∷ fs)) Q (updateValue s st fs f x y)
     update-value f e c u fs v d r j nil k = a-move (fails _)
     update-value f e c u fs v d r j (ref o) (fits-ref {x = y} l (meets-type b)) =
@@ -236,10 +243,10 @@ module _ {s : Code} {w : Want} {st : Stores} (ok : StoresOk s st) where
         rw l (a-move (update-object e fs v o y r l (setField x (fieldsOf (s .program) (y .class)) (y .fields) f) q))
 
     call-method : {Q : Type 0} (e : ℕ) (fs : List Frame) (v : Want) (o : ℕ) (y : Object) {g : Signature} → FramesOk s (st .bindings) w fs v → object (st .objects) o ≡ some y
-        → (b : Defined s (y .class) g) → Meets s (b .method .signature .result) v → Fits s (st .objects) x (upto (b .method .signature .param)) → (k : ℕ)
+        → (b : Defined s (y .class) g) → Meets s (b .method .signature .result) v → ValueFits s (st .objects) x (upto (b .method .signature .param)) → (k : ℕ)
         → Judged s w st (returning x (awaits i e ∷ fs)) Q (callMethod st fs x o (y .class) (some (b .method)) k)
-    call-method e fs v o y r h b k f zero = no-room {k = 5} (omega arith)
-    call-method e fs v o y r h b k f (suc zero) = no-room {k = 5} (omega arith)
+    call-method e fs v o y r h b k f zero = no-room
+    call-method e fs v o y r h b k f (suc zero) = no-room
     call-method e fs v o y r h b k f (suc (suc j)) =
         let t = b .method .signature .param in
         let self : Binding = record { name = 0; type = y .class; value = ref o; link = 0 } in
@@ -267,15 +274,15 @@ module _ {s : Code} {w : Want} {st : Stores} (ok : StoresOk s st) where
         })
 
     call-value : {Q : Type 0} (m e c t u : ℕ) (fs : List Frame) (v : Want) → MsigIn (s .program) c (record { name = m; param = t; result = u }) → Meets s u v
-        → FramesOk s (st .bindings) w fs v → Fits s (st .objects) x (upto t) → (k : ℕ) (y : Value) → Fits s (st .objects) y (upto c)
+        → FramesOk s (st .bindings) w fs v → ValueFits s (st .objects) x (upto t) → (k : ℕ) (y : Value) → ValueFits s (st .objects) y (upto c)
         → Judged s w st (returning x (awaits i e ∷ fs)) Q (callValue s st fs m x k y)
     call-value m e c t u fs v h k r f room nil j = a-move (fails _)
     call-value m e c t u fs v h k r f room (ref o) (fits-ref {x = y} l (meets-type b)) =
         let q = defined acc (ok .heap o y l .class) (below-method acc b h) in
         rw (l, q .there) (call-method e fs v o y r l q (rw (q .same) k) (rw (q .same) f) room)
 
-    wake-good : {Q : Type 0} (e t u : ℕ) (fs : List Frame) (v : Want) → e ≤ length (st .bindings) → (n : Node) → s .view i ≡ n → ((q : Point) → q ∈ parts n → Later s i q) → Awaits s (context (st .bindings) e) n t u → Meets s u v
-        → FramesOk s (st .bindings) w fs v → Fits s (st .objects) x (upto t) → Judged s w st (returning x (awaits i e ∷ fs)) Q (wake s room st x fs e n)
+    wake-good : {Q : Type 0} (e t u : ℕ) (fs : List Frame) (v : Want) → e ≤ length (st .bindings) → (n : Node) → s .view i ≡ n → ((q : Point) → q ∈ parts n → LaterPart s i q) → Awaits s (context (st .bindings) e) n t u → Meets s u v
+        → FramesOk s (st .bindings) w fs v → ValueFits s (st .objects) x (upto t) → Judged s w st (returning x (awaits i e ∷ fs)) Q (wake s room st x fs e n)
     wake-good e t u fs v le (n-bind y a b) j k (a-let p q) m r f =
         rw (infer-computes acc p) (bind-good y e t u b fs v (acc .words i y a b j) (k b second .there) le q m r f (room .bindings))
     wake-good e t u fs v le (n-update y f a) j k (a-write {c = c} h d) m r l =
@@ -285,8 +292,8 @@ module _ {s : Code} {w : Want} {st : Stores} (ok : StoresOk s st) where
         let z = seen e y c (ok .bindings) h in
         rw (z .there) (call-value n e c t u fs v d m r l (room .bindings) (z .binding .value) (z .fits))
 
-  module _ {start : ℕ} (acc : Accepted s start) (room : Places) (x : Value) where
-    pub resume-good : (fs : List Frame) (v : Want) → FramesOk s (st .bindings) w fs v → Fits s (st .objects) x v
+  module _ {start : ℕ} (acc : AcceptedCode s start) (room : Places) (x : Value) where
+    pub resume-good : (fs : List Frame) (v : Want) → FramesOk s (st .bindings) w fs v → ValueFits s (st .objects) x v
         → ((o : ℕ) → lockFrames o fs ≤ shutAt (st .objects) o) → Judged s w st (returning x fs) (fs ≡ []) (resume s room st x fs)
     resume-good [] v r f k = no-move refl
     resume-good (awaits n e ∷ fs) v (a-node {t = t} {u = u} {v = v′} i le h m r) f k = wake-good acc room x n e t u fs v′ le (s .view n) refl (acc .in-order n i) h m r f

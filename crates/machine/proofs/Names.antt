@@ -10,10 +10,13 @@ use lib.ListN.{length, length-append}
 use borrow.Author.Tests.{eq-eqb, ne-eqb, eqb-true}
 use Rattle.script.specs.Lists.{named}
 use Rattle.script.specs.Syntax.{Point, Expr, null, var, select, update, call, bind, new, cast, fork, lock}
-use Rattle.machine.specs.Config.{Code, Value, Binding, Stores, Frame, Tree}
+use Rattle.machine.specs.declared.Value.{Value}
+use Rattle.machine.specs.declared.Frame.{Frame}
+use Rattle.machine.specs.Config.{Code, Binding, Stores, Tree}
 use Rattle.machine.specs.Machine.{scope, find}
-use Rattle.machine.specs.WellFormed.{Want, FramesOk, no-frames, a-node, a-cast, a-lock, TreeOk, running-ok, returning-ok, failed-ok, join-ok}
-use Rattle.machine.specs.Steps.{PVar, static, fresh, PExpr, p-let, p-cast, p-fork, p-lock, p-update, p-call, shadow, close, renameVar, rename, valueOf, fill, p-join, p-thread}
+use Rattle.machine.specs.declared.Want.{Want}
+use Rattle.machine.specs.WellFormed.{FramesOk, no-frames, a-node, a-cast, a-lock, TreeOk, running-ok, returning-ok, failed-ok, join-ok}
+use Rattle.machine.specs.Steps.{PVar, static, fresh, PExpr, p-let, p-cast, p-fork, p-lock, p-update, p-call, shadow, close, renameVar, rename, entryValue, fill, p-join, p-thread}
 use Rattle.machine.specs.ReadAs.{entries, names, gap, plug, held, said, read}
 use Rattle.machine.proofs.Grow.{Grows}
 
@@ -28,7 +31,7 @@ names-grow : {st su : Stores} → Grows st su → (e : ℕ) → e ≤ length (st
 names-grow {st} g e h = rw (g .grown) (names-added (g .added) (st .bindings) e h)
 
 -- a variable's value in the reading
-pub entry-older : (bs : List Binding) (n : ℕ) → length bs ≤ n → valueOf (entries bs) n ≡ none
+pub entry-older : (bs : List Binding) (n : ℕ) → length bs ≤ n → entryValue (entries bs) n ≡ none
 entry-older [] n h = refl
 entry-older (b ∷ bs) n h = rw (ne-eqb (length bs) n (λ p. omega arith)) (entry-older bs n (omega arith))
 
@@ -36,17 +39,17 @@ pub entry-count : (bs : List Binding) → length (entries bs) ≡ length bs
 entry-count [] = refl
 entry-count (b ∷ bs) = ap suc (entry-count bs)
 
-pub entry-new : (bs : List Binding) → valueOf (entries bs) (length bs) ≡ none
+pub entry-new : (bs : List Binding) → entryValue (entries bs) (length bs) ≡ none
 entry-new bs = entry-older bs (length bs) (omega arith)
 
 pub record Named (bs : List Binding) (e x : ℕ) (v : Value) : Type 0 where
   pub number : ℕ
   pub inside : number < length bs
   pub name : names bs e x ≡ fresh number
-  pub value : valueOf (entries bs) number ≡ some v
+  pub value : entryValue (entries bs) number ≡ some v
 
 module _ (c : Binding) (bs : List Binding) where
-  later-entry : (n : ℕ) → n < length bs → valueOf (entries (c ∷ bs)) n ≡ valueOf (entries bs) n
+  later-entry : (n : ℕ) → n < length bs → entryValue (entries (c ∷ bs)) n ≡ entryValue (entries bs) n
   later-entry n h = rw (ne-eqb (length bs) n (λ p. omega arith))
 
   named-here : (x : ℕ) (b : Binding) → (q : Bool) → eqb (c .name) x ≡ q → cond q (some c) (find (scope bs (c .link)) x) ≡ some b

@@ -10,8 +10,12 @@ use Rattle.script.specs.Syntax.{Point, Node, n-null, n-var, n-select, n-update,
 use Rattle.typing.specs.declared.Answer.{Answer}
 use Rattle.typing.specs.declared.Answer.the-variants.{Typed, Faulty}
 use Rattle.typing.specs.Typing.{inferred}
-use Rattle.machine.specs.Config.{Code, Value, nil, ref, Object, Binding, Stores, Frame, awaits, casts, locks, Tree, running, returning, failed, join, Config}
-use Rattle.machine.specs.Machine.{fieldsOf, definedIn, scope, context, find, object, fieldValue, lockFrames, Places, spare, Outcome, still, full, moved, give, descend, make, spawn, enter, take, lockObject, lockValue, lockTarget, extend, selectField, selectObject, selectValue, selectTarget, updateObject, updateValue, updateTarget, callMethod, callObject, callValue, callTarget, run, wake, resume, Phase, finished, broken, busy, phase, fold, Path, here, left, right, moveAt, move}
+use Rattle.machine.specs.declared.Value.{Value}
+use Rattle.machine.specs.declared.Value.the-variants.{Null as nil, Ref as ref}
+use Rattle.machine.specs.declared.Frame.{Frame}
+use Rattle.machine.specs.declared.Frame.the-variants.{Awaits as awaits, Casts as casts, Locks as locks}
+use Rattle.machine.specs.Config.{Code, Object, Binding, Stores, Tree, running, returning, failed, join, Config}
+use Rattle.machine.specs.Machine.{fieldsOf, definedIn, scope, context, find, object, fieldValue, lockFrames, Places, spare, Outcome, still, full, moved, give, descend, make, spawn, enter, shutAndEnter, lockObject, lockValue, lockTarget, extend, selectField, selectObject, selectValue, selectTarget, updateObject, updateValue, updateTarget, callMethod, callObject, callValue, callTarget, runNode, wake, resume, Phase, finished, broken, busy, phase, fold, Path, here, left, right, moveAt, move}
 use Rattle.machine.specs.Silent.{part}
 use Rattle.machine.specs.OnNull.{NullAt, Fails, null-read, null-lock, null-write, null-call, left-failed, right-failed}
 use Rattle.machine.proofs.Steps.{is-broken}
@@ -61,7 +65,7 @@ module _ (s : Code) (room : Places) (st : Stores) (Q : Type 0) (fs : List Frame)
   enter-only a zero = tt
   enter-only a (suc n) = inl u-running
 
-  take-only : (a : Point) (o k : ℕ) → Only Q (take st fs a e o k)
+  take-only : (a : Point) (o k : ℕ) → Only Q (shutAndEnter st fs a e o k)
   take-only a o zero = tt
   take-only a o (suc k) = inl u-running
 
@@ -135,7 +139,7 @@ module _ (s : Code) (room : Places) (st : Stores) (Q : Type 0) (fs : List Frame)
     call-target m v k (some b) h = call-value-only m v k (b .value) (λ i. null (record { binding = b; there = h; value = i }))
 
 module _ (s : Code) (room : Places) (st : Stores) where
-  run-only : (above fs : List Frame) (e : ℕ) (p : Point) (n : Node) → s .view p ≡ n → Only (Fails s st (running p e fs)) (run s room st above fs e p n)
+  run-only : (above fs : List Frame) (e : ℕ) (p : Point) (n : Node) → s .view p ≡ n → Only (Fails s st (running p e fs)) (runNode s room st above fs e p n)
   run-only above fs e p n-null i = inl u-returning
   run-only above fs e p (n-var x) i = give-only s room st _ fs e (find (scope (st .bindings) e) x)
   run-only above fs e p (n-select x f) i = select-target s room st _ fs e x (null-read i) f (find (scope (st .bindings) e) x) refl

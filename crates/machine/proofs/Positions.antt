@@ -9,17 +9,20 @@ use mathlib.Core.Option.{some, Option·none-ne-some}
 use borrow.Author.Tests.{lt-ltb, le-ltb}
 use Rattle.typing.specs.Published.{T-SUB-EQ}
 use Rattle.script.specs.Syntax.{Point}
-use Rattle.machine.specs.Config.{Code, Stores, Frame, Tree, running, returning, failed, join, Config}
+use Rattle.machine.specs.declared.Frame.{Frame}
+use Rattle.machine.specs.Config.{Code, Stores, Tree, running, returning, failed, join, Config}
 use Rattle.machine.specs.Machine.{phase, lockFrames, Places, limits, spare, still, Path, here, left, right, inLeft, inRight, moveAt, move, size, locate, chosen, choice, initial}
-use Rattle.machine.specs.WellFormed.{Want, upto, meets-type, gives-type, no-bindings, no-frames, running-ok, lockCount, WfConfig, WellFormed}
-use Rattle.machine.specs.Accepted.{Accepted}
-use Rattle.machine.specs.Standing.{heldBy, verdict, End}
+use Rattle.machine.specs.declared.Want.{Want}
+use Rattle.machine.specs.declared.Want.the-variants.{Upto as upto}
+use Rattle.machine.specs.WellFormed.{meets-type, gives-type, no-bindings, no-frames, running-ok, lockCount, WfConfig, WellFormed}
+use Rattle.machine.specs.Accepted.{AcceptedCode}
+use Rattle.machine.specs.Standing.{heldBy, ending}
 use Rattle.machine.proofs.Types.{start-typed, start-type}
-use Rattle.machine.proofs.Store.{shutAt-le}
-use Rattle.machine.proofs.Ends.{classified}
+use Rattle.machine.proofs.Stores.{shutAt-le}
+use Rattle.machine.proofs.Ends.{SeenEnd, classified}
 
 -- how many lock frames of an object a thread holds is at most what the tree has
-held-bound : (o n : ℕ) (t : Tree) (p : Path) → heldBy o n t p ≤ n + lockCount o t
+pub held-bound : (o n : ℕ) (t : Tree) (p : Path) → heldBy o n t p ≤ n + lockCount o t
 held-bound o n (running a e fs) here = omega arith
 held-bound o n (running a e fs) (left p) = omega arith
 held-bound o n (running a e fs) (right p) = omega arith
@@ -114,12 +117,12 @@ no-move-at s lim c h p =
     (place-or-still s (spare lim (c .stores) (c .tree)) (c .stores) [] (c .tree) p)
 
 -- Where no position can move the run has ended in one of the three ways.
-pub ended : {s : Code} {start : ℕ} (acc : Accepted s start) (lim : Places) {w : Want} {c : Config} → WfConfig s w c → ((n : ℕ) → n < size (c .tree) → choice s lim c n ≡ still)
-    → End s c (verdict (phase (c .tree)) false)
+pub ended : {s : Code} {start : ℕ} (acc : AcceptedCode s start) (lim : Places) {w : Want} {c : Config} → WfConfig s w c → ((n : ℕ) → n < size (c .tree) → choice s lim c n ≡ still)
+    → SeenEnd s c (ending (phase (c .tree)) false)
 ended {s} acc lim {c = c} h n = classified acc lim h (no-move-at s lim c n)
 
 -- What Start writes is well formed.
-initial-formed : {s : Code} {start : ℕ} → Accepted s start → WfConfig s (upto start) initial
+initial-formed : {s : Code} {start : ℕ} → AcceptedCode s start → WfConfig s (upto start) initial
 initial-formed acc =
     record {
       stores = record { bindings = no-bindings; heap = λ o x e. absurd (Option·none-ne-some _ e) };
@@ -128,5 +131,5 @@ initial-formed acc =
       covered = λ z o. omega arith;
     }
 
-pub initial-well : {s : Code} {start : ℕ} → Accepted s start → WellFormed s limits start initial
+pub initial-well : {s : Code} {start : ℕ} → AcceptedCode s start → WellFormed s limits start initial
 initial-well acc = record { formed = initial-formed acc; within = record { objects = omega arith; bindings = omega arith; frames = omega arith; threads = omega arith } }

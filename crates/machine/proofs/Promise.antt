@@ -1,25 +1,30 @@
 -- Every well-formed configuration keeps the promises of demand 3, and a run keeps every binding; Offer's flags.
-use Prim.Native.Nat.{ℕ, zero, suc, _≤_}
+use Prim.Native.Nat.{ℕ}
 use native.Mathlib.Omega.{arith}
 use mathlib.Core.Path.{_≡_, refl, sym, _∙_, ap}
 use mathlib.Core.Bool.{true, false}
 use mathlib.Core.List.{List, [], _∷_, _++_, append-assoc, List·Memᴰ·cases-cons, List·Memᴰ·not-nil}
 use mathlib.Core.Logic.{_⊎_, inl, inr, ⊎-elim}
+use mathlib.Core.Option.{Option, none, some}
 use Rattle.script.specs.Lists.{_∈_}
+use Rattle.machine.specs.declared.Store.{Store}
+use Rattle.machine.specs.declared.Ending.{Ending}
+use Rattle.machine.specs.declared.Stop.the-variants.{Spent, Ended, Full}
 use Rattle.machine.specs.Config.{Code, Object, Binding, Config}
-use Rattle.machine.specs.Machine.{phase, Places, Outcome, still, full, moved, choice, able, canMove}
-use Rattle.machine.specs.WellFormed.{upto, Fits, BindingsOk, no-bindings, a-binding, WellFormed}
-use Rattle.machine.specs.Accepted.{Accepted}
-use Rattle.machine.specs.Standing.{verdict}
+use Rattle.machine.specs.Machine.{Places, Outcome, still, full, moved, choice, able, canMove}
+use Rattle.machine.specs.declared.Want.the-variants.{Upto as upto}
+use Rattle.machine.specs.WellFormed.{ValueFits, BindingsOk, no-bindings, a-binding, WellFormed}
+use Rattle.machine.specs.Accepted.{AcceptedCode}
 use Rattle.machine.specs.Runs.{look, Report, report, Runs, ends, spends, passes, moves, fills}
 use Rattle.machine.specs.Promise.{Promised, Kept}
 use Rattle.machine.proofs.Types.{field-declared}
-use Rattle.machine.proofs.Store.{field-seen}
+use Rattle.machine.proofs.Stores.{field-seen}
+use Rattle.machine.proofs.Ends.{some-end}
 use Rattle.machine.proofs.Positions.{ended, exclusive}
 use Rattle.machine.proofs.Asks.{field-there, method-there}
-use Rattle.machine.proofs.Run.{run-runs, moved-choice, moved-keeps, full-choice, able-look, look-small, able-moves}
+use Rattle.machine.proofs.Run.{run-runs, moved-choice, moved-keeps, able-look, able-moves}
 
-binding-fits : {s : Code} {xs : List Object} {bs : List Binding} → BindingsOk s xs bs → (b : Binding) → b ∈ bs → Fits s xs (b .value) (upto (b .type))
+binding-fits : {s : Code} {xs : List Object} {bs : List Binding} → BindingsOk s xs bs → (b : Binding) → b ∈ bs → ValueFits s xs (b .value) (upto (b .type))
 binding-fits no-bindings b m = absurd (List·Memᴰ·not-nil m)
 binding-fits (a-binding {b = c} h ok) b m = ⊎-elim (λ (e : b ≡ c). rw e (h .value)) (λ k. binding-fits ok b k) (List·Memᴰ·cases-cons m)
 
@@ -29,7 +34,7 @@ kept-same c = record { added = []; there = refl }
 pub kept-then : {c d e : Config} → Kept c d → Kept d e → Kept c e
 kept-then {c} x y = record { added = y .added ++ x .added; there = y .there ∙ ap (λ (l : List Binding). y .added ++ l) (x .there) ∙ sym (append-assoc (y .added) (x .added) (c .stores .bindings)) }
 
-module _ {s : Code} {start : ℕ} (acc : Accepted s start) (lim : Places) where
+module _ {s : Code} {start : ℕ} (acc : AcceptedCode s start) (lim : Places) where
   -- What demand 3 promises holds of every well-formed configuration.
   pub promised : {c : Config} → WellFormed s lim start c → Promised s lim c
   promised {c} h =
@@ -43,7 +48,7 @@ module _ {s : Code} {start : ℕ} (acc : Accepted s start) (lim : Places) where
             let i : q .value ≡ v = cc (q .there) in
             rw i at (q .fits);
         exclusive = exclusive (h .formed);
-        ended = λ n. (verdict (phase (c .tree)) false, ended acc lim (h .formed) (λ i l. n i));
+        ended = λ n. some-end (ended acc lim (h .formed) (λ i l. n i));
       }
 
   -- A run keeps every binding.
@@ -57,31 +62,29 @@ module _ {s : Code} {start : ℕ} (acc : Accepted s start) (lim : Places) where
   pub run-keeps : (ns : List ℕ) (c : Config) → WellFormed s lim start c → Kept c (report s lim c ns .config)
   run-keeps ns c h = runs-keep (run-runs s lim ns c) h
 
-  -- Offer: the flag of a position is 1 exactly if a Run with that one choice makes a move or meets a full store, and a position passed over changes nothing.
-  pub flag-set : (c : Config) (n : ℕ) → WellFormed s lim start c → canMove s lim c n ≡ true → (report s lim c (n ∷ []) .moves ≡ 1) ⊎ (4 ≤ report s lim c (n ∷ []) .stop)
+-- Offer: the flag of a position is 1 exactly if a Run with that one choice makes a move or meets a full store, and a position passed over changes nothing.
+module _ (s : Code) (lim : Places) (c : Config) (n : ℕ) where
+  pub flag-set : canMove s lim c n ≡ true → (report s lim c (n ∷ []) .moves ≡ 1) ⊎ ((k : Store) × (report s lim c (n ∷ []) .stop ≡ Full k))
   unfolding report
-  flag-set c n h a = go (choice s lim c n) refl a
+  flag-set a = go (choice s lim c n) refl a
     where
-      l : able (choice s lim c n) ≡ true → look s lim c ≡ 0
-      l a = able-look s lim c n (able-moves s lim (choice s lim c n) a)
+      l : look s lim c ≡ none
+      l = able-look s lim c n (able-moves s lim (choice s lim c n) a)
 
-      go : (o : Outcome) → choice s lim c n ≡ o → able o ≡ true → (report s lim c (n ∷ []) .moves ≡ 1) ⊎ (4 ≤ report s lim c (n ∷ []) .stop)
+      go : (o : Outcome) → choice s lim c n ≡ o → able o ≡ true → (report s lim c (n ∷ []) .moves ≡ 1) ⊎ ((k : Store) × (report s lim c (n ∷ []) .stop ≡ Full k))
       go still e b = absurd (let z : _≡_ {A = ℕ} 0 1 = cc in omega arith)
-      go (full k) e b = rw (l a, e) (inr (full-choice acc lim n h e .0))
-      go (moved st t) e b = rw (l a, e) (inl refl)
+      go (full k) e b = rw (l, e) (inr (k, refl))
+      go (moved st t) e b = rw (l, e) (inl refl)
 
--- A position that cannot move is passed over.
-pub flag-clear : (s : Code) (lim : Places) (c : Config) (n : ℕ) → canMove s lim c n ≡ false
-    → (report s lim c (n ∷ []) .moves ≡ 0) × (report s lim c (n ∷ []) .stop ≤ 3) × (report s lim c (n ∷ []) .config ≡ c)
-unfolding report look
-flag-clear s lim c n a = go (choice s lim c n) refl a (look s lim c) refl
-  where
-    small : look s lim c ≤ 3
-    small = look-small (phase (c .tree)) _
-
-    go : (o : Outcome) → choice s lim c n ≡ o → able o ≡ false → (j : ℕ) → look s lim c ≡ j
-        → (report s lim c (n ∷ []) .moves ≡ 0) × (report s lim c (n ∷ []) .stop ≤ 3) × (report s lim c (n ∷ []) .config ≡ c)
-    go still e b zero i = rw (i, e) (rw i (refl, omega arith, refl))
-    go still e b (suc j) i = rw i (refl, omega (arith, small), refl)
-    go (full k) e b j i = absurd (let z : _≡_ {A = ℕ} 0 1 = cc in omega arith)
-    go (moved st t) e b j i = absurd (let z : _≡_ {A = ℕ} 0 1 = cc in omega arith)
+  -- A position that cannot move is passed over.
+  pub flag-clear : canMove s lim c n ≡ false
+      → (report s lim c (n ∷ []) .moves ≡ 0) × ((report s lim c (n ∷ []) .stop ≡ Spent) ⊎ ((k : Ending) × (report s lim c (n ∷ []) .stop ≡ Ended k))) × (report s lim c (n ∷ []) .config ≡ c)
+  unfolding report
+  flag-clear a = go (choice s lim c n) refl a (look s lim c) refl
+    where
+      go : (o : Outcome) → choice s lim c n ≡ o → able o ≡ false → (q : Option Ending) → look s lim c ≡ q
+          → (report s lim c (n ∷ []) .moves ≡ 0) × ((report s lim c (n ∷ []) .stop ≡ Spent) ⊎ ((k : Ending) × (report s lim c (n ∷ []) .stop ≡ Ended k))) × (report s lim c (n ∷ []) .config ≡ c)
+      go still e b none i = rw (i, e) (rw i (refl, inl refl, refl))
+      go still e b (some k) i = rw i (refl, inr (k, refl), refl)
+      go (full k) e b q i = absurd (let z : _≡_ {A = ℕ} 0 1 = cc in omega arith)
+      go (moved st t) e b q i = absurd (let z : _≡_ {A = ℕ} 0 1 = cc in omega arith)

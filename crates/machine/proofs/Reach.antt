@@ -11,22 +11,31 @@ use Rattle.script.specs.Lists.{_∈_}
 use Rattle.script.specs.Syntax.{Point, Node, n-null, n-var, n-select, n-update, n-call, n-bind, n-new, n-cast, n-fork, n-lock, build, parts, Program, Expr}
 use Rattle.script.proofs.Reading.{first}
 use Rattle.typing.specs.Published.{T-SUB-EQ, BD-INFER-VAR, BD-INFER-LET, BD-INFER-CALL, BD-INFER-CAST, BD-INFER-SELECT, BD-INFER-UPDATE, BD-INFER-LOCK}
-use Rattle.machine.specs.Config.{Code, Value, nil, ref, Binding, Stores, Frame, awaits, casts, Tree, running, returning, failed, join}
-use Rattle.machine.specs.Machine.{context, oneIf, lockFrames, Places, spare, frameCount, threadCount, descend, run, Outcome, still, full, moved, phase, inLeft, inRight, Path, here, left, right, moveAt}
-use Rattle.machine.specs.WellFormed.{Want, any, upto, meets-type, Fits, fits-nil, Gives, gives-type, At, StoresOk, a-let, a-write, a-call, FramesOk, a-node, a-cast, TreeOk, running-ok, returning-ok, join-ok, lockCount, shutAt}
-use Rattle.machine.specs.Accepted.{Later, Accepted}
+use Rattle.machine.specs.declared.Store.{Store}
+use Rattle.machine.specs.declared.Store.the-variants.{Frames}
+use Rattle.machine.specs.declared.Value.{Value}
+use Rattle.machine.specs.declared.Value.the-variants.{Null as nil, Ref as ref}
+use Rattle.machine.specs.declared.Frame.{Frame}
+use Rattle.machine.specs.declared.Frame.the-variants.{Awaits as awaits, Casts as casts}
+use Rattle.machine.specs.Config.{Code, Binding, Stores, Tree, running, returning, failed, join}
+use Rattle.machine.specs.Machine.{context, oneIf, lockFrames, Places, spare, frameCount, threadCount, descend, runNode, Outcome, still, full, moved, phase, inLeft, inRight, Path, here, left, right, moveAt}
+use Rattle.machine.specs.declared.Want.{Want}
+use Rattle.machine.specs.declared.Want.the-variants.{Any as any, Upto as upto}
+use Rattle.machine.specs.WellFormed.{meets-type, ValueFits, fits-nil, Gives, gives-type, NodeGives, StoresOk, a-let, a-write, a-call, FramesOk, a-node, a-cast, TreeOk, running-ok, returning-ok, join-ok, lockCount, shutAt}
+use Rattle.machine.specs.Accepted.{LaterPart, AcceptedCode}
 use Rattle.machine.specs.Standing.{Waits, waits}
-use Rattle.machine.specs.Steps.{PVar, fresh, PExpr, p-value, p-lock, close, fill, PTree, p-thread, p-join, p-failed, World, valueOf, Reduce, DYN-EVAL-LOCK, DYN-EVAL-LOCK-REENTRANT, DYN-NPE-LOCK, Step, reduces, DYN-EVAL-CONTEXT, DYN-EVAL-SPAWN-CONTEXT, DYN-EXCEPTION-CONTEXT, DYN-EVAL-ASYNC-LEFT, DYN-EVAL-ASYNC-RIGHT, DYN-EVAL-ASYNC-JOIN, DYN-EXCEPTION-ASYNC-LEFT, DYN-EXCEPTION-ASYNC-RIGHT}
+use Rattle.machine.specs.Steps.{PVar, fresh, PExpr, p-value, p-lock, close, fill, PTree, p-thread, p-join, p-failed, World, entryValue, Reduce, DYN-EVAL-LOCK, DYN-EVAL-LOCK-REENTRANT, DYN-NPE-LOCK, Step, reduces, DYN-EVAL-CONTEXT, DYN-EVAL-SPAWN-CONTEXT, DYN-EXCEPTION-CONTEXT, DYN-EVAL-ASYNC-LEFT, DYN-EVAL-ASYNC-RIGHT, DYN-EVAL-ASYNC-JOIN, DYN-EXCEPTION-ASYNC-LEFT, DYN-EXCEPTION-ASYNC-RIGHT}
 use Rattle.machine.specs.ReadAs.{names, hole, plug, held, world, said, read}
 use Rattle.machine.specs.Silent.{quiet, part, quietIn}
 use Rattle.machine.specs.Reach.{site, Near, itself, left-side, right-side, in-left, in-right}
 use Rattle.machine.proofs.Types.{check-gives, let-type}
-use Rattle.machine.proofs.Store.{shutAt-object}
+use Rattle.machine.proofs.Stores.{shutAt-object}
 use Rattle.machine.proofs.Grow.{Grows, grows-same}
 use Rattle.machine.proofs.Move.{Judged, no-move, a-move, run-good, resume-good}
 use Rattle.machine.proofs.Ends.{frames-append, fold-broken}
 use Rattle.machine.proofs.Names.{variable, read-grow}
-use Rattle.machine.proofs.Steps.{Exact, published, in-held, give-step, make-step, spawn-step, lock-step, select-step, resume-step, last-grow}
+use Rattle.machine.proofs.Locks.{in-held}
+use Rattle.machine.proofs.Steps.{Exact, published, give-step, make-step, spawn-step, lock-step, select-step, resume-step, last-grow}
 use Rattle.machine.proofs.Unplug.{outs, unplug, Redex, r-var, r-new, r-fork, r-lock, r-select, r-hole, tag, fill-tag, value-stuck, only-reduce, redex-active, determined}
 
 -- So many silent moves, at places of this kind.
@@ -51,7 +60,7 @@ pub record Reached (s : Code) (lim : Places) (st : Stores) (above : List Frame) 
   pub count : ℕ
   pub few : count ≤ k
   pub silently : Silently s lim st above (Near place) t middle count
-  pub ends : ((j : ℕ) × (moveAt s (spare lim st middle) st above middle place ≡ full j)) ⊎ Landed s lim st above middle place X T
+  pub ends : ((j : Store) × (moveAt s (spare lim st middle) st above middle place ≡ full j)) ⊎ Landed s lim st above middle place X T
 
 module _ {s : Code} {lim : Places} {st : Stores} {above : List Frame} {X : World} {T : PTree} where
   first-silent : {t u : Tree} {k : ℕ} → moveAt s (spare lim st t) st above t here ≡ moved st u → quietIn s (part t here) ≡ true
@@ -91,7 +100,7 @@ land {s} lim st above t L fs a r q e (moved su u) m (a-move f) (published k) {X}
     }
 
 -- a thread that waits has no step
-no-lock : {p : Program} {W X : World} {L : List ℕ} {i : ℕ} {a : PExpr} {T : PTree} (o : ℕ) → valueOf (W .vars) i ≡ some (ref o) → shutAt (W .heap) o ≡ 1 → (o ∈ L → ⊥)
+no-lock : {p : Program} {W X : World} {L : List ℕ} {i : ℕ} {a : PExpr} {T : PTree} (o : ℕ) → entryValue (W .vars) i ≡ some (ref o) → shutAt (W .heap) o ≡ 1 → (o ∈ L → ⊥)
     → Reduce p W L (p-lock (fresh i) a) X T → ⊥
 no-lock o v z n (DYN-EVAL-LOCK {W = W} {o = q} {y = y} h k l m) =
     let e : q ≡ o = cc in
@@ -106,11 +115,11 @@ waits-stuck s {st} {above} {fs} {e} {o} i (waits {x = x} {a = a} {b = b} h k z q
     let j = unplug s (st .bindings) fs (p-lock (fresh (n .number)) (said s (st .bindings) e a)) (redex-active r-lock) (rw (n .name) at p) in
     no-lock o (n .value ∙ ap some k) z (λ m. omega (arith, in-held o (fs ++ above) m, frames-append o fs above)) (only-reduce r-lock (j .step))
 
-node-expr : {s : Code} {start : ℕ} → Accepted s start → (a : Point) → a < s .size → (n : Node) → s .view a ≡ n → s .expr a ≡ build a (s .expr) n
+node-expr : {s : Code} {start : ℕ} → AcceptedCode s start → (a : Point) → a < s .size → (n : Node) → s .view a ≡ n → s .expr a ≡ build a (s .expr) n
 node-expr {s} acc a y n i = acc .built a y ∙ ap (build a (s .expr)) i
 
-module _ {s : Code} {start : ℕ} {st : Stores} (ok : StoresOk s st) (acc : Accepted s start) (lim : Places) (above : List Frame) {X : World} {T : PTree} where
-  resume-reach : {w : Want} (fs : List Frame) (x : Value) (v : Want) → FramesOk s (st .bindings) w fs v → Fits s (st .objects) x v
+module _ {s : Code} {start : ℕ} {st : Stores} (ok : StoresOk s st) (acc : AcceptedCode s start) (lim : Places) (above : List Frame) {X : World} {T : PTree} where
+  resume-reach : {w : Want} (fs : List Frame) (x : Value) (v : Want) → FramesOk s (st .bindings) w fs v → ValueFits s (st .objects) x v
       → ((o : ℕ) → lockFrames o above + lockFrames o fs ≤ shutAt (st .objects) o)
       → Step (s .program) (world st) (read s (st .bindings) above (returning x fs)) X T → Reached s lim st above (returning x fs) X T 0 here
   resume-reach [] x v r f d h = absurd (value-stuck x refl h)
@@ -124,18 +133,18 @@ module _ {s : Code} {start : ℕ} {st : Stores} (ok : StoresOk s st) (acc : Acce
 
   module _ {w : Want} (a : Point) (fs : List Frame) (e : ℕ) (v : Want) (r : FramesOk s (st .bindings) w fs v) (le : e ≤ length (st .bindings)) (y : a < s .size) where
     -- a thread at a node that is no silent move
-    redex-reach : (n : Node) → s .view a ≡ n → ((q : Point) → q ∈ parts n → Later s a q) → Gives s (context (st .bindings) e) (build a (s .expr) n) v
-        → Redex (close (names (st .bindings) e) (build a (s .expr) n)) → quiet n ≡ false → Exact s st above (running a e fs) (run s (spare lim st (running a e fs)) st above fs e a n)
+    redex-reach : (n : Node) → s .view a ≡ n → ((q : Point) → q ∈ parts n → LaterPart s a q) → Gives s (context (st .bindings) e) (build a (s .expr) n) v
+        → Redex (close (names (st .bindings) e) (build a (s .expr) n)) → quiet n ≡ false → Exact s st above (running a e fs) (runNode s (spare lim st (running a e fs)) st above fs e a n)
         → Step (s .program) (world st) (read s (st .bindings) above (running a e fs)) X T → Reached s lim st above (running a e fs) X T 0 here
     redex-reach n i u g x c z h =
         let b = node-expr acc a y n i in
         land lim st above (running a e fs) (held (fs ++ above)) fs (close (names (st .bindings) e) (build a (s .expr) n)) x (rw i c)
         (ap (λ (z : Expr). p-thread (held (fs ++ above)) (plug s (st .bindings) fs (close (names (st .bindings) e) z))) b)
-        (run s (spare lim st (running a e fs)) st above fs e a n) (ap (run s (spare lim st (running a e fs)) st above fs e a) i)
+        (runNode s (spare lim st (running a e fs)) st above fs e a n) (ap (runNode s (spare lim st (running a e fs)) st above fs e a) i)
         (run-good ok acc (spare lim st (running a e fs)) above fs a v r e le n y i u g) z (λ q. waits-stuck s a (q .1) (rw b at h)) h
 
     -- a part is run first
-    descend-reach : (k : ℕ) (b : Point) (f : Frame) (n : Node) → s .view a ≡ n → quiet n ≡ true → run s (spare lim st (running a e fs)) st above fs e a n ≡ descend st fs e f b (spare lim st (running a e fs) .frames)
+    descend-reach : (k : ℕ) (b : Point) (f : Frame) (n : Node) → s .view a ≡ n → quiet n ≡ true → runNode s (spare lim st (running a e fs)) st above fs e a n ≡ descend st fs e f b (spare lim st (running a e fs) .frames)
         → close (names (st .bindings) e) (build a (s .expr) n) ≡ fill (hole s (st .bindings) f) (said s (st .bindings) e b) → held (f ∷ (fs ++ above)) ≡ held (fs ++ above)
         → (Step (s .program) (world st) (read s (st .bindings) above (running b e (f ∷ fs))) X T → Reached s lim st above (running b e (f ∷ fs)) X T k here)
         → Step (s .program) (world st) (read s (st .bindings) above (running a e fs)) X T → Reached s lim st above (running a e fs) X T (suc k) here
@@ -151,19 +160,19 @@ module _ {s : Code} {start : ℕ} {st : Stores} (ok : StoresOk s st) (acc : Acce
               count = 0;
               few = omega arith;
               silently = at-once;
-              ends = inl (6, ap (run s (spare lim st (running a e fs)) st above fs e a) i ∙ m ∙ ap (descend st fs e f b) z);
+              ends = inl (Frames, ap (runNode s (spare lim st (running a e fs)) st above fs e a) i ∙ m ∙ ap (descend st fs e f b) z);
             }
         go (suc k) z =
-            first-silent (ap (run s (spare lim st (running a e fs)) st above fs e a) i ∙ m ∙ ap (descend st fs e f b) z) (rw i c) (rec (rw (← same-reading) at h))
+            first-silent (ap (runNode s (spare lim st (running a e fs)) st above fs e a) i ∙ m ∙ ap (descend st fs e f b) z) (rw i c) (rec (rw (← same-reading) at h))
 
-    node-reach : (k : ℕ) (n : Node) → s .view a ≡ n → ((q : Point) → q ∈ parts n → Later s a q) → Gives s (context (st .bindings) e) (build a (s .expr) n) v
+    node-reach : (k : ℕ) (n : Node) → s .view a ≡ n → ((q : Point) → q ∈ parts n → LaterPart s a q) → Gives s (context (st .bindings) e) (build a (s .expr) n) v
         → ((o : ℕ) → lockFrames o above + lockFrames o fs ≤ shutAt (st .objects) o)
-        → ((b : Point) (f : Frame) (u : Want) → Later s a b → FramesOk s (st .bindings) w (f ∷ fs) u → At s (context (st .bindings) e) b u → ((o : ℕ) → lockFrames o (f ∷ fs) ≡ lockFrames o fs)
+        → ((b : Point) (f : Frame) (u : Want) → LaterPart s a b → FramesOk s (st .bindings) w (f ∷ fs) u → NodeGives s (context (st .bindings) e) b u → ((o : ℕ) → lockFrames o (f ∷ fs) ≡ lockFrames o fs)
         → Step (s .program) (world st) (read s (st .bindings) above (running b e (f ∷ fs))) X T → Reached s lim st above (running b e (f ∷ fs)) X T k here)
         → Step (s .program) (world st) (read s (st .bindings) above (running a e fs)) X T → Reached s lim st above (running a e fs) X T (suc k) here
     node-reach k n-null i t g d rec h =
         let b = node-expr acc a y n-null i in
-        first-silent (ap (run s (spare lim st (running a e fs)) st above fs e a) i) (rw i) (at-most k (omega arith) (resume-reach fs nil v r fits-nil d (rw b at h)))
+        first-silent (ap (runNode s (spare lim st (running a e fs)) st above fs e a) i) (rw i) (at-most k (omega arith) (resume-reach fs nil v r fits-nil d (rw b at h)))
     node-reach k (n-var x) i t (gives-type (BD-INFER-VAR z j) m) d rec h =
         at-most (suc k) (omega arith)
         (redex-reach (n-var x) i t (gives-type (BD-INFER-VAR z j) m) r-var refl (give-step ok acc (spare lim st (running a e fs)) above fs v r e a x _ (node-expr acc a y (n-var x) i) j) h)
@@ -193,7 +202,7 @@ module _ {s : Code} {start : ℕ} {st : Stores} (ok : StoresOk s st) (acc : Acce
         (redex-reach (n-lock x b) i t (gives-type (BD-INFER-LOCK (BD-INFER-VAR {n = a} z j) p) m) r-lock refl (lock-step ok acc (spare lim st (running a e fs)) above fs v r e a x _ b (node-expr acc a y (n-lock x b) i) j d) h)
 
   run-reach : {w : Want} (k : ℕ) (a : Point) (fs : List Frame) (e : ℕ) (v : Want) → s .size ≤ a + k → FramesOk s (st .bindings) w fs v → e ≤ length (st .bindings)
-      → At s (context (st .bindings) e) a v → ((o : ℕ) → lockFrames o above + lockFrames o fs ≤ shutAt (st .objects) o)
+      → NodeGives s (context (st .bindings) e) a v → ((o : ℕ) → lockFrames o above + lockFrames o fs ≤ shutAt (st .objects) o)
       → Step (s .program) (world st) (read s (st .bindings) above (running a e fs)) X T → Reached s lim st above (running a e fs) X T k here
   run-reach zero a fs e v z r le g d h = absurd (omega (arith, g .node))
   run-reach (suc k) a fs e v z r le g d h =
@@ -281,11 +290,11 @@ ready-running {s} {lim} {st} {above} a e fs h p n =
       value = nil;
       count = 1;
       few = omega arith;
-      silently = rw p (after {t = running a e []} {u = returning nil []} here refl (ap (run s (spare lim st (running a e [])) st above [] e a) n) (rw n) at-once);
+      silently = rw p (after {t = running a e []} {u = returning nil []} here refl (ap (runNode s (spare lim st (running a e [])) st above [] e a) n) (rw n) at-once);
       locks = h ∙ ap (λ (z : List Frame). held (z ++ above)) p;
     }
 
-ready : {s : Code} {start : ℕ} {lim : Places} {st : Stores} {w : Want} → Accepted s start → (above : List Frame) (t : Tree) (L : List ℕ) (v : Value) → TreeOk s st w t
+ready : {s : Code} {start : ℕ} {lim : Places} {st : Stores} {w : Want} → AcceptedCode s start → (above : List Frame) (t : Tree) (L : List ℕ) (v : Value) → TreeOk s st w t
     → p-thread L (p-value v) ≡ read s (st .bindings) above t → Ready s lim st above t L
 ready {s} {st = st} acc above (running a e fs) L v (running-ok le g r) h =
     let k : plug s (st .bindings) fs (said s (st .bindings) e a) ≡ p-value v = cc in
@@ -327,7 +336,7 @@ read-failed s bs above (returning x fs) h = cc
 read-failed s bs above failed h = refl
 read-failed s bs above (join fs a e l r) h = cc
 
-module _ {s : Code} {start : ℕ} {w v : Want} {st : Stores} (acc : Accepted s start) (lim : Places) (above fs : List Frame) (a : Point) (e : ℕ) (l r : Tree)
+module _ {s : Code} {start : ℕ} {w v : Want} {st : Stores} (acc : AcceptedCode s start) (lim : Places) (above fs : List Frame) (a : Point) (e : ℕ) (l r : Tree)
     (le : e ≤ length (st .bindings)) (k : FramesOk s (st .bindings) w fs v) (x : TreeOk s st any l) (y : TreeOk s st any r) where
   last-part : PExpr
   last-part = plug s (st .bindings) fs (said s (st .bindings) e a)
@@ -433,7 +442,7 @@ module _ {s : Code} {start : ℕ} {w v : Want} {st : Stores} (acc : Accepted s s
   join-reach k m DYN-EXCEPTION-ASYNC-RIGHT p f g =
       at-most k (omega arith) (fail-reach (rw (read-failed s (st .bindings) [] r (join-parts p .1)) (fold-broken st fs a e (phase l))))
 
-pub reach : {s : Code} {start : ℕ} {w : Want} {st : Stores} (acc : Accepted s start) (lim : Places) (above : List Frame) (t : Tree) → StoresOk s st → TreeOk s st w t
+pub reach : {s : Code} {start : ℕ} {w : Want} {st : Stores} (acc : AcceptedCode s start) (lim : Places) (above : List Frame) (t : Tree) → StoresOk s st → TreeOk s st w t
     → ((o : ℕ) → lockFrames o above + lockCount o t ≤ shutAt (st .objects) o) → (P : PTree) → P ≡ read s (st .bindings) above t → (X : World) (T : PTree)
     → (h : Step (s .program) (world st) P X T) → Reached s lim st above t X T (suc (s .size)) (site h)
 unfolding last-part

@@ -1,22 +1,24 @@
 -- Published steps are reached: for each there is one Run that makes silent moves and then that step, all at its place, unless a store is full for one of them.
 use Prim.Native.Nat.{ℕ, zero, suc, _+_, _*_, _≤_, _<_}
 use native.Mathlib.Omega.{arith}
-use mathlib.Core.Path.{_≡_, refl, sym, _∙_, ap}
+use mathlib.Core.Path.{_≡_, refl, _∙_, ap}
 use mathlib.Core.Bool.{Bool, true, false, cond}
 use mathlib.Core.List.{List, [], _∷_, _++_, List·Memᴰ·cases-cons, List·Memᴰ·not-nil, List·Memᴰ·append-cases}
 use mathlib.Core.Logic.{_⊎_, inl, inr, ⊎-elim}
-use mathlib.Core.Option.{some}
+use mathlib.Core.Option.{none, some}
 use lib.ListN.{length}
 use Rattle.script.specs.Lists.{_∈_}
+use Rattle.machine.specs.declared.Store.{Store}
+use Rattle.machine.specs.declared.Stop.the-variants.{Full}
 use Rattle.machine.specs.Config.{Code, Stores, Tree, running, returning, failed, join, Config}
 use Rattle.machine.specs.Machine.{Places, Outcome, still, full, moved, threadCount, Path, here, left, right, spare, move, size, locate, chosen, choice}
 use Rattle.machine.specs.WellFormed.{WellFormed}
-use Rattle.machine.specs.Accepted.{Accepted}
+use Rattle.machine.specs.Accepted.{AcceptedCode}
 use Rattle.machine.specs.ReadAs.{Reading, reading, Steps}
 use Rattle.machine.specs.Silent.{Means, silently, part, quietIn}
 use Rattle.machine.specs.Runs.{look, Report, passed, made, report, stopped, Runs, moves, fills}
 use Rattle.machine.specs.Reach.{samePlace, visits, Quietly, no-choice, a-choice, site, Near, OneRun}
-use Rattle.machine.proofs.Trees.{preservation, full-number}
+use Rattle.machine.proofs.Trees.{preservation}
 use Rattle.machine.proofs.Positions.{move-located}
 use Rattle.machine.proofs.Steps.{moves-published}
 use Rattle.machine.proofs.Within.{within}
@@ -34,7 +36,7 @@ positions (join fs a e l r) = omega (arith, positions l, positions r)
 moved-still : {st : Stores} {t : Tree} → moved st t ≡ still → ⊥
 moved-still e = let z : _≡_ {A = ℕ} 0 1 = cc in omega arith
 
-full-still : {k : ℕ} → full k ≡ still → ⊥
+full-still : {k : Store} → full k ≡ still → ⊥
 full-still e = let z : _≡_ {A = ℕ} 0 1 = cc in omega arith
 
 -- what is made by the choices before
@@ -76,10 +78,10 @@ record Chosen (s : Code) (lim : Places) (c : Config) (p : Path) : Type 0 where
   position : ℕ
   there : locate (c .tree) position ≡ some p
   small : position + 1 < 2 * lim .threads
-  look : look s lim c ≡ 0
+  look : look s lim c ≡ none
   choice : choice s lim c position ≡ move s lim c p
 
-module _ {s : Code} {start : ℕ} (acc : Accepted s start) (lim : Places) where
+module _ {s : Code} {start : ℕ} (acc : AcceptedCode s start) (lim : Places) where
   choose : {c : Config} (p : Path) → WellFormed s lim start c → (o : Outcome) → move s lim c p ≡ o → (o ≡ still → ⊥) → Chosen s lim c p
   unfolding choice
   choose {c} p h o e n =
@@ -148,7 +150,7 @@ module _ {s : Code} {start : ℕ} (acc : Accepted s start) (lim : Places) where
 
   module _ {c d : Config} {n : ℕ} (h : WellFormed s lim start c) (p : Path) (i : Choices (Near p) c d n) (few : n ≤ suc (s .size)) where
     one-run : (q : Reading) (k : Chosen s lim d p)
-        → ((4 ≤ report s lim c (i .list ++ (k .position ∷ [])) .stop) × (move s lim d p ≡ full (report s lim c (i .list ++ (k .position ∷ [])) .stop)))
+        → ((j : Store) × (report s lim c (i .list ++ (k .position ∷ [])) .stop ≡ Full j) × (move s lim d p ≡ full j))
         ⊎ ((report s lim c (i .list ++ (k .position ∷ [])) .moves ≡ suc (length (i .list))) × (reading s (report s lim c (i .list ++ (k .position ∷ [])) .config) ≡ q) × (quietIn s (part (d .tree) p) ≡ false))
         → OneRun s lim c q p
     one-run q k e =
@@ -171,12 +173,11 @@ module _ {s : Code} {start : ℕ} (acc : Accepted s start) (lim : Places) where
           ends = e;
         }
 
-    full-run : (q : Reading) (j : ℕ) → move s lim d p ≡ full j → OneRun s lim c q p
+    full-run : (q : Reading) (j : Store) → move s lim d p ≡ full j → OneRun s lim c q p
     full-run q j e =
         let k = choose p (i .formed) (full j) e full-still in
         let r = reported i (k .position) _ (fills (k .look) (k .choice ∙ e)) in
-        let z = ap (λ (x : Report). x .stop) r ∙ by-stop n (passed (stopped j d)) in
-        one-run q k (inl (omega (arith, z, full-number acc lim (i .formed .formed) p e .0), e ∙ ap full (sym z)))
+        one-run q k (inl (j, ap (λ (x : Report). x .stop) r ∙ by-stop n (passed (stopped (Full j) d)), e))
 
     step-run : (st : Stores) (t : Tree) → move s lim d p ≡ moved st t → quietIn s (part (d .tree) p) ≡ false → OneRun s lim c (reading s (record { stores = st; tree = t })) p
     unfolding report

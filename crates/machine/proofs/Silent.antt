@@ -9,11 +9,15 @@ use Rattle.limits.specs.Limits.{SILENT}
 use Rattle.script.specs.Lists.{_∈_}
 use Rattle.script.specs.Syntax.{Point, Node, n-null, n-var, n-select, n-update, n-call, n-bind, n-new, n-cast, n-fork, n-lock, parts}
 use Rattle.script.proofs.Reading.{first}
-use Rattle.machine.specs.Config.{Code, nil, Stores, Frame, awaits, casts, Tree, running, returning, failed, join, Config}
-use Rattle.machine.specs.Machine.{Places, spare, Outcome, still, full, moved, descend, run, inLeft, inRight, Path, here, left, right, moveAt, move}
-use Rattle.machine.specs.WellFormed.{Want, TreeOk, running-ok, returning-ok, failed-ok, join-ok, WfConfig}
-use Rattle.machine.specs.Accepted.{Later, Accepted}
-use Rattle.machine.specs.Silent.{quiet, part, quietIn, InARow, no-more, and-then, meanwhile}
+use Rattle.machine.specs.declared.Value.the-variants.{Null as nil}
+use Rattle.machine.specs.declared.Frame.{Frame}
+use Rattle.machine.specs.declared.Frame.the-variants.{Awaits as awaits, Casts as casts}
+use Rattle.machine.specs.Config.{Code, Stores, Tree, running, returning, failed, join, Config}
+use Rattle.machine.specs.Machine.{Places, spare, Outcome, still, full, moved, descend, runNode, inLeft, inRight, Path, here, left, right, moveAt, move}
+use Rattle.machine.specs.declared.Want.{Want}
+use Rattle.machine.specs.WellFormed.{TreeOk, running-ok, returning-ok, failed-ok, join-ok, WfConfig}
+use Rattle.machine.specs.Accepted.{LaterPart, AcceptedCode}
+use Rattle.machine.specs.Silent.{quiet, part, quietIn, InARow, row-ends, and-then, meanwhile}
 use Rattle.machine.specs.Reach.{samePlace}
 
 -- What a move made of a side of a join.
@@ -73,16 +77,16 @@ pub record Nearer (s : Code) (o q : Option Tree) : Type 0 where
   pub node : OnNode s q
   pub less : suc (ahead s q) ≤ ahead s o
 
-module _ {s : Code} {start : ℕ} (acc : Accepted s start) (room : Places) (st : Stores) where
-  descend-nearer : (fs : List Frame) (e : ℕ) (p a : Point) (f : Frame) (k : ℕ) (su : Stores) (u : Tree) → Later s p a → descend st fs e f a k ≡ moved su u
+module _ {s : Code} {start : ℕ} (acc : AcceptedCode s start) (room : Places) (st : Stores) where
+  descend-nearer : (fs : List Frame) (e : ℕ) (p a : Point) (f : Frame) (k : ℕ) (su : Stores) (u : Tree) → LaterPart s p a → descend st fs e f a k ≡ moved su u
       → Nearer s (some (running p e fs)) (some u)
   descend-nearer fs e p a f zero su u l m = absurd (let z : _≡_ {A = ℕ} 0 1 = cc in omega arith)
   descend-nearer fs e p a f (suc k) su u l m =
       let i : u ≡ running a e (f ∷ fs) = cc in
       rw i (record { node = l .there; less = omega (arith, l .after, l .there) })
 
-  run-nearer : (above fs : List Frame) (e : ℕ) (p : Point) (n : Node) (su : Stores) (u : Tree) → p < s .size → ((q : Point) → q ∈ parts n → Later s p q) → quiet n ≡ true
-      → run s room st above fs e p n ≡ moved su u → Nearer s (some (running p e fs)) (some u)
+  run-nearer : (above fs : List Frame) (e : ℕ) (p : Point) (n : Node) (su : Stores) (u : Tree) → p < s .size → ((q : Point) → q ∈ parts n → LaterPart s p q) → quiet n ≡ true
+      → runNode s room st above fs e p n ≡ moved su u → Nearer s (some (running p e fs)) (some u)
   run-nearer above fs e p n-null su u h y q m = let i : u ≡ returning nil fs = cc in rw i (record { node = tt; less = omega arith })
   run-nearer above fs e p (n-var x) su u h y q m = absurd (let z : _≡_ {A = ℕ} 0 1 = cc in omega arith)
   run-nearer above fs e p (n-select x f) su u h y q m = absurd (let z : _≡_ {A = ℕ} 0 1 = cc in omega arith)
@@ -119,7 +123,7 @@ descended st fs e f b zero h q = absurd (let z : _≡_ {A = ℕ} 0 1 = cc in ome
 descended st fs e f b (suc k) {u = u} h q = let i : u ≡ running b e (f ∷ fs) = cc in rw i (refl, refl)
 
 -- a silent move leaves every other place as near as it was
-leaf-below : (s : Code) (room : Places) (st : Stores) (above fs : List Frame) (e : ℕ) (a : Point) (n : Node) {su : Stores} {u : Tree} → quiet n ≡ true → run s room st above fs e a n ≡ moved su u
+leaf-below : (s : Code) (room : Places) (st : Stores) (above fs : List Frame) (e : ℕ) (a : Point) (n : Node) {su : Stores} {u : Tree} → quiet n ≡ true → runNode s room st above fs e a n ≡ moved su u
     → (q : Path) → (part u (left q) ≡ none) × (part u (right q) ≡ none)
 leaf-below s room st above fs e a n-null {u = u} h m q = let i : u ≡ returning nil fs = cc in rw i (refl, refl)
 leaf-below s room st above fs e a (n-var x) h m q = absurd (let z : _≡_ {A = ℕ} 0 1 = cc in omega arith)
@@ -164,10 +168,10 @@ module _ (s : Code) (room : Places) (st : Stores) where
       go n f (left q) k = refl
       go n f (right q) k = f q k
 
-module _ {s : Code} {start : ℕ} (acc : Accepted s start) (lim : Places) (p : Path) where
+module _ {s : Code} {start : ℕ} (acc : AcceptedCode s start) (lim : Places) (p : Path) where
   row-ahead : {c : Config} {n : ℕ} → InARow s lim p c n → OnNode s (part (c .tree) p) → n ≤ ahead s (part (c .tree) p)
   unfolding move
-  row-ahead no-more h = omega arith
+  row-ahead row-ends h = omega arith
   row-ahead (and-then {c = c} {st = st} {t = t} q m r) h =
       let k = move-nearer acc (spare lim (c .stores) (c .tree)) (c .stores) [] (c .tree) p st t h q m in
       omega (arith, k .less, row-ahead r (k .node))

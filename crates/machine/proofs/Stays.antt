@@ -7,10 +7,14 @@ use mathlib.Core.List.{List, [], _∷_, _++_}
 use mathlib.Core.Option.{Option, none, some}
 use lib.Dec.{ltb}
 use Rattle.script.specs.Syntax.{Point, Node}
-use Rattle.machine.specs.Config.{Code, Value, Object, Stores, Frame, Tree, running, returning, failed, join, Config}
-use Rattle.machine.specs.Machine.{object, oneIf, lockFrames, Places, spare, Outcome, still, full, moved, lockObject, run, Phase, finished, broken, busy, phase, fold, Path, here, left, right, inLeft, inRight, moveAt, move, size, toLeft, toRight, locate, chosen, choice}
-use Rattle.machine.specs.WellFormed.{Want, StoresOk, TreeOk, running-ok, returning-ok, join-ok, lockCount, shutAt, WellFormed}
-use Rattle.machine.specs.Accepted.{Accepted}
+use Rattle.machine.specs.declared.Store.{Store}
+use Rattle.machine.specs.declared.Value.{Value}
+use Rattle.machine.specs.declared.Frame.{Frame}
+use Rattle.machine.specs.Config.{Code, Object, Stores, Tree, running, returning, failed, join, Config}
+use Rattle.machine.specs.Machine.{object, oneIf, lockFrames, Places, spare, Outcome, still, full, moved, lockObject, runNode, Phase, finished, broken, busy, phase, fold, Path, here, left, right, inLeft, inRight, moveAt, move, size, toLeft, toRight, locate, chosen, choice}
+use Rattle.machine.specs.declared.Want.{Want}
+use Rattle.machine.specs.WellFormed.{StoresOk, TreeOk, running-ok, returning-ok, join-ok, lockCount, shutAt, WellFormed}
+use Rattle.machine.specs.Accepted.{AcceptedCode}
 use Rattle.machine.specs.Standing.{Waits, waits, FinishedAt, finished-here}
 use Rattle.machine.specs.Stays.{StaysAt, stays-waiting, stays-finished, stays-failed, stays-join, stays-left, stays-right, Stays, absent, cannot-move}
 use Rattle.machine.proofs.Move.{Judged, no-move, no-room, a-move, run-good, resume-good}
@@ -20,7 +24,7 @@ use Rattle.machine.proofs.Steps.{is-broken}
 -- an outcome is no move exactly if Q
 data Told (Q : Type 0) : Outcome → Type 0 where
   told-still : Q → Told Q still
-  told-full : {k : ℕ} → (Q → ⊥) → Told Q (full k)
+  told-full : {k : Store} → (Q → ⊥) → Told Q (full k)
   told-moved : {st : Stores} {t : Tree} → (Q → ⊥) → Told Q (moved st t)
 
 told-why : {Q : Type 0} {o : Outcome} → Told Q o → o ≡ still → Q
@@ -36,7 +40,7 @@ told-because (told-moved f) x = absurd (f x)
 -- what a move's judgement tells
 told-judged : {s : Code} {w : Want} {st : Stores} {t : Tree} {P Q : Type 0} {o : Outcome} → Judged s w st t P o → (P → Q) → (Q → o ≡ still) → Told Q o
 told-judged (no-move p) f g = told-still (f p)
-told-judged (no-room {k = k} b) f g = told-full (λ q. let e : full k ≡ still = g q in let z : _≡_ {A = ℕ} 0 1 = cc in omega arith)
+told-judged (no-room {k = k}) f g = told-full (λ q. let e : full k ≡ still = g q in let z : _≡_ {A = ℕ} 0 1 = cc in omega arith)
 told-judged (a-move {su = su} {u = u} x) f g = told-moved (λ q. let e : moved su u ≡ still = g q in let z : _≡_ {A = ℕ} 0 1 = cc in omega arith)
 
 -- a shut object is there, and a lock on it that the thread does not hold is no move
@@ -51,10 +55,10 @@ module _ (st : Stores) (above fs : List Frame) (a : Point) (e k o : ℕ) (q : lo
   shut-still (x ∷ xs) (suc i) h = shut-still xs i h
 
 module _ (s : Code) (room : Places) (st : Stores) where
-  waits-still : {above fs : List Frame} {e o : ℕ} {n : Node} (p : Point) → Waits st above fs e o n → run s room st above fs e p n ≡ still
+  waits-still : {above fs : List Frame} {e o : ℕ} {n : Node} (p : Point) → Waits st above fs e o n → runNode s room st above fs e p n ≡ still
   waits-still {above} {fs} {e} {o} p (waits {a = a} h k z q) = rw (h, k) (shut-still st above fs a e (room .frames) o q (st .objects) o z)
 
-  node-still : {above fs : List Frame} {a : Point} {e : ℕ} → StaysAt s st above (running a e fs) here → run s room st above fs e a (s .view a) ≡ still
+  node-still : {above fs : List Frame} {a : Point} {e : ℕ} → StaysAt s st above (running a e fs) here → runNode s room st above fs e a (s .view a) ≡ still
   node-still {a = a} (stays-waiting x) = waits-still a x
 
   value-still : {above fs : List Frame} {v : Value} → StaysAt s st above (returning v fs) here → moveAt s room st above (returning v fs) here ≡ still
@@ -118,7 +122,7 @@ module _ (s : Code) (room : Places) (st : Stores) where
     right-told (told-full f) = told-full (λ x. f (under-right x))
     right-told (told-moved f) = told-moved (λ x. f (under-right x))
 
-module _ {s : Code} {st : Stores} {start : ℕ} (acc : Accepted s start) (room : Places) (ok : StoresOk s st) where
+module _ {s : Code} {st : Stores} {start : ℕ} (acc : AcceptedCode s start) (room : Places) (ok : StoresOk s st) where
   root-told : {w : Want} (above : List Frame) (t : Tree) → TreeOk s st w t → ((o : ℕ) → lockCount o t ≤ shutAt (st .objects) o) → Told (StaysAt s st above t here) (moveAt s room st above t here)
   root-told above (running a e fs) (running-ok le g r) k =
       told-judged (run-good ok acc room above fs a _ r e le (s .view a) (g .node) refl (acc .in-order a (g .node)) (rw (acc .built a (g .node)) at (g .gives))) (λ x. stays-waiting (x .1)) (node-still s room st)
@@ -158,7 +162,7 @@ stays-place h (absent i) = absurd (let z : _≡_ {A = ℕ} 0 1 = cc in omega ari
 stays-place {p = p} h (cannot-move {p = q} i x) = let k : q ≡ p = cc in rw k at x
 
 -- In a well-formed configuration a choice is passed over exactly if its position is absent, or a thread that waits, is finished or failed, or a join with no failed side and not both finished.
-pub still-exactly : {s : Code} {start : ℕ} (acc : Accepted s start) (lim : Places) {c : Config} → WellFormed s lim start c → (n : ℕ)
+pub still-exactly : {s : Code} {start : ℕ} (acc : AcceptedCode s start) (lim : Places) {c : Config} → WellFormed s lim start c → (n : ℕ)
     → (choice s lim c n ≡ still → Stays s c n) × (Stays s c n → choice s lim c n ≡ still)
 unfolding choice move
 still-exactly {s} acc lim {c} h n = go (locate (c .tree) n) refl

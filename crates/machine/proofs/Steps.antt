@@ -3,30 +3,36 @@ use Prim.Native.Nat.{ℕ, zero, suc, _+_, _≤_}
 use native.Mathlib.Omega.{arith}
 use mathlib.Core.Path.{_≡_, refl, sym, _∙_, ap, subst}
 use mathlib.Core.Bool.{Bool, true, false, cond}
-use mathlib.Core.List.{List, [], _∷_, _++_, List·Memᴰ·head, List·Memᴰ·tail, List·Memᴰ·cases-cons, List·Memᴰ·not-nil}
+use mathlib.Core.List.{List, [], _∷_, _++_}
 use mathlib.Core.Option.{some}
 use lib.Dec.{eqb}
 use lib.ListN.{length}
-use borrow.Author.Tests.{eq-eqb, eqb-true}
-use mathlib.Core.Logic.{⊎-elim}
-use Rattle.script.specs.Lists.{_∈_}
+use borrow.Author.Tests.{eq-eqb}
 use Rattle.script.specs.Syntax.{Point, Node, n-null, n-var, n-select, n-update, n-call, n-bind, n-new, n-cast, n-fork, n-lock, build, pointOf, var, select, new, fork, lock}
 use Rattle.typing.specs.declared.Answer.the-variants.{Typed}
 use Rattle.typing.specs.Members.{typeIn}
 use Rattle.typing.specs.Published.{FieldIn, MsigIn, BD-INFER-VAR, BD-INFER-SELECT, BD-INFER-LOCK}
-use Rattle.machine.specs.Config.{Code, Value, nil, ref, Object, Binding, Stores, Frame, awaits, casts, locks, Tree, running, returning, failed, join, Config}
-use Rattle.machine.specs.Machine.{fieldsOf, scope, context, find, object, setFields, setField, nulls, oneIf, lockFrames, Places, Outcome, still, full, moved, give, descend, make, spawn, withShut, enter, take, lockObject, lockValue, lockTarget, extend, selectValue, selectTarget, updateValue, callBindings, callMethod, callValue, run, wake, resume, Phase, finished, broken, busy, phase, fold, inLeft, inRight, Path, here, left, right, moveAt, spare, move}
-use Rattle.machine.specs.WellFormed.{Want, any, upto, meets-type, Fits, fits-ref, Gives, gives-type, StoresOk, Awaits, a-let, a-write, a-call, FramesOk, a-node, a-cast, TreeOk, running-ok, returning-ok, join-ok, lockCount, shutAt, WfConfig}
-use Rattle.machine.specs.Accepted.{Accepted}
-use Rattle.machine.specs.Steps.{fresh, PExpr, p-value, fill, PTree, p-thread, p-join, p-failed, World, remove, valueOf, DYN-EVAL-VAR, DYN-EVAL-LET, DYN-EVAL-CALL, DYN-EVAL-CAST, DYN-EVAL-SELECT, DYN-EVAL-UPDATE, DYN-EVAL-NEW, DYN-EVAL-LOCK, DYN-EVAL-LOCK-REENTRANT, DYN-EVAL-LOCK-RELEASE, DYN-EVAL-SPAWN, DYN-NPE-SELECT, DYN-NPE-UPDATE, DYN-NPE-CALL, DYN-NPE-LOCK, Step, reduces, DYN-EVAL-CONTEXT, DYN-EVAL-SPAWN-CONTEXT, DYN-EXCEPTION-CONTEXT, DYN-EVAL-ASYNC-LEFT, DYN-EVAL-ASYNC-RIGHT, DYN-EVAL-ASYNC-JOIN, DYN-EXCEPTION-ASYNC-LEFT, DYN-EXCEPTION-ASYNC-RIGHT}
+use Rattle.machine.specs.declared.Store.{Store}
+use Rattle.machine.specs.declared.Value.{Value}
+use Rattle.machine.specs.declared.Value.the-variants.{Null as nil, Ref as ref}
+use Rattle.machine.specs.declared.Frame.{Frame}
+use Rattle.machine.specs.declared.Frame.the-variants.{Awaits as awaits, Casts as casts, Locks as locks}
+use Rattle.machine.specs.Config.{Code, Object, Binding, Stores, Tree, running, returning, failed, join, Config}
+use Rattle.machine.specs.Machine.{fieldsOf, scope, context, find, object, setFields, setField, nulls, oneIf, lockFrames, Places, Outcome, still, full, moved, give, descend, make, spawn, withShut, enter, shutAndEnter, lockObject, lockValue, lockTarget, extend, selectValue, selectTarget, updateValue, callBindings, callMethod, callValue, runNode, wake, resume, Phase, finished, broken, busy, phase, fold, inLeft, inRight, Path, here, left, right, moveAt, spare, move}
+use Rattle.machine.specs.declared.Want.{Want}
+use Rattle.machine.specs.declared.Want.the-variants.{Any as any, Upto as upto}
+use Rattle.machine.specs.WellFormed.{meets-type, ValueFits, fits-ref, Gives, gives-type, StoresOk, Awaits, a-let, a-write, a-call, FramesOk, a-node, a-cast, TreeOk, running-ok, returning-ok, join-ok, lockCount, shutAt, WfConfig}
+use Rattle.machine.specs.Accepted.{AcceptedCode}
+use Rattle.machine.specs.Steps.{fresh, PExpr, p-value, fill, PTree, p-thread, p-join, p-failed, World, remove, entryValue, DYN-EVAL-VAR, DYN-EVAL-LET, DYN-EVAL-CALL, DYN-EVAL-CAST, DYN-EVAL-SELECT, DYN-EVAL-UPDATE, DYN-EVAL-NEW, DYN-EVAL-LOCK, DYN-EVAL-LOCK-REENTRANT, DYN-EVAL-LOCK-RELEASE, DYN-EVAL-SPAWN, DYN-NPE-SELECT, DYN-NPE-UPDATE, DYN-NPE-CALL, DYN-NPE-LOCK, Step, reduces, DYN-EVAL-CONTEXT, DYN-EVAL-SPAWN-CONTEXT, DYN-EXCEPTION-CONTEXT, DYN-EVAL-ASYNC-LEFT, DYN-EVAL-ASYNC-RIGHT, DYN-EVAL-ASYNC-JOIN, DYN-EXCEPTION-ASYNC-LEFT, DYN-EXCEPTION-ASYNC-RIGHT}
 use Rattle.machine.specs.ReadAs.{entries, names, hole, plug, held, world, said, read}
 use Rattle.machine.specs.Silent.{quiet, part, quietIn, Means, silently, publicly}
 use Rattle.machine.proofs.Types.{below-class, below-method, infer-computes, field-declared, Defined, defined}
-use Rattle.machine.proofs.Store.{seen, field-seen, shutAt-le, shutAt-object}
+use Rattle.machine.proofs.Stores.{seen, field-seen, shutAt-le, shutAt-object}
 use Rattle.machine.proofs.Grow.{Grows, grows-binding, grows-call}
 use Rattle.machine.proofs.Move.{Judged, a-move}
 use Rattle.machine.proofs.Trees.{move-good}
 use Rattle.machine.proofs.Ends.{frames-append}
+use Rattle.machine.proofs.Locks.{held-in, in-held}
 use Rattle.machine.proofs.Names.{variable, entry-new, entry-count, let-reading, call-reading, entry-older, plug-grow, read-grow, said-grow}
 
 -- a step inside frames
@@ -44,24 +50,7 @@ plug-spawn : (s : Code) (bs : List Binding) {W : World} {L : List ℕ} {a b c d 
 plug-spawn s bs [] h = h
 plug-spawn s bs (f ∷ fs) h = plug-spawn s bs fs (DYN-EVAL-SPAWN-CONTEXT (hole s bs f) refl h)
 
--- the locks held are those of the lock frames
-in-head : (o p : ℕ) (L : List ℕ) (n : ℕ) (q : Bool) → eqb o p ≡ q → 1 ≤ oneIf q + n → (1 ≤ n → o ∈ L) → o ∈ p ∷ L
-in-head o p L n true h k r = List·Memᴰ·head (eqb-true o p h)
-in-head o p L n false h k r = List·Memᴰ·tail (r (omega arith))
-
-pub held-in : (o : ℕ) (fs : List Frame) → 1 ≤ lockFrames o fs → o ∈ held fs
-held-in o [] h = absurd (omega arith)
-held-in o (awaits n e ∷ fs) h = held-in o fs h
-held-in o (casts n ∷ fs) h = held-in o fs h
-held-in o (locks p ∷ fs) h = in-head o p (held fs) (lockFrames o fs) (eqb o p) refl h (held-in o fs)
-
-pub in-held : (o : ℕ) (fs : List Frame) → o ∈ held fs → 1 ≤ lockFrames o fs
-in-held o [] h = absurd (List·Memᴰ·not-nil h)
-in-held o (awaits n e ∷ fs) h = in-held o fs h
-in-held o (casts n ∷ fs) h = in-held o fs h
-in-held o (locks p ∷ fs) h =
-    ⊎-elim (λ (e : o ≡ p). omega (arith, ap oneIf (eq-eqb o p e))) (λ k. omega (arith, in-held o fs k)) (List·Memᴰ·cases-cons h)
-
+-- a lock that is not held
 remove-other : (o p n : ℕ) (L : List ℕ) (q : Bool) → eqb o p ≡ q → oneIf q + n ≡ 0 → (n ≡ 0 → remove o L ≡ L) → cond q (remove o L) (p ∷ remove o L) ≡ p ∷ L
 remove-other o p n L true h k r = absurd (omega arith)
 remove-other o p n L false h k r = ap (λ (l : List ℕ). p ∷ l) (r (omega arith))
@@ -75,16 +64,16 @@ remove-held o (locks p ∷ fs) h = remove-other o p (lockFrames o fs) (held fs) 
 -- What a move is in the published reading.
 pub data Exact (s : Code) (st : Stores) (above : List Frame) (t : Tree) : Outcome → Type 0 where
   no-change : Exact s st above t still
-  no-place : {k : ℕ} → Exact s st above t (full k)
+  no-place : {k : Store} → Exact s st above t (full k)
   published : {su : Stores} {u : Tree} → Step (s .program) (world st) (read s (st .bindings) above t) (world su) (read s (su .bindings) above u) → Exact s st above t (moved su u)
 
 -- The flag says that the move due is silent.
 pub data Faithful (s : Code) (st : Stores) (above : List Frame) (t : Tree) : Bool → Outcome → Type 0 where
   silent : {u : Tree} → read s (st .bindings) above u ≡ read s (st .bindings) above t → Faithful s st above t true (moved st u)
-  silent-full : {k : ℕ} → Faithful s st above t true (full k)
+  silent-full : {k : Store} → Faithful s st above t true (full k)
   exact : {o : Outcome} → Exact s st above t o → Faithful s st above t false o
 
-module _ {s : Code} {w : Want} {st : Stores} (ok : StoresOk s st) {start : ℕ} (acc : Accepted s start) (room : Places) (above fs : List Frame) where
+module _ {s : Code} {w : Want} {st : Stores} (ok : StoresOk s st) {start : ℕ} (acc : AcceptedCode s start) (room : Places) (above fs : List Frame) where
   module _ (v : Want) (r : FramesOk s (st .bindings) w fs v) (e : ℕ) (p : Point) where
     pub give-step : (x t : ℕ) → s .expr p ≡ var p x → typeIn (context (st .bindings) e) x ≡ some t
         → Exact s st above (running p e fs) (give st fs (find (scope (st .bindings) e) x))
@@ -105,16 +94,16 @@ module _ {s : Code} {w : Want} {st : Stores} (ok : StoresOk s st) {start : ℕ} 
     spawn-step a b c i zero = no-place
     spawn-step a b c i (suc k) = published {su = st} {u = join fs c e (running a e []) (running b e [])} (rw i (plug-spawn s (st .bindings) fs (reduces DYN-EVAL-SPAWN)))
 
-    enter-step : (x i o : ℕ) (a : Point) (y : Object) → s .expr p ≡ lock p x (s .expr a) → names (st .bindings) e x ≡ fresh i → valueOf (entries (st .bindings)) i ≡ some (ref o)
+    enter-step : (x i o : ℕ) (a : Point) (y : Object) → s .expr p ≡ lock p x (s .expr a) → names (st .bindings) e x ≡ fresh i → entryValue (entries (st .bindings)) i ≡ some (ref o)
         → object (st .objects) o ≡ some y → y .shut ≡ true → (n : ℕ) → lockFrames o fs + lockFrames o above ≡ n
         → Exact s st above (running p e fs) (enter st fs a e n)
     enter-step x i o a y b h k l q zero c = no-change
     enter-step x i o a y b h k l q (suc n) c =
         published {su = st} {u = running a e fs} (rw (b, h) (plug-step s (st .bindings) fs (reduces (DYN-EVAL-LOCK-REENTRANT k l q (held-in o (fs ++ above) (omega (arith, frames-append o fs above)))))))
 
-    take-step : (x i o : ℕ) (a : Point) (y : Object) → s .expr p ≡ lock p x (s .expr a) → names (st .bindings) e x ≡ fresh i → valueOf (entries (st .bindings)) i ≡ some (ref o)
+    take-step : (x i o : ℕ) (a : Point) (y : Object) → s .expr p ≡ lock p x (s .expr a) → names (st .bindings) e x ≡ fresh i → entryValue (entries (st .bindings)) i ≡ some (ref o)
         → object (st .objects) o ≡ some y → lockFrames o above + lockFrames o fs ≤ shutAt (st .objects) o → y .shut ≡ false → (n : ℕ)
-        → Exact s st above (running p e fs) (take st fs a e o n)
+        → Exact s st above (running p e fs) (shutAndEnter st fs a e o n)
     take-step x i o a y b h k l d q zero = no-place
     take-step x i o a y b h k l d q (suc n) =
         published {su = withShut true st o} {u = running a e (locks o ∷ fs)}
@@ -122,14 +111,14 @@ module _ {s : Code} {w : Want} {st : Stores} (ok : StoresOk s st) {start : ℕ} 
         (plug-step s (st .bindings) fs
         (reduces (DYN-EVAL-LOCK k l q (λ m. omega (arith, in-held o (fs ++ above) m, frames-append o fs above, shutAt-object (st .objects) o y l, ap oneIf q))))))
 
-    object-step : (x i o : ℕ) (a : Point) (y : Object) → s .expr p ≡ lock p x (s .expr a) → names (st .bindings) e x ≡ fresh i → valueOf (entries (st .bindings)) i ≡ some (ref o)
+    object-step : (x i o : ℕ) (a : Point) (y : Object) → s .expr p ≡ lock p x (s .expr a) → names (st .bindings) e x ≡ fresh i → entryValue (entries (st .bindings)) i ≡ some (ref o)
         → object (st .objects) o ≡ some y → lockFrames o above + lockFrames o fs ≤ shutAt (st .objects) o → (q : Bool) → y .shut ≡ q
         → Exact s st above (running p e fs) (lockObject st above fs a e (room .frames) o (some (record { class = y .class; shut = q; fields = y .fields })))
     object-step x i o a y b h k l d true q = enter-step x i o a y b h k l q (lockFrames o fs + lockFrames o above) refl
     object-step x i o a y b h k l d false q = take-step x i o a y b h k l d q (room .frames)
 
     value-step : (x t i : ℕ) (a : Point) → s .expr p ≡ lock p x (s .expr a) → names (st .bindings) e x ≡ fresh i → ((o : ℕ) → lockFrames o above + lockFrames o fs ≤ shutAt (st .objects) o)
-        → (u : Value) → valueOf (entries (st .bindings)) i ≡ some u → Fits s (st .objects) u (upto t)
+        → (u : Value) → entryValue (entries (st .bindings)) i ≡ some u → ValueFits s (st .objects) u (upto t)
         → Exact s st above (running p e fs) (lockValue st above fs a e (room .frames) u)
     value-step x t i a b h d nil k f = published {su = st} {u = failed} (rw (b, h) (plug-failed s (st .bindings) fs (reduces (DYN-NPE-LOCK k))))
     value-step x t i a b h d (ref o) k (fits-ref {x = y} l m) = rw l (object-step x i o a y b h k l (d o) (y .shut) refl)
@@ -142,7 +131,7 @@ module _ {s : Code} {w : Want} {st : Stores} (ok : StoresOk s st) {start : ℕ} 
         rw (f .there) (value-step x t (n .number) a b (n .name) d (f .binding .value) (n .value) (f .fits))
 
     select-value-step : (x f c u i : ℕ) → s .expr p ≡ select p x f → names (st .bindings) e x ≡ fresh i → FieldIn (s .program) c f u
-        → (y : Value) → valueOf (entries (st .bindings)) i ≡ some y → Fits s (st .objects) y (upto c)
+        → (y : Value) → entryValue (entries (st .bindings)) i ≡ some y → ValueFits s (st .objects) y (upto c)
         → Exact s st above (running p e fs) (selectValue s st fs f y)
     select-value-step x f c u i z h k nil j q = published {su = st} {u = failed} (rw (z, h) (plug-failed s (st .bindings) fs (reduces (DYN-NPE-SELECT j))))
     select-value-step x f c u i z h k (ref o) j (fits-ref {x = y} l (meets-type b)) =
@@ -167,7 +156,7 @@ module _ {s : Code} {w : Want} {st : Stores} (ok : StoresOk s st) {start : ℕ} 
 
     run-step : (n : Node) → s .view p ≡ n → s .expr p ≡ build p (s .expr) n → Gives s (context (st .bindings) e) (build p (s .expr) n) v
         → ((o : ℕ) → lockFrames o above + lockFrames o fs ≤ shutAt (st .objects) o)
-        → Faithful s st above (running p e fs) (quiet n) (run s room st above fs e p n)
+        → Faithful s st above (running p e fs) (quiet n) (runNode s room st above fs e p n)
     run-step n-null i b g d = silent {u = returning nil fs} (rw b)
     run-step (n-var x) i b (gives-type (BD-INFER-VAR w h) m) d = exact (give-step x _ b h)
     run-step (n-select x f) i b (gives-type (BD-INFER-SELECT (BD-INFER-VAR w h) k) m) d = exact (select-step x f _ _ b h k)
@@ -192,8 +181,8 @@ module _ {s : Code} {w : Want} {st : Stores} (ok : StoresOk s st) {start : ℕ} 
         (rw (i, plug-grow g r (said s (y ∷ st .bindings) (suc (length (st .bindings))) b), ← let-reading (st .bindings) e y (s .expr b) refl)
         (plug-step s (st .bindings) fs (reduces (DYN-EVAL-LET (length (st .bindings)) (sym (entry-count (st .bindings))) (entry-new (st .bindings))))))
 
-    update-step : (n f i c u : ℕ) (a : Point) → s .view p ≡ n-update n f a → names (st .bindings) e n ≡ fresh i → FieldIn (s .program) c f u → (y : Value) → valueOf (entries (st .bindings)) i ≡ some y
-        → Fits s (st .objects) y (upto c) → Exact s st above (returning x (awaits p e ∷ fs)) (updateValue s st fs f x y)
+    update-step : (n f i c u : ℕ) (a : Point) → s .view p ≡ n-update n f a → names (st .bindings) e n ≡ fresh i → FieldIn (s .program) c f u → (y : Value) → entryValue (entries (st .bindings)) i ≡ some y
+        → ValueFits s (st .objects) y (upto c) → Exact s st above (returning x (awaits p e ∷ fs)) (updateValue s st fs f x y)
     update-step n f i c u a k h d nil j q = published {su = st} {u = failed} (rw (k, h) (plug-failed s (st .bindings) fs (reduces (DYN-NPE-UPDATE j))))
     update-step n f i c u a k h d (ref o) j (fits-ref {x = y} l (meets-type b)) =
         let z : y .class ≡ c = below-class acc (field-declared acc d .0) b in
@@ -203,7 +192,7 @@ module _ {s : Code} {w : Want} {st : Stores} (ok : StoresOk s st) {start : ℕ} 
         {u = returning nil fs}
         (rw (k, h) (plug-step s (st .bindings) fs (reduces (DYN-EVAL-UPDATE {t = u} j l (rw z d))))))
 
-    call-method-step : (n m i o t u : ℕ) (a : Point) (y : Object) → s .view p ≡ n-call n m a → names (st .bindings) e n ≡ fresh i → valueOf (entries (st .bindings)) i ≡ some (ref o)
+    call-method-step : (n m i o t u : ℕ) (a : Point) (y : Object) → s .view p ≡ n-call n m a → names (st .bindings) e n ≡ fresh i → entryValue (entries (st .bindings)) i ≡ some (ref o)
         → object (st .objects) o ≡ some y → (b : Defined s (y .class) (record { name = m; param = t; result = u })) → (k : ℕ)
         → Exact s st above (returning x (awaits p e ∷ fs)) (callMethod st fs x o (y .class) (some (b .method)) k)
     call-method-step n m i o t u a y z h j l b zero = no-place
@@ -223,7 +212,7 @@ module _ {s : Code} {w : Want} {st : Stores} (ok : StoresOk s st) {start : ℕ} 
         (ap suc (sym (entry-count (st .bindings)))) (entry-older (st .bindings) (suc (length (st .bindings))) (omega arith))))))
 
     call-step : (n m i c t u : ℕ) (a : Point) → s .view p ≡ n-call n m a → names (st .bindings) e n ≡ fresh i → MsigIn (s .program) c (record { name = m; param = t; result = u }) → (k : ℕ)
-        → (y : Value) → valueOf (entries (st .bindings)) i ≡ some y → Fits s (st .objects) y (upto c)
+        → (y : Value) → entryValue (entries (st .bindings)) i ≡ some y → ValueFits s (st .objects) y (upto c)
         → Exact s st above (returning x (awaits p e ∷ fs)) (callValue s st fs m x k y)
     call-step n m i c t u a z h d k nil j q = published {su = st} {u = failed} (rw (z, h) (plug-failed s (st .bindings) fs (reduces (DYN-NPE-CALL j))))
     call-step n m i c t u a z h d k (ref o) j (fits-ref {x = y} l (meets-type b)) =
@@ -274,7 +263,7 @@ release-step {s} {st} above fs o x d =
     (remove-first o (fs ++ above) q)
     (plug-step s (st .bindings) fs (reduces (DYN-EVAL-LOCK-RELEASE (y .there) (y .shut)))))
 
-pub resume-step : {s : Code} {w : Want} {st : Stores} (ok : StoresOk s st) {start : ℕ} (acc : Accepted s start) (room : Places) (above fs : List Frame) (x : Value) (v : Want)
+pub resume-step : {s : Code} {w : Want} {st : Stores} (ok : StoresOk s st) {start : ℕ} (acc : AcceptedCode s start) (room : Places) (above fs : List Frame) (x : Value) (v : Want)
     → FramesOk s (st .bindings) w fs v → ((o : ℕ) → lockFrames o above + lockFrames o fs ≤ shutAt (st .objects) o)
     → Exact s st above (returning x fs) (resume s room st x fs)
 resume-step ok acc room above [] x v r d = no-change
@@ -333,7 +322,7 @@ module _ {s : Code} {st : Stores} (above fs : List Frame) (a : Point) (e : ℕ) 
     right-step y (a-move f) (exact (published {su = su} {u = u} h)) =
         exact (published {su = su} {u = join fs a e l u} (rw (read-grow (f .grows) (fs ++ above) y, last-grow (f .grows)) (DYN-EVAL-ASYNC-RIGHT h)))
 
-move-step : {s : Code} {w : Want} {st : Stores} {start : ℕ} (acc : Accepted s start) (room : Places) (above : List Frame) (t : Tree) (p : Path)
+move-step : {s : Code} {w : Want} {st : Stores} {start : ℕ} (acc : AcceptedCode s start) (room : Places) (above : List Frame) (t : Tree) (p : Path)
     → StoresOk s st → TreeOk s st w t → ((o : ℕ) → lockFrames o above + lockCount o t ≤ shutAt (st .objects) o)
     → Faithful s st above t (quietIn s (part t p)) (moveAt s room st above t p)
 move-step {s} acc room above (running a e fs) here ok (running-ok le g r) k = run-step ok acc room above fs _ r e a (s .view a) refl (acc .built a (g .node)) (rw (acc .built a (g .node)) at (g .gives)) k
@@ -354,7 +343,7 @@ move-step acc room above (join fs a e l r) (right p) ok (join-ok le g h x y) k =
     (move-step acc room [] r p ok y (λ o. omega (arith, k o)))
 
 -- Every move of a well-formed configuration leaves the stores and the reading as they were where it is silent by its kind, else it is one published step.
-faithful : {s : Code} {start : ℕ} (acc : Accepted s start) (lim : Places) {w : Want} {c : Config} (p : Path) → WfConfig s w c
+faithful : {s : Code} {start : ℕ} (acc : AcceptedCode s start) (lim : Places) {w : Want} {c : Config} (p : Path) → WfConfig s w c
     → Faithful s (c .stores) [] (c .tree) (quietIn s (part (c .tree) p)) (move s lim c p)
 unfolding move
 faithful acc lim {c = c} p h = move-step acc (spare lim (c .stores) (c .tree)) [] (c .tree) p (h .stores) (h .tree) (λ o. omega (arith, h .distinct o))
@@ -365,6 +354,6 @@ meant {s} {c} (silent h) = silently refl (λ i. record { world = world (c .store
 meant (exact (published h)) = publicly h
 
 -- Moves are published: a move is one of the listed silent ones and leaves the reading as it was, or is one published step from reading to reading.
-pub moves-published : {s : Code} {start : ℕ} (acc : Accepted s start) (lim : Places) {w : Want} {c : Config} (p : Path) {su : Stores} {u : Tree} → WfConfig s w c → move s lim c p ≡ moved su u
+pub moves-published : {s : Code} {start : ℕ} (acc : AcceptedCode s start) (lim : Places) {w : Want} {c : Config} (p : Path) {su : Stores} {u : Tree} → WfConfig s w c → move s lim c p ≡ moved su u
     → Means s c (record { stores = su; tree = u }) (quietIn s (part (c .tree) p))
 moves-published acc lim p h e = meant (rw e at (faithful acc lim p h))

@@ -5,17 +5,20 @@ use mathlib.Core.Path.{_≡_, refl}
 use mathlib.Core.List.{List, [], _∷_, _++_}
 use lib.ListN.{length}
 use Rattle.script.specs.Syntax.{Point}
-use Rattle.machine.specs.Config.{Code, Stores, Frame, Tree, running, returning, failed, join, Config}
-use Rattle.machine.specs.Machine.{context, Places, Outcome, spare, full, moved, Phase, finished, broken, busy, phase, fold, inLeft, inRight, Path, here, left, right, moveAt, move}
-use Rattle.machine.specs.WellFormed.{Want, any, At, StoresOk, FramesOk, TreeOk, running-ok, returning-ok, join-ok, lockCount, failures, shutAt, WfConfig}
-use Rattle.machine.specs.Accepted.{Accepted}
+use Rattle.machine.specs.declared.Frame.{Frame}
+use Rattle.machine.specs.Config.{Code, Stores, Tree, running, returning, failed, join, Config}
+use Rattle.machine.specs.Machine.{context, Places, Outcome, spare, moved, Phase, finished, broken, busy, phase, fold, inLeft, inRight, Path, here, left, right, moveAt, move}
+use Rattle.machine.specs.declared.Want.{Want}
+use Rattle.machine.specs.declared.Want.the-variants.{Any as any}
+use Rattle.machine.specs.WellFormed.{NodeGives, StoresOk, FramesOk, TreeOk, running-ok, returning-ok, join-ok, lockCount, failures, shutAt, WfConfig}
+use Rattle.machine.specs.Accepted.{AcceptedCode}
 use Rattle.machine.proofs.Grow.{Grows, at-grows, frames-grow, tree-grows}
 use Rattle.machine.proofs.Move.{Judged, no-move, no-room, a-move, kept, fails, run-good, resume-good}
 
 -- no matter why there is no move
 forget : {s : Code} {w : Want} {st : Stores} {t : Tree} {Q : Type 0} {o : Outcome} → Judged s w st t Q o → Judged s w st t (Unit {0}) o
 forget (no-move q) = no-move tt
-forget (no-room b) = no-room b
+forget no-room = no-room
 forget (a-move f) = a-move f
 
 -- a finished thread has no lock frame
@@ -46,10 +49,10 @@ module _ {s : Code} {w : Want} {st : Stores} (fs : List Frame) (a : Point) (e : 
   fold-good ok k busy broken x y = a-move (fails ok _)
   fold-good ok k busy busy x y = no-move tt
 
-  module _ {v : Want} (le : e ≤ length (st .bindings)) (p : At s (context (st .bindings) e) a v) (k : FramesOk s (st .bindings) w fs v) where
+  module _ {v : Want} (le : e ≤ length (st .bindings)) (p : NodeGives s (context (st .bindings) e) a v) (k : FramesOk s (st .bindings) w fs v) where
     left-good : TreeOk s st any r → {o : Outcome} → Judged s any st l (Unit {0}) o → Judged s w st (join fs a e l r) (Unit {0}) (inLeft fs a e r o)
     left-good y (no-move q) = no-move tt
-    left-good y (no-room b) = no-room b
+    left-good y no-room = no-room
     left-good y (a-move {su = su} {u = u} f) =
         let g = f .grows in
         a-move
@@ -63,7 +66,7 @@ module _ {s : Code} {w : Want} {st : Stores} (fs : List Frame) (a : Point) (e : 
 
     right-good : TreeOk s st any l → {o : Outcome} → Judged s any st r (Unit {0}) o → Judged s w st (join fs a e l r) (Unit {0}) (inRight fs a e l o)
     right-good x (no-move q) = no-move tt
-    right-good x (no-room b) = no-room b
+    right-good x no-room = no-room
     right-good x (a-move {su = su} {u = u} f) =
         let g = f .grows in
         a-move
@@ -75,7 +78,7 @@ module _ {s : Code} {w : Want} {st : Stores} (fs : List Frame) (a : Point) (e : 
           whole = λ z. (omega (arith, f .whole (omega arith) .0), λ o. omega (arith, f .whole (omega arith) .1 o));
         })
 
-pub move-good : {s : Code} {w : Want} {st : Stores} {start : ℕ} (acc : Accepted s start) (room : Places) (above : List Frame) (t : Tree) (p : Path)
+pub move-good : {s : Code} {w : Want} {st : Stores} {start : ℕ} (acc : AcceptedCode s start) (room : Places) (above : List Frame) (t : Tree) (p : Path)
     → StoresOk s st → TreeOk s st w t → ((o : ℕ) → lockCount o t ≤ shutAt (st .objects) o)
     → Judged s w st t (Unit {0}) (moveAt s room st above t p)
 move-good {s} acc room above (running a e fs) here ok (running-ok le g r) k = forget (run-good ok acc room above fs a _ r e le (s .view a) (g .node) refl (acc .in-order a (g .node)) (rw (acc .built a (g .node)) at (g .gives)))
@@ -94,7 +97,7 @@ move-good acc room above (join fs a e l r) (left p) ok (join-ok le g h x y) k =
 move-good acc room above (join fs a e l r) (right p) ok (join-ok le g h x y) k =
     right-good fs a e l r le g h x (move-good acc room [] r p ok y (λ o. omega (arith, k o)))
 
--- A move of a well-formed configuration leaves a well-formed one; no binding is lost or changed, and no object changes its class; a full store is one of four.
+-- A move of a well-formed configuration leaves a well-formed one; no binding is lost or changed, and no object changes its class.
 preserved : {s : Code} {w : Want} {c : Config} {su : Stores} {u : Tree} → WfConfig s w c → Judged s w (c .stores) (c .tree) (Unit {0}) (moved su u)
     → WfConfig s w (record { stores = su; tree = u }) × Grows (c .stores) su
 preserved h (a-move f) = (
@@ -107,10 +110,7 @@ preserved h (a-move f) = (
   f .grows,
 )
 
-which-store : {s : Code} {w : Want} {st : Stores} {t : Tree} {Q : Type 0} {k : ℕ} → Judged s w st t Q (full k) → (4 ≤ k) × (k ≤ 7)
-which-store (no-room b) = b
-
-module _ {s : Code} {start : ℕ} (acc : Accepted s start) (lim : Places) {w : Want} {c : Config} (h : WfConfig s w c) (p : Path) where
+module _ {s : Code} {start : ℕ} (acc : AcceptedCode s start) (lim : Places) {w : Want} {c : Config} (h : WfConfig s w c) (p : Path) where
   good : Judged s w (c .stores) (c .tree) (Unit {0}) (move s lim c p)
   unfolding move
   good = move-good acc (spare lim (c .stores) (c .tree)) [] (c .tree) p (h .stores) (h .tree) (h .distinct)
@@ -120,6 +120,3 @@ module _ {s : Code} {start : ℕ} (acc : Accepted s start) (lim : Places) {w : W
 
   pub growth : {su : Stores} {u : Tree} → move s lim c p ≡ moved su u → Grows (c .stores) su
   growth e = preserved h (rw e at good) .1
-
-  pub full-number : {k : ℕ} → move s lim c p ≡ full k → (4 ≤ k) × (k ≤ 7)
-  full-number e = which-store (rw e at good)

@@ -18,8 +18,10 @@ use Rattle.typing.proofs.Members.{field-in, msig-from}
 use Rattle.typing.proofs.Rules.{Judged, types, judged, infer-complete}
 use Rattle.machine.specs.Config.{Code}
 use Rattle.machine.specs.Machine.{fieldsOf, definedIn}
-use Rattle.machine.specs.WellFormed.{Want, upto, Meets, meets-any, meets-type, Gives, gives-null, gives-type}
-use Rattle.machine.specs.Accepted.{Accepted}
+use Rattle.machine.specs.declared.Want.{Want}
+use Rattle.machine.specs.declared.Want.the-variants.{Upto as upto}
+use Rattle.machine.specs.WellFormed.{Meets, meets-any, meets-type, Gives, gives-null, gives-type}
+use Rattle.machine.specs.Accepted.{AcceptedCode}
 
 pub meets-below : {s : Code} {t u : ℕ} {w : Want} → Sub (s .program) t u → Meets s u w → Meets s t w
 meets-below b meets-any = meets-any
@@ -99,7 +101,7 @@ pub record Defined (s : Code) (c : ℕ) (g : Signature) : Type 0 where
   pub param : IsType (s .program) (method .signature .param)
   pub checked : Check (s .program) (bodyEnv c (method .signature)) (method .body) (method .signature .result)
 
-module _ {s : Code} {start : ℕ} (acc : Accepted s start) where
+module _ {s : Code} {start : ℕ} (acc : AcceptedCode s start) where
   -- Nothing but itself is below a class.
   pub below-class : {t u : ℕ} → IsClass (s .program) u → Sub (s .program) t u → t ≡ u
   below-class i (T-SUB-CLASS {t = t} {c = c} d) = absurd (omega (arith, i .past, acc .regular .classes t c d .interface .last))

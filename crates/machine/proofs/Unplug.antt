@@ -4,7 +4,9 @@ use native.Mathlib.Omega.{arith}
 use mathlib.Core.Path.{_≡_, refl, sym, _∙_, ap}
 use mathlib.Core.List.{List, [], _∷_}
 use Rattle.script.specs.Syntax.{Program}
-use Rattle.machine.specs.Config.{Code, Value, Binding, Frame}
+use Rattle.machine.specs.declared.Value.{Value}
+use Rattle.machine.specs.declared.Frame.{Frame}
+use Rattle.machine.specs.Config.{Code, Binding}
 use Rattle.machine.specs.Steps.{PVar, PExpr, p-value, p-var, p-select, p-update, p-call, p-let, p-new, p-cast, p-fork, p-lock, p-locked, Hole, h-update, h-call, h-let, h-cast, h-locked, fill, PTree, p-thread, p-join, p-failed, World, Reduce, DYN-EVAL-VAR, DYN-EVAL-LET, DYN-EVAL-CALL, DYN-EVAL-CAST, DYN-EVAL-SELECT, DYN-EVAL-UPDATE, DYN-EVAL-NEW, DYN-EVAL-LOCK, DYN-EVAL-LOCK-REENTRANT, DYN-EVAL-LOCK-RELEASE, DYN-EVAL-SPAWN, DYN-NPE-SELECT, DYN-NPE-UPDATE, DYN-NPE-CALL, DYN-NPE-LOCK, Step, reduces, DYN-EVAL-CONTEXT, DYN-EVAL-SPAWN-CONTEXT, DYN-EXCEPTION-CONTEXT}
 use Rattle.machine.specs.ReadAs.{hole, plug}
 

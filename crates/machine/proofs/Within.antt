@@ -10,8 +10,12 @@ use Rattle.script.specs.Syntax.{Point, Node, n-null, n-var, n-select, n-update,
 use Rattle.typing.specs.declared.Answer.{Answer}
 use Rattle.typing.specs.declared.Answer.the-variants.{Typed, Faulty}
 use Rattle.typing.specs.Typing.{inferred}
-use Rattle.machine.specs.Config.{Code, Value, nil, ref, Object, Binding, Stores, Frame, awaits, casts, locks, Tree, running, returning, failed, join, Config}
-use Rattle.machine.specs.Machine.{fieldsOf, definedIn, scope, context, find, object, setShut, setFields, fieldValue, lockFrames, Places, spare, frameCount, threadCount, Outcome, still, full, moved, give, descend, make, spawn, enter, take, lockObject, lockValue, lockTarget, extend, selectField, selectObject, selectValue, selectTarget, updateObject, updateValue, updateTarget, callMethod, callObject, callValue, callTarget, run, wake, resume, Phase, finished, broken, busy, phase, fold, inLeft, inRight, Path, here, left, right, moveAt, move}
+use Rattle.machine.specs.declared.Value.{Value}
+use Rattle.machine.specs.declared.Value.the-variants.{Null as nil, Ref as ref}
+use Rattle.machine.specs.declared.Frame.{Frame}
+use Rattle.machine.specs.declared.Frame.the-variants.{Awaits as awaits, Casts as casts, Locks as locks}
+use Rattle.machine.specs.Config.{Code, Object, Binding, Stores, Tree, running, returning, failed, join, Config}
+use Rattle.machine.specs.Machine.{fieldsOf, definedIn, scope, context, find, object, setShut, setFields, fieldValue, lockFrames, Places, spare, frameCount, threadCount, Outcome, still, full, moved, give, descend, make, spawn, enter, shutAndEnter, lockObject, lockValue, lockTarget, extend, selectField, selectObject, selectValue, selectTarget, updateObject, updateValue, updateTarget, callMethod, callObject, callValue, callTarget, runNode, wake, resume, Phase, finished, broken, busy, phase, fold, inLeft, inRight, Path, here, left, right, moveAt, move}
 use Rattle.machine.specs.WellFormed.{Within}
 
 length-shut : (b : Bool) (xs : List Object) (o : ℕ) → length (setShut b xs o) ≡ length xs
@@ -71,7 +75,7 @@ module _ (s : Code) (room : Places) (st : Stores) where
     enter-takes a zero = tt
     enter-takes a (suc n) = stays _ _ (omega arith) (omega arith)
 
-    take-takes : (a : Point) (o k : ℕ) → room .frames ≡ k → Frugal room st (running p e fs) (take st fs a e o k)
+    take-takes : (a : Point) (o k : ℕ) → room .frames ≡ k → Frugal room st (running p e fs) (shutAndEnter st fs a e o k)
     take-takes a o zero h = tt
     take-takes a o (suc k) h = record { objects = simp length-shut (omega arith); bindings = omega arith; frames = omega arith; threads = omega arith }
 
@@ -107,7 +111,7 @@ module _ (s : Code) (room : Places) (st : Stores) where
     select-takes f none = tt
     select-takes f (some b) = select-value-takes f (b .value)
 
-    run-takes : (n : Node) → Frugal room st (running p e fs) (run s room st above fs e p n)
+    run-takes : (n : Node) → Frugal room st (running p e fs) (runNode s room st above fs e p n)
     run-takes n-null = stays _ _ (omega arith) (omega arith)
     run-takes (n-var x) = give-takes (find (scope (st .bindings) e) x)
     run-takes (n-select x f) = select-takes f (find (scope (st .bindings) e) x)

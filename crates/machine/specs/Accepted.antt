@@ -9,7 +9,7 @@ use Rattle.typing.specs.Published.{WfProgram}
 use Rattle.machine.specs.Config.{Code}
 
 -- Question 7: "parts with larger numbers that exist".
-pub record Later (s : Code) (n p : Point) : Type 0 where
+pub record LaterPart (s : Code) (n p : Point) : Type 0 where
   pub after : n < p
   pub there : p < s .size
 
@@ -20,14 +20,14 @@ pub record BodyAt (s : Code) (m : Method) : Type 0 where
   pub is : m .body ≡ s .expr point
 
 -- Accepted with the type t.
-pub record Accepted (s : Code) (t : ℕ) : Type 0 where
+pub record AcceptedCode (s : Code) (t : ℕ) : Type 0 where
   pub regular : Regular (s .program)
   pub typed : WfProgram (s .program) t
   pub most : s .size ≤ NODES
   pub a-node : 0 < s .size
   pub built : (n : Point) → n < s .size → s .expr n ≡ build n (s .expr) (s .view n)
   pub formed : (n : Point) → n < s .size → Formed (s .program) (s .expr n)
-  pub in-order : (n : Point) → n < s .size → (p : Point) → p ∈ parts (s .view n) → Later s n p
+  pub in-order : (n : Point) → n < s .size → (p : Point) → p ∈ parts (s .view n) → LaterPart s n p
   pub words : (n : Point) (x : ℕ) (a b : Point) → s .view n ≡ n-bind x a b → x < 65536
   pub bodies : (u : ℕ) (c : Class) (m : Method) → declarationAt (s .program) u ≡ a-class c → m ∈ c .methods → BodyAt s m
   pub start : s .program .start ≡ s .expr 0

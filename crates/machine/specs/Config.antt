@@ -7,6 +7,10 @@ use Rattle.script.specs.Section.{countOf}
 use Rattle.script.specs.declared.Section.the-variants.{Nodes as nodes}
 use Rattle.script.specs.Syntax.{Point, Expr, Node, Program}
 use Rattle.script.specs.Reading.{viewAt, exprAt, programOf}
+use Rattle.machine.specs.declared.Value.{Value}
+use Rattle.machine.specs.declared.Frame.{Frame}
+use Rattle.machine.specs.declared.Value.{Value}
+use Rattle.machine.specs.declared.Frame.{Frame}
 
 -- A script as the machine sees it: its program, its nodes, and the expression at each. "Program points are the script's nodes."
 pub record Code : Type 0 where
@@ -17,11 +21,6 @@ pub record Code : Type 0 where
 
 abbrev pub codeOf : List ℕ → Code
 codeOf s = record { program = programOf s; size = countOf s nodes; view = viewAt s; expr = exprAt s }
-
--- v ::= null | ι
-pub data Value : Type 0 where
-  nil : Value
-  ref : ℕ → Value
 
 -- obj ::= (C, F, L)
 pub record Object : Type 0 where
@@ -40,12 +39,6 @@ pub record Binding : Type 0 where
 pub record Stores : Type 0 where
   pub objects : List Object
   pub bindings : List Binding
-
--- What waits for a value: a write, call or let with its node and environment, a cast with its node alone, a lock with its object.
-pub data Frame : Type 0 where
-  awaits : Point → ℕ → Frame
-  casts : Point → Frame
-  locks : ℕ → Frame
 
 -- A thread at a node in an environment, a thread with a value, a failed thread, or a join of two trees with its frames (innermost first), its last part and the environment for it.
 pub data Tree : Type 0 where

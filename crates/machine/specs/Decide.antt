@@ -11,9 +11,15 @@ use Rattle.typing.specs.declared.Answer.{Answer}
 use Rattle.typing.specs.declared.Answer.the-variants.{Typed, Faulty}
 use Rattle.typing.specs.Members.{below, typeIn, fieldIn, methodIn}
 use Rattle.typing.specs.Typing.{inferred}
-use Rattle.machine.specs.Config.{Code, Value, nil, ref, Object, Binding, Stores, Frame, awaits, casts, locks, Tree, running, returning, failed, join, Config}
+use Rattle.machine.specs.declared.Value.{Value}
+use Rattle.machine.specs.declared.Value.the-variants.{Null as nil, Ref as ref}
+use Rattle.machine.specs.declared.Frame.{Frame}
+use Rattle.machine.specs.declared.Frame.the-variants.{Awaits as awaits, Casts as casts, Locks as locks}
+use Rattle.machine.specs.Config.{Code, Object, Binding, Stores, Tree, running, returning, failed, join, Config}
 use Rattle.machine.specs.Machine.{fieldsOf, context, object, Places, frameCount, threadCount}
-use Rattle.machine.specs.WellFormed.{Want, any, upto, lockCount, failures, shutAt}
+use Rattle.machine.specs.declared.Want.{Want}
+use Rattle.machine.specs.declared.Want.the-variants.{Any as any, Upto as upto}
+use Rattle.machine.specs.WellFormed.{lockCount, failures, shutAt}
 use Rattle.machine.specs.ReadAs.{held}
 
 -- Go on with what is found, with a type, or where a test passes.
@@ -29,7 +35,7 @@ abbrev pub only : {A : Type 0} → Bool → Option A → Option A
 only true o = o
 only false o = none
 
--- Meets, Fits, Gives and At
+-- Meets, ValueFits, Gives and NodeGives
 abbrev pub meetsTest : Code → ℕ → Want → Bool
 meetsTest s t any = true
 meetsTest s t (upto u) = below (s .program) t u
@@ -38,9 +44,9 @@ abbrev pub objectTest : Code → Want → Option Object → Bool
 objectTest s w none = false
 objectTest s w (some x) = meetsTest s (x .class) w
 
-abbrev pub fitsTest : Code → List Object → Value → Want → Bool
-fitsTest s xs nil w = true
-fitsTest s xs (ref o) w = objectTest s w (object xs o)
+abbrev pub valueFitsTest : Code → List Object → Value → Want → Bool
+valueFitsTest s xs nil w = true
+valueFitsTest s xs (ref o) w = objectTest s w (object xs o)
 
 abbrev pub answerTest : Code → Answer → Want → Bool
 answerTest s (Typed t) w = meetsTest s t w
@@ -53,23 +59,19 @@ abbrev pub atTest : Code → List Slot → Point → Want → Bool
 atTest s Γ a w = ltb a (s .size) && givesTest s Γ (s .expr a) w
 
 -- The stores
-abbrev pub classTest : Code → Object → Bool
-classTest s x = ltb (length (s .program .interfaces)) (x .class) && leb (x .class) (length (s .program .interfaces) + length (s .program .classes))
+abbrev pub isClassTest : Code → Object → Bool
+isClassTest s x = ltb (length (s .program .interfaces)) (x .class) && leb (x .class) (length (s .program .interfaces) + length (s .program .classes))
 
 abbrev pub fieldsTest : Code → List Object → List Slot → List Value → Bool
 fieldsTest s xs [] [] = true
 fieldsTest s xs [] (v ∷ l) = false
 fieldsTest s xs (d ∷ ds) [] = false
-fieldsTest s xs (d ∷ ds) (v ∷ l) = fitsTest s xs v (upto (d .type)) && fieldsTest s xs ds l
-
-abbrev pub everyObject : (Object → Bool) → List Object → Bool
-everyObject test [] = true
-everyObject test (x ∷ xs) = test x && everyObject test xs
+fieldsTest s xs (d ∷ ds) (v ∷ l) = valueFitsTest s xs v (upto (d .type)) && fieldsTest s xs ds l
 
 abbrev pub bindingTest : Code → List Object → ℕ → Binding → Bool
 bindingTest s xs older b =
     ltb (b .name) 65536
-    && (leb (b .type) (length (s .program .interfaces) + length (s .program .classes)) && (leb (b .link) older && fitsTest s xs (b .value) (upto (b .type))))
+    && (leb (b .type) (length (s .program .interfaces) + length (s .program .classes)) && (leb (b .link) older && valueFitsTest s xs (b .value) (upto (b .type))))
 
 abbrev pub bindingsTest : Code → List Object → List Binding → Bool
 bindingsTest s xs [] = true
@@ -77,8 +79,8 @@ bindingsTest s xs (b ∷ bs) = bindingTest s xs (length bs) b && bindingsTest s 
 
 abbrev pub storesTest : Code → Stores → Bool
 storesTest s st =
-    everyObject (classTest s) (st .objects)
-    && (everyObject (λ x. fieldsTest s (st .objects) (fieldsOf (s .program) (x .class)) (x .fields)) (st .objects) && bindingsTest s (st .objects) (st .bindings))
+    allOf (isClassTest s) (st .objects)
+    && (allOf (λ x. fieldsTest s (st .objects) (fieldsOf (s .program) (x .class)) (x .fields)) (st .objects) && bindingsTest s (st .objects) (st .bindings))
 
 -- What a waiting node waits for and gives.
 pub record Turn : Type 0 where
@@ -129,13 +131,13 @@ wantTest (some v) f = f v
 
 abbrev pub treeTest : Code → Stores → Want → Tree → Bool
 treeTest s st w (running a e fs) = leb e (length (st .bindings)) && wantTest (expects s (st .bindings) w fs) (λ v. atTest s (context (st .bindings) e) a v)
-treeTest s st w (returning x fs) = wantTest (expects s (st .bindings) w fs) (λ v. fitsTest s (st .objects) x v)
+treeTest s st w (returning x fs) = wantTest (expects s (st .bindings) w fs) (λ v. valueFitsTest s (st .objects) x v)
 treeTest s st w failed = true
 treeTest s st w (join fs a e l r) =
     leb e (length (st .bindings))
     && (wantTest (expects s (st .bindings) w fs) (λ v. atTest s (context (st .bindings) e) a v) && (treeTest s st any l && treeTest s st any r))
 
--- The locks
+-- The locks: the objects of all lock frames, and the two tests.
 abbrev pub lockList : Tree → List ℕ
 lockList (running a e fs) = held fs
 lockList (returning v fs) = held fs
@@ -152,8 +154,8 @@ numbersBelow (suc n) = n ∷ numbersBelow n
 abbrev pub coveredTest : List Object → Tree → Bool
 coveredTest xs t = not (eqb (failures t) 0) || allOf (λ o. leb (shutAt xs o) (lockCount o t)) (numbersBelow (length xs))
 
-abbrev pub withinTest : Places → Config → Bool
-withinTest lim c =
+abbrev pub withinLimitsTest : Places → Config → Bool
+withinLimitsTest lim c =
     leb (length (c .stores .objects)) (lim .objects)
     && (leb (length (c .stores .bindings)) (lim .bindings) && (leb (frameCount (c .tree)) (lim .frames) && leb (threadCount (c .tree)) (lim .threads)))
 
@@ -161,4 +163,4 @@ unfoldable pub wellFormedTest : Code → Places → ℕ → Config → Bool
 wellFormedTest s lim t c =
     storesTest s (c .stores)
     && (treeTest s (c .stores) (upto t) (c .tree)
-    && (distinctTest (c .stores .objects) (c .tree) && (coveredTest (c .stores .objects) (c .tree) && withinTest lim c)))
+    && (distinctTest (c .stores .objects) (c .tree) && (coveredTest (c .stores .objects) (c .tree) && withinLimitsTest lim c)))

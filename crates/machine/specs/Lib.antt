@@ -1,3 +1,4 @@
+pub mod Stops
 pub mod Config
 pub mod Machine
 pub mod WellFormed
@@ -6,6 +7,7 @@ pub mod Standing
 pub mod Stays
 pub mod Steps
 pub mod ReadAs
+pub mod HeldLocks
 pub mod Silent
 pub mod Runs
 pub mod Asks
@@ -15,4 +17,3 @@ pub mod Reach
 pub mod Decide
 pub mod Promise
 pub mod Calls
-pub mod Samples

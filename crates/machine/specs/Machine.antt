@@ -8,10 +8,17 @@ use lib.ListN.{length}
 use Rattle.limits.specs.Limits.{OBJECTS, BINDINGS, FRAMES, THREADS}
 use Rattle.script.specs.Lists.{named}
 use Rattle.script.specs.Syntax.{Point, Node, n-null, n-var, n-select, n-update, n-call, n-bind, n-new, n-cast, n-fork, n-lock, pointOf, Slot, Method, Program, Declaration, a-unit, an-interface, a-class, no-type, declarationAt}
+use Rattle.script.specs.Reading.{programOf}
 use Rattle.typing.specs.declared.Answer.{Answer}
 use Rattle.typing.specs.declared.Answer.the-variants.{Typed, Faulty}
 use Rattle.typing.specs.Typing.{inferred}
-use Rattle.machine.specs.Config.{Code, Value, nil, ref, Object, Binding, Stores, Frame, awaits, casts, locks, Tree, running, returning, failed, join, Config}
+use Rattle.machine.specs.declared.Store.{Store}
+use Rattle.machine.specs.declared.Store.the-variants.{Objects, Bindings, Frames, Threads}
+use Rattle.machine.specs.declared.Value.{Value}
+use Rattle.machine.specs.declared.Value.the-variants.{Null as nil, Ref as ref}
+use Rattle.machine.specs.declared.Frame.{Frame}
+use Rattle.machine.specs.declared.Frame.the-variants.{Awaits as awaits, Casts as casts, Locks as locks}
+use Rattle.machine.specs.Config.{Code, Object, Binding, Stores, Tree, running, returning, failed, join, Config}
 
 -- fields(C), appendix A.3: the fields that a class declares.
 abbrev pub fieldsFrom : Declaration → List Slot
@@ -22,6 +29,10 @@ fieldsFrom no-type = []
 
 abbrev pub fieldsOf : Program → ℕ → List Slot
 fieldsOf p t = fieldsFrom (declarationAt p t)
+
+-- How many fields a class type of the script s declares.
+abbrev pub fieldCount : List ℕ → ℕ → ℕ
+fieldCount s t = length (fieldsOf (programOf s) t)
 
 -- methods(C)(m), appendix A.3: the method of this name that a class defines.
 abbrev pub definedFrom : ℕ → Declaration → Option Method
@@ -105,10 +116,10 @@ pub record Places : Type 0 where
 abbrev pub limits : Places
 limits = record { objects = OBJECTS; bindings = BINDINGS; frames = FRAMES; threads = THREADS }
 
--- What a choice comes to: no move is due; or the chosen move needs more places than a store has left ("4 objects, 5 bindings, 6 frames, 7 threads"); or these stores and this tree.
+-- What a choice comes to: no move is due; or "the chosen move needs more places than that store has left"; or these stores and this tree.
 pub data Outcome : Type 0 where
   still : Outcome
-  full : ℕ → Outcome
+  full : Store → Outcome
   moved : Stores → Tree → Outcome
 
 -- "a variable gives its value"
@@ -118,12 +129,12 @@ give st fs (some b) = moved st (returning (b .value) fs)
 
 -- "kinds 3, 4, 5 and 7 descend into their first-run part and leave a frame". Here and below the last number of a move that takes places is how many are left.
 abbrev pub descend : Stores → List Frame → ℕ → Frame → Point → ℕ → Outcome
-descend st fs e f a zero = full 6
+descend st fs e f a zero = full Frames
 descend st fs e f a (suc k) = moved st (running a e (f ∷ fs))
 
 -- "new makes an open object with null fields"
 abbrev pub make : Code → Stores → List Frame → ℕ → ℕ → Outcome
-make s st fs c zero = full 4
+make s st fs c zero = full Objects
 make s st fs c (suc k) =
     moved
     (record { objects = st .objects ++ (record { class = c; shut = false; fields = nulls (fieldsOf (s .program) c) } ∷ []); bindings = st .bindings })
@@ -131,7 +142,7 @@ make s st fs c (suc k) =
 
 -- "A fork becomes a join that keeps its frames, its last part and the bindings for it, which both asyncs also start with"
 abbrev pub spawn : Stores → List Frame → ℕ → Point → Point → Point → ℕ → Outcome
-spawn st fs e a b c zero = full 7
+spawn st fs e a b c zero = full Threads
 spawn st fs e a b c (suc k) = moved st (join fs c e (running a e []) (running b e []))
 
 abbrev pub withShut : Bool → Stores → ℕ → Stores
@@ -143,15 +154,15 @@ enter st fs a e zero = still
 enter st fs a e (suc n) = moved st (running a e fs)
 
 -- "open shuts and leaves a lock frame"
-abbrev pub take : Stores → List Frame → Point → ℕ → ℕ → ℕ → Outcome
-take st fs a e o zero = full 6
-take st fs a e o (suc k) = moved (withShut true st o) (running a e (locks o ∷ fs))
+abbrev pub shutAndEnter : Stores → List Frame → Point → ℕ → ℕ → ℕ → Outcome
+shutAndEnter st fs a e o zero = full Frames
+shutAndEnter st fs a e o (suc k) = moved (withShut true st o) (running a e (locks o ∷ fs))
 
 -- A lock on an object, if there is one. `above` has the frames of the joins whose leftmost thread this is: "A thread holds exactly the objects of the lock frames it will resume".
 abbrev pub lockObject : Stores → List Frame → List Frame → Point → ℕ → ℕ → ℕ → Option Object → Outcome
 lockObject st above fs a e k o none = still
 lockObject st above fs a e k o (some x) =
-    elim (x .shut) [ true ↦ enter st fs a e (lockFrames o fs + lockFrames o above) | false ↦ take st fs a e o k ]
+    elim (x .shut) [ true ↦ enter st fs a e (lockFrames o fs + lockFrames o above) | false ↦ shutAndEnter st fs a e o k ]
 
 -- "Lock: null fails"
 abbrev pub lockValue : Stores → List Frame → List Frame → Point → ℕ → ℕ → Value → Outcome
@@ -165,7 +176,7 @@ lockTarget st above fs a e k (some b) = lockValue st above fs a e k (b .value)
 -- "a waiting let adds one binding, its type the one inferred for the let's first part under the frame's bindings"
 abbrev pub extend : Stores → List Frame → ℕ → Value → Point → ℕ → Answer → ℕ → Outcome
 extend st fs x v b e (Faulty q n) k = still
-extend st fs x v b e (Typed t) zero = full 5
+extend st fs x v b e (Typed t) zero = full Bindings
 extend st fs x v b e (Typed t) (suc k) =
     moved
     (record { objects = st .objects; bindings = record { name = x; type = t; value = v; link = e } ∷ st .bindings })
@@ -210,8 +221,8 @@ callBindings c o t v bs =
 -- "as bindings with one place left are for a call"
 abbrev pub callMethod : Stores → List Frame → Value → ℕ → ℕ → Option Method → ℕ → Outcome
 callMethod st fs v o c none k = still
-callMethod st fs v o c (some d) zero = full 5
-callMethod st fs v o c (some d) (suc zero) = full 5
+callMethod st fs v o c (some d) zero = full Bindings
+callMethod st fs v o c (some d) (suc zero) = full Bindings
 callMethod st fs v o c (some d) (suc (suc k)) =
     moved
     (record { objects = st .objects; bindings = callBindings c o (d .signature .param) v (st .bindings) })
@@ -230,17 +241,17 @@ callTarget s st fs m v k none = still
 callTarget s st fs m v k (some b) = callValue s st fs m v k (b .value)
 
 -- A thread at the node n, whose view is the last argument.
-abbrev pub run : Code → Places → Stores → List Frame → List Frame → ℕ → Point → Node → Outcome
-run s room st above fs e n n-null = moved st (returning nil fs)
-run s room st above fs e n (n-var x) = give st fs (find (scope (st .bindings) e) x)
-run s room st above fs e n (n-select x f) = selectTarget s st fs f (find (scope (st .bindings) e) x)
-run s room st above fs e n (n-update x f a) = descend st fs e (awaits n e) a (room .frames)
-run s room st above fs e n (n-call x m a) = descend st fs e (awaits n e) a (room .frames)
-run s room st above fs e n (n-bind x a b) = descend st fs e (awaits n e) a (room .frames)
-run s room st above fs e n (n-new c) = make s st fs c (room .objects)
-run s room st above fs e n (n-cast t a) = descend st fs e (casts n) a (room .frames)
-run s room st above fs e n (n-fork a b c) = spawn st fs e a b c (room .threads)
-run s room st above fs e n (n-lock x a) = lockTarget st above fs a e (room .frames) (find (scope (st .bindings) e) x)
+abbrev pub runNode : Code → Places → Stores → List Frame → List Frame → ℕ → Point → Node → Outcome
+runNode s room st above fs e n n-null = moved st (returning nil fs)
+runNode s room st above fs e n (n-var x) = give st fs (find (scope (st .bindings) e) x)
+runNode s room st above fs e n (n-select x f) = selectTarget s st fs f (find (scope (st .bindings) e) x)
+runNode s room st above fs e n (n-update x f a) = descend st fs e (awaits n e) a (room .frames)
+runNode s room st above fs e n (n-call x m a) = descend st fs e (awaits n e) a (room .frames)
+runNode s room st above fs e n (n-bind x a b) = descend st fs e (awaits n e) a (room .frames)
+runNode s room st above fs e n (n-new c) = make s st fs c (room .objects)
+runNode s room st above fs e n (n-cast t a) = descend st fs e (casts n) a (room .frames)
+runNode s room st above fs e n (n-fork a b c) = spawn st fs e a b c (room .threads)
+runNode s room st above fs e n (n-lock x a) = lockTarget st above fs a e (room .frames) (find (scope (st .bindings) e) x)
 
 -- A value at a node that waits in an environment: a write, a call or a let; no other node does.
 abbrev pub wake : Code → Places → Stores → Value → List Frame → ℕ → Node → Outcome
@@ -300,7 +311,7 @@ inRight fs a e l (moved st r) = moved st (join fs a e l r)
 
 -- What the choice of a place in a tree comes to, with these numbers of places left: "the left thread keeps the locks, the right has none".
 abbrev pub moveAt : Code → Places → Stores → List Frame → Tree → Path → Outcome
-moveAt s room st above (running a e fs) here = run s room st above fs e a (s .view a)
+moveAt s room st above (running a e fs) here = runNode s room st above fs e a (s .view a)
 moveAt s room st above (running a e fs) (left p) = still
 moveAt s room st above (running a e fs) (right p) = still
 moveAt s room st above (returning v fs) here = resume s room st v fs

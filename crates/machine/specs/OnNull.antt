@@ -4,7 +4,11 @@ use mathlib.Core.Path.{_≡_}
 use mathlib.Core.List.{List, _∷_}
 use mathlib.Core.Option.{some}
 use Rattle.script.specs.Syntax.{Point, n-select, n-update, n-call, n-lock}
-use Rattle.machine.specs.Config.{Code, Value, nil, Binding, Stores, Frame, awaits, Tree, running, returning, failed, join}
+use Rattle.machine.specs.declared.Value.{Value}
+use Rattle.machine.specs.declared.Value.the-variants.{Null as nil}
+use Rattle.machine.specs.declared.Frame.{Frame}
+use Rattle.machine.specs.declared.Frame.the-variants.{Awaits as awaits}
+use Rattle.machine.specs.Config.{Code, Binding, Stores, Tree, running, returning, failed, join}
 use Rattle.machine.specs.Machine.{scope, find}
 
 -- In this environment the variable is null.

@@ -5,9 +5,12 @@ use mathlib.Core.List.{List, _++_}
 use mathlib.Core.Option.{some}
 use Rattle.script.specs.Lists.{_∈_}
 use Rattle.typing.specs.Published.{FieldIn, MsigIn}
-use Rattle.machine.specs.Config.{Code, Value, Object, Binding, Config}
+use Rattle.machine.specs.declared.Ending.{Ending}
+use Rattle.machine.specs.declared.Value.{Value}
+use Rattle.machine.specs.Config.{Code, Object, Binding, Config}
 use Rattle.machine.specs.Machine.{fieldsOf, object, fieldValue, Places, still, Path, choice}
-use Rattle.machine.specs.WellFormed.{upto, Fits}
+use Rattle.machine.specs.declared.Want.the-variants.{Upto as upto}
+use Rattle.machine.specs.WellFormed.{ValueFits}
 use Rattle.machine.specs.Standing.{heldBy, End}
 use Rattle.machine.specs.Asks.{AsksField, AsksMethod}
 
@@ -16,13 +19,13 @@ pub record Promised (s : Code) (lim : Places) (c : Config) : Type 0 where
   pub field-asked : (f : ℕ) (y : Object) (p : Path) → AsksField s (c .stores) f y (c .tree) p → (u : ℕ) × FieldIn (s .program) (y .class) f u
   pub method-asked : (m : ℕ) (y : Object) (p : Path) → AsksMethod s (c .stores) m y (c .tree) p → (t u : ℕ) × MsigIn (s .program) (y .class) (record { name = m; param = t; result = u })
   -- every binding and field holds null or an object whose class is below its type
-  pub binding-typed : (b : Binding) → b ∈ c .stores .bindings → Fits s (c .stores .objects) (b .value) (upto (b .type))
+  pub binding-typed : (b : Binding) → b ∈ c .stores .bindings → ValueFits s (c .stores .objects) (b .value) (upto (b .type))
   pub field-typed : (o : ℕ) (y : Object) (f u : ℕ) (v : Value) → object (c .stores .objects) o ≡ some y → FieldIn (s .program) (y .class) f u
-      → fieldValue (fieldsOf (s .program) (y .class)) (y .fields) f ≡ some v → Fits s (c .stores .objects) v (upto u)
+      → fieldValue (fieldsOf (s .program) (y .class)) (y .fields) f ≡ some v → ValueFits s (c .stores .objects) v (upto u)
   -- no two threads hold one lock
   pub exclusive : (o : ℕ) (p q : Path) → 1 ≤ heldBy o 0 (c .tree) p → 1 ≤ heldBy o 0 (c .tree) q → p ≡ q
   -- if no position can move, it is one of the three ends
-  pub ended : ((n : ℕ) → choice s lim c n ≡ still) → (j : ℕ) × End s c j
+  pub ended : ((n : ℕ) → choice s lim c n ≡ still) → (k : Ending) × End s c k
 
 -- A binding once there keeps its name, type, value and link: the older bindings stand behind.
 pub record Kept (c d : Config) : Type 0 where

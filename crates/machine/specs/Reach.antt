@@ -9,6 +9,8 @@ use lib.ListN.{length}
 use Rattle.limits.specs.Limits.{CHOICES, SILENT}
 use Rattle.script.specs.Lists.{_∈_}
 use Rattle.script.specs.Syntax.{Program}
+use Rattle.machine.specs.declared.Store.{Store}
+use Rattle.machine.specs.declared.Stop.the-variants.{Full}
 use Rattle.machine.specs.Config.{Code, Stores, Tree, Config}
 use Rattle.machine.specs.Machine.{Places, full, moved, Path, here, left, right, move, locate}
 use Rattle.machine.specs.Steps.{PTree, World, Step, reduces, DYN-EVAL-CONTEXT, DYN-EVAL-SPAWN-CONTEXT, DYN-EXCEPTION-CONTEXT, DYN-EVAL-ASYNC-LEFT, DYN-EVAL-ASYNC-RIGHT, DYN-EVAL-ASYNC-JOIN, DYN-EXCEPTION-ASYNC-LEFT, DYN-EXCEPTION-ASYNC-RIGHT}
@@ -74,5 +76,5 @@ pub record OneRun (s : Code) (lim : Places) (c : Config) (q : Reading) (p : Path
   -- every choice is below twice the threads of a full tree, less one: below 63
   pub bytes : (n : ℕ) → n ∈ silent ++ (last ∷ []) → n + 1 < 2 * lim .threads
   -- the last choice, at p, meets a full store, or it makes the step, which is not silent
-  pub ends : ((4 ≤ report s lim c (silent ++ (last ∷ [])) .stop) × (move s lim middle p ≡ full (report s lim c (silent ++ (last ∷ [])) .stop)))
+  pub ends : ((k : Store) × (report s lim c (silent ++ (last ∷ [])) .stop ≡ Full k) × (move s lim middle p ≡ full k))
       ⊎ ((report s lim c (silent ++ (last ∷ [])) .moves ≡ suc (length silent)) × (reading s (report s lim c (silent ++ (last ∷ [])) .config) ≡ q) × (quietIn s (part (middle .tree) p) ≡ false))

@@ -5,7 +5,10 @@ use mathlib.Core.List.{List, [], _∷_, _++_}
 use lib.Dec.{eqb}
 use lib.ListN.{length}
 use Rattle.script.specs.Syntax.{Point, Node, n-null, n-var, n-select, n-update, n-call, n-bind, n-new, n-cast, n-fork, n-lock, Program}
-use Rattle.machine.specs.Config.{Code, Binding, Stores, Frame, awaits, casts, locks, Tree, running, returning, failed, join, Config}
+use Rattle.machine.specs.declared.Frame.{Frame}
+use Rattle.machine.specs.declared.Frame.the-variants.{Awaits as awaits, Casts as casts, Locks as locks}
+use Rattle.machine.specs.Config.{Code, Binding, Stores, Tree, running, returning, failed, join, Config}
+use Rattle.machine.specs.Machine.{Path, here, left, right}
 use Rattle.machine.specs.Steps.{PVar, static, fresh, PExpr, p-value, Entry, Hole, h-update, h-call, h-let, h-cast, h-locked, fill, shadow, close, PTree, p-thread, p-join, p-failed, World, Step}
 
 -- The binding number k is the variable `fresh k`.
@@ -41,7 +44,7 @@ abbrev pub plug : Code → List Binding → List Frame → PExpr → PExpr
 plug s bs [] a = a
 plug s bs (f ∷ fs) a = plug s bs fs (fill (hole s bs f) a)
 
--- The objects of lock frames.
+-- The objects of lock frames; `lockFrames` counts one of them (`frames-held`).
 abbrev pub held : List Frame → List ℕ
 held [] = []
 held (awaits n e ∷ fs) = held fs
@@ -61,6 +64,16 @@ read s bs above (running a e fs) = p-thread (held (fs ++ above)) (plug s bs fs (
 read s bs above (returning v fs) = p-thread (held (fs ++ above)) (plug s bs fs (p-value v))
 read s bs above failed = p-failed
 read s bs above (join fs a e l r) = p-join (read s bs (fs ++ above) l) (read s bs [] r) (plug s bs fs (said s bs e a))
+
+-- 𝓛 of the thread at a place
+abbrev pub locksAt : PTree → Path → List ℕ
+locksAt (p-thread L e) here = L
+locksAt (p-thread L e) (left p) = []
+locksAt (p-thread L e) (right p) = []
+locksAt (p-join T U e) here = []
+locksAt (p-join T U e) (left p) = locksAt T p
+locksAt (p-join T U e) (right p) = locksAt U p
+locksAt p-failed p = []
 
 -- ⟨H; V; T⟩
 pub record Reading : Type 0 where

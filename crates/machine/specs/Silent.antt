@@ -8,18 +8,25 @@ use Rattle.machine.specs.Config.{Code, Stores, Tree, running, returning,
 use Rattle.machine.specs.Machine.{Places, moved, Path, here, left, right, move}
 use Rattle.machine.specs.ReadAs.{reading, Steps}
 
--- "Silent: null becomes a value; kinds 3, 4, 5 and 7 descend into their first-run part and leave a frame."
+-- "Silent: null becomes a value; kinds 3, 4, 5 and 7 descend into their first-run part and leave a frame." One table of the kinds; `forNull` is the answer for null.
+abbrev pub silentKind : Bool → Node → Bool
+silentKind forNull n-null = forNull
+silentKind forNull (n-var x) = false
+silentKind forNull (n-select x f) = false
+silentKind forNull (n-update x f a) = true
+silentKind forNull (n-call x m a) = true
+silentKind forNull (n-bind x a b) = true
+silentKind forNull (n-new c) = false
+silentKind forNull (n-cast t a) = true
+silentKind forNull (n-fork a b c) = false
+silentKind forNull (n-lock x a) = false
+
+-- The move of a thread at this node is silent; it descends.
 abbrev pub quiet : Node → Bool
-quiet n-null = true
-quiet (n-var x) = false
-quiet (n-select x f) = false
-quiet (n-update x f a) = true
-quiet (n-call x m a) = true
-quiet (n-bind x a b) = true
-quiet (n-new c) = false
-quiet (n-cast t a) = true
-quiet (n-fork a b c) = false
-quiet (n-lock x a) = false
+quiet n = silentKind true n
+
+abbrev pub descends : Node → Bool
+descends n = silentKind false n
 
 -- The part of a tree at a place, and whether the move due there is silent.
 abbrev pub part : Tree → Path → Option Tree
@@ -47,7 +54,7 @@ pub data Means (s : Code) (c d : Config) : Bool → Type 0 where
 
 -- `InARow s lim p c n`: from c on, the thread at p makes n silent moves and no other; in between others may move, while it stays as it is.
 pub data InARow (s : Code) (lim : Places) (p : Path) : Config → ℕ → Type 0 where
-  no-more : {c : Config} → InARow s lim p c 0
+  row-ends : {c : Config} → InARow s lim p c 0
   and-then : {c : Config} {st : Stores} {t : Tree} {n : ℕ} → quietIn s (part (c .tree) p) ≡ true → move s lim c p ≡ moved st t
       → InARow s lim p (record { stores = st; tree = t }) n → InARow s lim p c (suc n)
   meanwhile : {c d : Config} {n : ℕ} → part (d .tree) p ≡ part (c .tree) p → InARow s lim p d n → InARow s lim p c n

@@ -4,9 +4,14 @@ use mathlib.Core.Path.{_≡_}
 use mathlib.Core.Bool.{Bool, true, false}
 use mathlib.Core.List.{List, [], _++_}
 use mathlib.Core.Logic.{_⊎_}
-use mathlib.Core.Option.{some}
+use mathlib.Core.Option.{Option, none, some}
 use Rattle.script.specs.Syntax.{Point, Node, n-lock}
-use Rattle.machine.specs.Config.{Code, Value, ref, Binding, Stores, Frame, Tree, running, returning, failed, join, Config}
+use Rattle.machine.specs.declared.Ending.{Ending}
+use Rattle.machine.specs.declared.Ending.the-variants.{Finished, Failed, Deadlocked}
+use Rattle.machine.specs.declared.Value.{Value}
+use Rattle.machine.specs.declared.Value.the-variants.{Ref as ref}
+use Rattle.machine.specs.declared.Frame.{Frame}
+use Rattle.machine.specs.Config.{Code, Binding, Stores, Tree, running, returning, failed, join, Config}
 use Rattle.machine.specs.Machine.{scope, find, lockFrames, Phase, finished, broken, busy, Path, here, left, right}
 use Rattle.machine.specs.WellFormed.{shutAt}
 
@@ -17,11 +22,11 @@ pub data Waits (st : Stores) (above fs : List Frame) (e o : ℕ) : Node → Type
 
 -- There is a thread at this place; it is finished; it waits for this object.
 pub data ThreadAt : Tree → Path → Type 0 where
-  is-running : {a : Point} {e : ℕ} {fs : List Frame} → ThreadAt (running a e fs) here
-  is-returning : {v : Value} {fs : List Frame} → ThreadAt (returning v fs) here
-  is-failed : ThreadAt failed here
-  in-left : {fs : List Frame} {a : Point} {e : ℕ} {l r : Tree} {p : Path} → ThreadAt l p → ThreadAt (join fs a e l r) (left p)
-  in-right : {fs : List Frame} {a : Point} {e : ℕ} {l r : Tree} {p : Path} → ThreadAt r p → ThreadAt (join fs a e l r) (right p)
+  thread-running : {a : Point} {e : ℕ} {fs : List Frame} → ThreadAt (running a e fs) here
+  thread-returning : {v : Value} {fs : List Frame} → ThreadAt (returning v fs) here
+  thread-failed : ThreadAt failed here
+  thread-left : {fs : List Frame} {a : Point} {e : ℕ} {l r : Tree} {p : Path} → ThreadAt l p → ThreadAt (join fs a e l r) (left p)
+  thread-right : {fs : List Frame} {a : Point} {e : ℕ} {l r : Tree} {p : Path} → ThreadAt r p → ThreadAt (join fs a e l r) (right p)
 
 -- "A finished thread has a value and no frame."
 pub data FinishedAt : Tree → Path → Type 0 where
@@ -35,7 +40,7 @@ pub data WaitsAt (s : Code) (st : Stores) (o : ℕ) : List Frame → Tree → Pa
   waits-right : {above fs : List Frame} {a : Point} {e : ℕ} {l r : Tree} {p : Path} → WaitsAt s st o [] r p → WaitsAt s st o above (join fs a e l r) (right p)
 
 -- By how many lock frames the thread at a place holds an object: "A thread holds exactly the objects of the lock frames it will resume (a join's are resumed by its leftmost thread);
--- a failed thread holds nothing". The number n counts those of the joins above.
+-- a failed thread holds nothing". The number n counts those of the joins above. The count is how often the object stands in the published 𝓛 of that thread (`held-published`).
 abbrev pub heldBy : ℕ → ℕ → Tree → Path → ℕ
 heldBy o n (running a e fs) here = lockFrames o fs + n
 heldBy o n (running a e fs) (left p) = 0
@@ -62,15 +67,16 @@ pub record Deadlock (s : Code) (st : Stores) (t : Tree) : Type 0 where
   pub place : Path
   pub waiting : Blocked s st t place
 
--- "1 the root is a finished thread, 2 the root is a failed thread, 3 neither and no position can move", else 0.
-abbrev pub verdict : Phase → Bool → ℕ
-verdict finished q = 1
-verdict broken q = 2
-verdict busy true = 0
-verdict busy false = 3
+-- How a run has ended, if it has, by how the root stands and whether a position can move: "the root is a finished thread, .. the root is a failed thread, .. neither and no
+-- position can move".
+abbrev pub ending : Phase → Bool → Option Ending
+ending finished q = some Finished
+ending broken q = some Failed
+ending busy true = none
+ending busy false = some Deadlocked
 
--- The three ends of a run, with the numbers that a run stops with.
-pub data End (s : Code) (c : Config) : ℕ → Type 0 where
-  ends-finished : FinishedAt (c .tree) here → ((o : ℕ) → shutAt (c .stores .objects) o ≡ 0) → End s c 1
-  ends-failed : c .tree ≡ failed → End s c 2
-  ends-deadlocked : Deadlock s (c .stores) (c .tree) → End s c 3
+-- The three ends of a run, said of the configuration.
+pub data End (s : Code) (c : Config) : Ending → Type 0 where
+  ends-finished : FinishedAt (c .tree) here → ((o : ℕ) → shutAt (c .stores .objects) o ≡ 0) → End s c Finished
+  ends-failed : c .tree ≡ failed → End s c Failed
+  ends-deadlocked : Deadlock s (c .stores) (c .tree) → End s c Deadlocked

@@ -5,7 +5,9 @@ use mathlib.Core.Path.{_≡_}
 use mathlib.Core.List.{List, [], _++_}
 use mathlib.Core.Option.{none, some}
 use Rattle.script.specs.Syntax.{Point}
-use Rattle.machine.specs.Config.{Code, Value, Stores, Frame, Tree, running, returning, failed, join, Config}
+use Rattle.machine.specs.declared.Value.{Value}
+use Rattle.machine.specs.declared.Frame.{Frame}
+use Rattle.machine.specs.Config.{Code, Stores, Tree, running, returning, failed, join, Config}
 use Rattle.machine.specs.Machine.{Path, here, left, right, locate}
 use Rattle.machine.specs.Standing.{Waits, FinishedAt}
 

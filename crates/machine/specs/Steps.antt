@@ -9,7 +9,9 @@ use lib.ListN.{length}
 use Rattle.script.specs.Lists.{_∈_}
 use Rattle.script.specs.Syntax.{Expr, null, var, select, update, call, bind, new, cast, fork, lock, Method, Program}
 use Rattle.typing.specs.Published.{FieldIn}
-use Rattle.machine.specs.Config.{Value, nil, ref, Object}
+use Rattle.machine.specs.declared.Value.{Value}
+use Rattle.machine.specs.declared.Value.the-variants.{Null as nil, Ref as ref}
+use Rattle.machine.specs.Config.{Object}
 use Rattle.machine.specs.Machine.{fieldsOf, definedIn, object, setShut, setFields, fieldValue, setField, nulls}
 
 -- A variable of the program text, or one that a step made. "Fresh" is the next number, as in the mechanised version.
@@ -71,9 +73,9 @@ pub record Entry : Type 0 where
   pub value : Value
 
 -- V(x)
-abbrev pub valueOf : List Entry → ℕ → Option Value
-valueOf [] x = none
-valueOf (y ∷ ys) x = cond (eqb (y .name) x) (some (y .value)) (valueOf ys x)
+abbrev pub entryValue : List Entry → ℕ → Option Value
+entryValue [] x = none
+entryValue (y ∷ ys) x = cond (eqb (y .name) x) (some (y .value)) (entryValue ys x)
 
 -- E[•] ::= x.f = • | x.m(•) | let x = • in e | (t) • | lockedι{•}: one level; deeper ones come by the context rules.
 pub data Hole : Type 0 where
@@ -108,31 +110,31 @@ remove o (p ∷ L) = cond (eqb o p) (remove o L) (p ∷ remove o L)
 
 -- Figure 8, Figure 9 and appendix A.2: the rules that take one expression of a thread as a whole.
 pub data Reduce (p : Program) : World → List ℕ → PExpr → World → PTree → Type 0 where
-  DYN-EVAL-VAR : {W : World} {L : List ℕ} {x : ℕ} {v : Value} → valueOf (W .vars) x ≡ some v → Reduce p W L (p-var (fresh x)) W (p-thread L (p-value v))
-  DYN-EVAL-LET : {W : World} {L : List ℕ} {x : ℕ} {v : Value} {a : PExpr} (y : ℕ) → y ≡ length (W .vars) → valueOf (W .vars) y ≡ none
+  DYN-EVAL-VAR : {W : World} {L : List ℕ} {x : ℕ} {v : Value} → entryValue (W .vars) x ≡ some v → Reduce p W L (p-var (fresh x)) W (p-thread L (p-value v))
+  DYN-EVAL-LET : {W : World} {L : List ℕ} {x : ℕ} {v : Value} {a : PExpr} (y : ℕ) → y ≡ length (W .vars) → entryValue (W .vars) y ≡ none
       → Reduce p W L (p-let x (p-value v) a) (record { heap = W .heap; vars = record { name = y; value = v } ∷ W .vars }) (p-thread L (rename x (fresh y) a))
-  DYN-EVAL-CALL : {W : World} {L : List ℕ} {x m o : ℕ} {y : Object} {v : Value} {d : Method} (i j : ℕ) → valueOf (W .vars) x ≡ some (ref o) → object (W .heap) o ≡ some y
-      → definedIn p (y .class) m ≡ some d → i ≡ length (W .vars) → valueOf (W .vars) i ≡ none → j ≡ suc (length (W .vars)) → valueOf (W .vars) j ≡ none
+  DYN-EVAL-CALL : {W : World} {L : List ℕ} {x m o : ℕ} {y : Object} {v : Value} {d : Method} (i j : ℕ) → entryValue (W .vars) x ≡ some (ref o) → object (W .heap) o ≡ some y
+      → definedIn p (y .class) m ≡ some d → i ≡ length (W .vars) → entryValue (W .vars) i ≡ none → j ≡ suc (length (W .vars)) → entryValue (W .vars) j ≡ none
       → Reduce p W L (p-call (fresh x) m (p-value v)) (record { heap = W .heap; vars = record { name = j; value = v } ∷ record { name = i; value = ref o } ∷ W .vars })
       (p-thread L (rename 1 (fresh j) (rename 0 (fresh i) (close static (d .body)))))
   DYN-EVAL-CAST : {W : World} {L : List ℕ} {t : ℕ} {v : Value} → Reduce p W L (p-cast t (p-value v)) W (p-thread L (p-value v))
-  DYN-EVAL-SELECT : {W : World} {L : List ℕ} {x f o t : ℕ} {y : Object} {v : Value} → valueOf (W .vars) x ≡ some (ref o) → object (W .heap) o ≡ some y
+  DYN-EVAL-SELECT : {W : World} {L : List ℕ} {x f o t : ℕ} {y : Object} {v : Value} → entryValue (W .vars) x ≡ some (ref o) → object (W .heap) o ≡ some y
       → FieldIn p (y .class) f t → fieldValue (fieldsOf p (y .class)) (y .fields) f ≡ some v → Reduce p W L (p-select (fresh x) f) W (p-thread L (p-value v))
-  DYN-EVAL-UPDATE : {W : World} {L : List ℕ} {x f o t : ℕ} {y : Object} {v : Value} → valueOf (W .vars) x ≡ some (ref o) → object (W .heap) o ≡ some y → FieldIn p (y .class) f t
+  DYN-EVAL-UPDATE : {W : World} {L : List ℕ} {x f o t : ℕ} {y : Object} {v : Value} → entryValue (W .vars) x ≡ some (ref o) → object (W .heap) o ≡ some y → FieldIn p (y .class) f t
       → Reduce p W L (p-update (fresh x) f (p-value v)) (record { heap = setFields (setField v (fieldsOf p (y .class)) (y .fields) f) (W .heap) o; vars = W .vars }) (p-thread L (p-value nil))
   DYN-EVAL-NEW : {W : World} {L : List ℕ} {c : ℕ} → Reduce p W L (p-new c)
       (record { heap = W .heap ++ (record { class = c; shut = false; fields = nulls (fieldsOf p c) } ∷ []); vars = W .vars }) (p-thread L (p-value (ref (length (W .heap)))))
-  DYN-EVAL-LOCK : {W : World} {L : List ℕ} {x o : ℕ} {y : Object} {a : PExpr} → valueOf (W .vars) x ≡ some (ref o) → object (W .heap) o ≡ some y → y .shut ≡ false → (o ∈ L → ⊥)
+  DYN-EVAL-LOCK : {W : World} {L : List ℕ} {x o : ℕ} {y : Object} {a : PExpr} → entryValue (W .vars) x ≡ some (ref o) → object (W .heap) o ≡ some y → y .shut ≡ false → (o ∈ L → ⊥)
       → Reduce p W L (p-lock (fresh x) a) (record { heap = setShut true (W .heap) o; vars = W .vars }) (p-thread (o ∷ L) (p-locked o a))
-  DYN-EVAL-LOCK-REENTRANT : {W : World} {L : List ℕ} {x o : ℕ} {y : Object} {a : PExpr} → valueOf (W .vars) x ≡ some (ref o) → object (W .heap) o ≡ some y → y .shut ≡ true → o ∈ L
+  DYN-EVAL-LOCK-REENTRANT : {W : World} {L : List ℕ} {x o : ℕ} {y : Object} {a : PExpr} → entryValue (W .vars) x ≡ some (ref o) → object (W .heap) o ≡ some y → y .shut ≡ true → o ∈ L
       → Reduce p W L (p-lock (fresh x) a) W (p-thread L a)
   DYN-EVAL-LOCK-RELEASE : {W : World} {L : List ℕ} {o : ℕ} {y : Object} {v : Value} → object (W .heap) o ≡ some y → y .shut ≡ true
       → Reduce p W L (p-locked o (p-value v)) (record { heap = setShut false (W .heap) o; vars = W .vars }) (p-thread (remove o L) (p-value v))
   DYN-EVAL-SPAWN : {W : World} {L : List ℕ} {a b c : PExpr} → Reduce p W L (p-fork a b c) W (p-join (p-thread L a) (p-thread [] b) c)
-  DYN-NPE-SELECT : {W : World} {L : List ℕ} {x f : ℕ} → valueOf (W .vars) x ≡ some nil → Reduce p W L (p-select (fresh x) f) W p-failed
-  DYN-NPE-UPDATE : {W : World} {L : List ℕ} {x f : ℕ} {v : Value} → valueOf (W .vars) x ≡ some nil → Reduce p W L (p-update (fresh x) f (p-value v)) W p-failed
-  DYN-NPE-CALL : {W : World} {L : List ℕ} {x m : ℕ} {v : Value} → valueOf (W .vars) x ≡ some nil → Reduce p W L (p-call (fresh x) m (p-value v)) W p-failed
-  DYN-NPE-LOCK : {W : World} {L : List ℕ} {x : ℕ} {a : PExpr} → valueOf (W .vars) x ≡ some nil → Reduce p W L (p-lock (fresh x) a) W p-failed
+  DYN-NPE-SELECT : {W : World} {L : List ℕ} {x f : ℕ} → entryValue (W .vars) x ≡ some nil → Reduce p W L (p-select (fresh x) f) W p-failed
+  DYN-NPE-UPDATE : {W : World} {L : List ℕ} {x f : ℕ} {v : Value} → entryValue (W .vars) x ≡ some nil → Reduce p W L (p-update (fresh x) f (p-value v)) W p-failed
+  DYN-NPE-CALL : {W : World} {L : List ℕ} {x m : ℕ} {v : Value} → entryValue (W .vars) x ≡ some nil → Reduce p W L (p-call (fresh x) m (p-value v)) W p-failed
+  DYN-NPE-LOCK : {W : World} {L : List ℕ} {x : ℕ} {a : PExpr} → entryValue (W .vars) x ≡ some nil → Reduce p W L (p-lock (fresh x) a) W p-failed
 
 -- cfg₁ ↪ cfg₂: one of these rules, or one of those about contexts and concurrency.
 pub data Step (p : Program) : World → PTree → World → PTree → Type 0 where

@@ -60,13 +60,13 @@ decides-le a b = decides (leb a b) (leb-true a b) (λ e p. omega (arith, leb-fal
 pub decides-lt : (a b : ℕ) → Decides (a < b) (ltb a b)
 decides-lt a b = decides (ltb a b) (ltb-true a b) (λ e p. omega (arith, ltb-false a b e))
 
-pub decides-all : (P : ℕ → Type 0) (test : ℕ → Bool) (l : List ℕ) → ((x : ℕ) → Decides (P x) (test x)) → Decides ((x : ℕ) → x ∈ l → P x) (allOf test l)
+pub decides-all : {A : Type 0} (P : A → Type 0) (test : A → Bool) (l : List A) → ((x : A) → Decides (P x) (test x)) → Decides ((x : A) → x ∈ l → P x) (allOf test l)
 unfolding allOf
 decides-all P test [] d = holds (λ x m. absurd (List·Memᴰ·not-nil m))
 decides-all P test (y ∷ l) d = decides-as both each (decides-and (d y) (decides-all P test l d))
   where
-    both : P y × ((x : ℕ) → x ∈ l → P x) → (x : ℕ) → x ∈ y ∷ l → P x
+    both : P y × ((x : _) → x ∈ l → P x) → (x : _) → x ∈ y ∷ l → P x
     both h x m = ⊎-elim (λ (e : x ≡ y). rw e (h .0)) (λ k. h .1 x k) (List·Memᴰ·cases-cons m)
 
-    each : ((x : ℕ) → x ∈ y ∷ l → P x) → P y × ((x : ℕ) → x ∈ l → P x)
+    each : ((x : _) → x ∈ y ∷ l → P x) → P y × ((x : _) → x ∈ l → P x)
     each h = (h y (List·Memᴰ·head refl), λ x k. h x (List·Memᴰ·tail k))

@@ -119,7 +119,7 @@ unfoldable pub unusedAt : List ℕ → Point → List ℕ
 unusedAt s n = unusedOf (kindOf (nodeWord s n 0)) (nodeWord s n 1) (nodeWord s n 2) (nodeWord s n 3)
 
 -- Do all numbers of a list pass a test?
-unfoldable pub allOf : (ℕ → Bool) → List ℕ → Bool
+unfoldable pub allOf : {A : Type 0} → (A → Bool) → List A → Bool
 allOf test [] = true
 allOf test (x ∷ l) = test x && allOf test l
 

@@ -24,4 +24,4 @@ pub mod CoverLaws
 pub mod AgreementLaws
 pub mod CheckLaws
 pub mod StageLaws
-pub mod Samples
+pub mod Ladder

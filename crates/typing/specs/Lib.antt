@@ -9,4 +9,4 @@ pub mod Cover
 pub mod Free
 pub mod At
 pub mod Stages
-pub mod Samples
+pub mod Ladder

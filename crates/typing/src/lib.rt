@@ -3,15 +3,24 @@ mod agreement;
 mod check;
 mod clashes;
 mod covers;
+mod expressions;
 mod forks;
-mod infer;
 mod lookup;
 mod program;
 mod starts;
 mod subtyping;
 
 pub use check::verdict_of;
+pub use expressions::infer;
+pub use forks::fill_forks;
+pub use lookup::field_type;
+pub use lookup::find_own;
+pub use lookup::method_of;
+pub use program::name_bound;
 use script::Question;
+pub use starts::fill_starts;
+pub use subtyping::declared_as;
+pub use subtyping::is_below;
 
 // What the walk over an expression comes to: its type, or the question that gets a no and the node.
 pub enum Answer {

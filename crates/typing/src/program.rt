@@ -1,7 +1,7 @@
 // The walk over a whole script: every body in method order, then the start.
 use crate::Answer;
-use crate::infer::check;
-use crate::infer::infer;
+use crate::expressions::check;
+use crate::expressions::infer;
 use limits::Limits;
 use script::Section;
 use script::count_of;

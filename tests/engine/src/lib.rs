@@ -1,4 +1,4 @@
-//! The engine's calls, as include/oolong.h declares them, behind safe functions.
+//! The engine's calls, as include/oolong.h declares them, behind safe functions. They ask nothing of the bytes, so there is nothing to test first.
 
 /// `struct oolong_check_reply`.
 #[repr(C)]
@@ -9,11 +9,27 @@ pub struct CheckReply {
     pub start_type: u16,
 }
 
-extern "C" {
-    fn oolong_check(script: *const u8, script_len: usize) -> CheckReply;
+/// `struct oolong_start_reply` and `struct oolong_offer_reply`.
+#[repr(C)]
+#[derive(Clone, Copy, Debug, PartialEq, Eq)]
+pub struct Answer {
+    pub number: u16,
+    pub place: u16,
 }
 
-/// Check. It asks nothing of the bytes, so there is nothing to test first.
+extern "C" {
+    fn oolong_check(script: *const u8, script_len: usize) -> CheckReply;
+    fn oolong_start(script: *const u8, script_len: usize, block: *mut u8, block_len: usize) -> Answer;
+}
+
 pub fn check(script: &[u8]) -> CheckReply {
     unsafe { oolong_check(script.as_ptr(), script.len()) }
 }
+
+pub fn start(script: &[u8], block: &mut [u8]) -> Answer {
+    unsafe { oolong_start(script.as_ptr(), script.len(), block.as_mut_ptr(), block.len()) }
+}
+
+mod running;
+
+pub use running::{offer, run, RunReply};

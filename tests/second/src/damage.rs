@@ -36,7 +36,7 @@ fn edit(script: &mut Vec<u8>, rng: &mut Rng) {
 }
 
 /// Any bits of a byte change, or one.
-fn edit_byte(script: &mut [u8], rng: &mut Rng) {
+pub(crate) fn edit_byte(script: &mut [u8], rng: &mut Rng) {
     let bits = if rng.one_in(2) { rng.bits() as u8 } else { 1 << rng.below(8) };
     if let Some(byte) = script.get_mut(rng.below(script.len())) {
         *byte ^= bits;
@@ -144,11 +144,11 @@ fn some_record(script: &[u8], rng: &mut Rng, sections: Range<usize>) -> Option<R
     (start >= CONTENTS && start + width <= script.len()).then_some(start..start + width)
 }
 
-fn word(script: &[u8], at: usize) -> u16 {
+pub(crate) fn word(script: &[u8], at: usize) -> u16 {
     script.get(at..at + 2).map_or(0, |pair| u16::from_le_bytes([pair[0], pair[1]]))
 }
 
-fn set_word(script: &mut [u8], at: usize, word: u16) {
+pub(crate) fn set_word(script: &mut [u8], at: usize, word: u16) {
     if let Some(pair) = script.get_mut(at..at + 2) {
         pair.copy_from_slice(&word.to_le_bytes());
     }

@@ -66,19 +66,32 @@ pub fn well_typed(rng: &mut Rng) -> Vec<u8> {
 /// A well-typed program, or one with a single no to question `fault` (11 to 15), and then the
 /// faulty node, if the program had a place for it.
 pub fn program(rng: &mut Rng, fault: Option<u16>) -> (Script, Option<usize>) {
-    let [interfaces, signatures, classes, fields, methods, mut nodes] = sizes(rng);
+    let mut sizes = sizes(rng);
     if fault.is_some() {
-        nodes = nodes.min(900); // room for the faulty expression
+        sizes[5] = sizes[5].min(900); // room for the faulty expression
     }
     let most_wait = 1 << rng.below(9);
     let fault = fault.map(|number| (number, rng.below(most_wait)));
+    build(rng, sizes, Generator { fault, ..Generator::default() })
+}
+
+/// A script that must be accepted and that runs on for a while: it makes objects where others
+/// would have a null, calls, locks and forks often, and gives objects several names.
+pub fn long_running(rng: &mut Rng) -> Vec<u8> {
+    let most = [3, 4, 4, 12, 8, 200];
+    let mut sizes = most.map(|most| 1 + rng.below(most));
+    sizes[3] = sizes[3].min(8 * sizes[2]);
+    build(rng, sizes, Generator { long_running: true, ..Generator::default() }).0.encode()
+}
+
+fn build(rng: &mut Rng, sizes: [usize; 6], generator: Generator) -> (Script, Option<usize>) {
+    let [interfaces, signatures, classes, fields, methods, nodes] = sizes;
     let mut generator = Generator {
         rng: Rng::new(rng.bits()),
         types: 1 + interfaces + classes,
         variables: [3, 8, 65_534][rng.below(3)],
         deep: rng.one_in(3),
-        fault,
-        ..Generator::default()
+        ..generator
     };
     generator.declare_interfaces(interfaces, signatures);
     generator.declare_classes(classes, fields, methods);
@@ -150,6 +163,8 @@ struct Generator {
     bound: Vec<u16>,
     /// Give most of a budget to one part.
     deep: bool,
+    /// Prefer what keeps a thread running.
+    long_running: bool,
     /// The question to get a no, and how many occasions to let pass; then the node that got it.
     fault: Option<(u16, usize)>,
     faulty: Option<u16>,
@@ -332,10 +347,15 @@ impl Generator {
         if let Some(node) = self.occasion(14).and_then(|_| self.unfit(wanted, budget)) {
             return self.at_fault(node);
         }
-        if budget < 2 || self.rng.one_in(8) {
+        let null_in = if self.long_running { 40 } else { 8 };
+        if self.rng.one_in(null_in) {
             return self.emit([0; 4]);
         }
-        self.not_null(Some(wanted), budget).0
+        if budget >= 2 {
+            return self.not_null(Some(wanted), budget).0;
+        }
+        let leaf = self.long_running.then(|| self.variable_or_new(Some(wanted))).flatten();
+        leaf.map_or_else(|| self.emit([0; 4]), |(node, _)| node)
     }
 
     /// An expression of an inferred type below `goal`, with at most `budget` (2 or more) nodes.
@@ -356,13 +376,27 @@ impl Generator {
         }
         for _ in 0..6 {
             let grow = budget >= 7 && !self.rng.one_in(40);
-            let kind = if grow { [3, 4, 5, 5, 7, 8, 9][self.rng.below(7)] } else { 1 + self.rng.below(9) };
+            let kind = match grow {
+                true if self.long_running => [3, 4, 5, 5, 5, 7, 8, 9, 9][self.rng.below(9)],
+                true => [3, 4, 5, 5, 7, 8, 9][self.rng.below(7)],
+                false if self.long_running => [1, 1, 4, 5, 6, 6, 8, 9][self.rng.below(8)],
+                false => 1 + self.rng.below(9),
+            };
             if let Some(made) = self.attempt(kind, goal, budget) {
                 return made;
             }
         }
+        if let Some(made) = self.long_running.then(|| self.variable_or_new(goal)).flatten() {
+            return made;
+        }
         let (ty, null) = (self.type_below(goal), self.emit([0; 4]));
         (self.emit([7, ty, null, 0]), ty)
+    }
+
+    /// A variable, so that an object gets a second name, or else a new object.
+    fn variable_or_new(&mut self, goal: Option<u16>) -> Option<(u16, u16)> {
+        let first = [1, 6][self.rng.below(2)];
+        [first, 1, 6, 6, 6].into_iter().find_map(|kind| self.attempt(kind, goal, 2))
     }
 
     fn attempt(&mut self, kind: usize, goal: Option<u16>, budget: usize) -> Option<(u16, u16)> {
@@ -383,20 +417,7 @@ impl Generator {
                 let (target, [name, parameter, result]) = self.some_member(|this| &this.methods, goal)?;
                 ([4, target, name, self.checked(parameter, budget - 1)], result)
             }
-            5 if budget >= 5 => {
-                let [first, last] = self.split(budget - 1);
-                let (bound, bound_type) = self.inferred(None, first);
-                let variable = 2 + self.rng.below(self.variables) as u16;
-                let outer = self.environment.insert(variable, bound_type);
-                self.bound.push(variable);
-                let (body, ty) = self.inferred(goal, last);
-                self.bound.pop();
-                match outer {
-                    Some(outer) => self.environment.insert(variable, outer),
-                    None => self.environment.remove(&variable),
-                };
-                ([5, variable, bound, body], ty)
-            }
+            5 if budget >= 5 => self.binding(goal, budget),
             6 => {
                 let class = self.type_below(goal);
                 (class as usize > self.script.interfaces.len()).then_some(([6, class, 0, 0], class))?
@@ -405,19 +426,7 @@ impl Generator {
                 let ty = self.type_below(goal);
                 ([7, ty, self.checked(ty, budget - 1), 0], ty)
             }
-            8 if budget >= 7 => {
-                let [left, right, last] = self.split(budget - 1);
-                // Each variable may be free in one async only; both may bind it anew.
-                let whole = self.environment.clone();
-                let (lefts, rights) = whole.iter().partition(|_| self.rng.one_in(2));
-                self.environment = lefts;
-                let (left, _) = self.inferred(None, left);
-                self.environment = rights;
-                let (right, _) = self.inferred(None, right);
-                self.environment = whole;
-                let (last, ty) = self.inferred(goal, last);
-                ([8, left, right, last], ty)
-            }
+            8 if budget >= 7 => self.forking(goal, budget),
             9 if budget >= 3 => {
                 let (target, _) = self.some_variable()?;
                 let (body, ty) = self.inferred(goal, budget - 1);
@@ -426,6 +435,41 @@ impl Generator {
             _ => return None,
         };
         Some((self.emit(node), ty))
+    }
+
+    /// A let, with the type of its last part.
+    fn binding(&mut self, goal: Option<u16>, budget: usize) -> ([u16; 4], u16) {
+        let [first, last] = self.split(budget - 1);
+        let brief = self.long_running && self.rng.one_in(2);
+        let (bound, bound_type) = match brief.then(|| self.variable_or_new(None)).flatten() {
+            Some(made) => made,
+            None => self.inferred(None, first),
+        };
+        let variable = 2 + self.rng.below(self.variables) as u16;
+        let outer = self.environment.insert(variable, bound_type);
+        self.bound.push(variable);
+        let (body, ty) = self.inferred(goal, last);
+        self.bound.pop();
+        match outer {
+            Some(outer) => self.environment.insert(variable, outer),
+            None => self.environment.remove(&variable),
+        };
+        ([5, variable, bound, body], ty)
+    }
+
+    /// A fork, with the type of its last part.
+    fn forking(&mut self, goal: Option<u16>, budget: usize) -> ([u16; 4], u16) {
+        let [left, right, last] = self.split(budget - 1);
+        // Each variable may be free in one async only; both may bind it anew.
+        let whole = self.environment.clone();
+        let (lefts, rights) = whole.iter().partition(|_| self.rng.one_in(2));
+        self.environment = lefts;
+        let (left, _) = self.inferred(None, left);
+        self.environment = rights;
+        let (right, _) = self.inferred(None, right);
+        self.environment = whole;
+        let (last, ty) = self.inferred(goal, last);
+        ([8, left, right, last], ty)
     }
 
     /// Whether now is the time to give question `number` its no.

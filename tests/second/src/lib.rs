@@ -1,27 +1,28 @@
-//! A second, independent checker of OOlong scripts (document 01, questions 1 to 15), written
-//! for differential testing, with generators of scripts to test with.
+//! A second, independent implementation of document 01's four calls, written for differential
+//! testing, with generators of scripts and blocks to test with.
 
+pub mod block;
+pub mod block_damage;
+mod calls;
+pub mod cases;
+pub mod configure;
 pub mod damage;
 pub mod directed;
-mod expr;
+pub mod expr;
 pub mod generate;
+pub mod machine;
+pub mod program;
 pub mod script;
 mod shape;
-mod types;
-mod typing;
+pub mod state;
+pub mod types;
+pub mod typing;
+pub mod walk;
+pub mod wellformed;
 
-use script::Script;
-use types::{Type, Types};
+pub use calls::{check, offer, run, start, Answer, Reply, RunReply, FLAGS, MOST_CHOICES};
 
-/// What Check answers: number 0, place 0 and the start's type, or a refusal's number and place.
-#[derive(Clone, Copy, Debug, PartialEq, Eq)]
-pub struct Reply {
-    pub number: u16,
-    pub place: u16,
-    pub ty: u16,
-}
-
-/// The questions of Check, with the numbers that document 01 gives to a no.
+/// The questions to a call, with the numbers that document 01 gives to a no.
 #[derive(Clone, Copy, Debug, PartialEq, Eq)]
 pub enum Question {
     Length = 1,
@@ -39,6 +40,9 @@ pub enum Question {
     Member,
     Fits,
     Sharing,
+    BlockLength = 20,
+    WellFormed,
+    BufferLength,
 }
 
 /// A no: the question, and the offset of the lowest faulty record (0 where none is named).
@@ -46,20 +50,4 @@ pub enum Question {
 pub struct Refusal {
     pub question: Question,
     pub place: u16,
-}
-
-/// Judges any bytes whatever; never panics.
-pub fn check(script: &[u8]) -> Reply {
-    match judge(script) {
-        Ok(ty) => Reply { number: 0, place: 0, ty },
-        Err(Refusal { question, place }) => Reply { number: question as u16, place, ty: 0 },
-    }
-}
-
-/// Asks the questions in order; each step hands on what later steps may rely on.
-fn judge(bytes: &[u8]) -> Result<Type, Refusal> {
-    let script = Script::read(bytes)?;
-    let expressions = shape::expressions(&script)?;
-    let types = Types::of(&script)?;
-    typing::start_type(&script, &types, expressions)
 }

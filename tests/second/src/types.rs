@@ -20,29 +20,29 @@ pub struct Signature {
 }
 
 /// Tables by type number, each built once so that no chain is walked again by a later question.
-pub struct Types<'s> {
+pub struct Types {
     interfaces: Type,
     /// Bit i: the type is below interface i+1. (Above a type are only itself and interfaces.)
     ancestors: Vec<u64>,
     /// The methods, sorted by name, each name once.
     methods: Vec<Vec<Signature>>,
     /// The field records of a class; Unit and interfaces have none.
-    fields: Vec<&'s [[u16; 2]]>,
+    fields: Vec<Vec<[u16; 2]>>,
 }
 
-impl<'s> Types<'s> {
+impl Types {
     /// Asks questions 8 to 10 and builds the tables.
-    pub fn of(script: &'s Script) -> Result<Types<'s>, Refusal> {
+    pub fn of(script: &Script) -> Result<Types, Refusal> {
         names_are_unique(script)?;
         let interfaces = script.interfaces.len() as Type;
-        let mut types = Types { interfaces, ancestors: vec![0], methods: vec![vec![]], fields: vec![&[]] };
+        let mut types = Types { interfaces, ancestors: vec![0], methods: vec![vec![]], fields: vec![vec![]] };
         types.add_interfaces(script)?;
         types.add_classes(script)?;
         Ok(types)
     }
 
     /// Question 9: "Do all meanings of a method name in a join have the same types?"
-    fn add_interfaces(&mut self, script: &'s Script) -> Result<(), Refusal> {
+    fn add_interfaces(&mut self, script: &Script) -> Result<(), Refusal> {
         for (index, (&[form, left, right], run)) in script.interfaces.iter().zip(script.signature_runs()).enumerate() {
             let own_bit = 1 << index;
             let (ancestors, methods) = if form == 0 {
@@ -55,13 +55,13 @@ impl<'s> Types<'s> {
             };
             self.ancestors.push(ancestors);
             self.methods.push(methods);
-            self.fields.push(&[]);
+            self.fields.push(vec![]);
         }
         Ok(())
     }
 
     /// Question 10: "Has each class every method of its interface, with the same types?"
-    fn add_classes(&mut self, script: &'s Script) -> Result<(), Refusal> {
+    fn add_classes(&mut self, script: &Script) -> Result<(), Refusal> {
         let runs = script.field_runs().zip(script.method_runs());
         for (index, (&[interface, ..], (fields, methods))) in script.classes.iter().zip(runs).enumerate() {
             let own = sorted(&script.methods[methods]);
@@ -70,7 +70,7 @@ impl<'s> Types<'s> {
             }
             self.ancestors.push(self.ancestors[interface as usize]);
             self.methods.push(own);
-            self.fields.push(&script.fields[fields]);
+            self.fields.push(script.fields[fields].to_vec());
         }
         Ok(())
     }
@@ -90,6 +90,19 @@ impl<'s> Types<'s> {
     /// The type of the field of this name; "field targets must have class type".
     pub fn field(&self, ty: Type, name: u16) -> Option<Type> {
         self.fields[ty as usize].iter().find(|field| field[0] == name).map(|field| field[1])
+    }
+
+    /// The field records of a class, in the order of declaration.
+    pub fn fields(&self, class: Type) -> &[[u16; 2]] {
+        &self.fields[class as usize]
+    }
+
+    pub fn is_type(&self, ty: Type) -> bool {
+        (ty as usize) < self.ancestors.len()
+    }
+
+    pub fn is_class(&self, ty: Type) -> bool {
+        self.is_type(ty) && ty > self.interfaces
     }
 }
 

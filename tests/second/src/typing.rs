@@ -9,36 +9,72 @@ use crate::{Question, Refusal};
 const THIS: usize = 0;
 const PARAMETER: usize = 1;
 
-/// The start's type, if the bodies and the start are well typed.
-pub fn start_type(script: &Script, types: &Types, mut expressions: Vec<Expr>) -> Result<Type, Refusal> {
-    let variables = renumber_variables(&mut expressions);
-    let sharing = sharing_forks(&expressions, variables);
-    let mut typer = Typer { script, types, expressions: &expressions, sharing, environment: vec![None; variables] };
-    for (index, run) in script.method_runs().enumerate() {
-        for &[_, parameter, result, body] in &script.methods[run] {
-            typer.environment[THIS] = Some(script.class_type(index));
-            typer.environment[PARAMETER] = Some(parameter);
-            typer.check(body, result)?; // "Bodies are checked against the result type"
-        }
-    }
-    typer.environment.fill(None); // "the start is inferred with no variable"
-    typer.infer(0)
-}
-
-struct Typer<'a> {
-    script: &'a Script,
-    types: &'a Types<'a>,
-    expressions: &'a [Expr],
+/// The expressions of a script, with what typing needs to know of them, found once.
+pub struct Typing {
+    /// Variables are indexes into `names` here, so that an environment is a small array.
+    expressions: Vec<Expr>,
+    /// Every variable of the script, in rising order.
+    names: Vec<u16>,
     /// By node: a fork whose asyncs share a free variable.
     sharing: Vec<bool>,
+}
+
+impl Typing {
+    pub fn of(mut expressions: Vec<Expr>) -> Typing {
+        let names = renumber_variables(&mut expressions);
+        let sharing = sharing_forks(&expressions, names.len());
+        Typing { expressions, names, sharing }
+    }
+}
+
+/// Infers and checks in an environment.
+pub struct Typer<'a> {
+    script: &'a Script,
+    types: &'a Types,
+    typing: &'a Typing,
     /// By variable, the type of its nearest binding.
     environment: Vec<Option<Type>>,
 }
 
-impl Typer<'_> {
+impl<'a> Typer<'a> {
+    /// A typer in the environment without a variable.
+    pub fn new(script: &'a Script, types: &'a Types, typing: &'a Typing) -> Typer<'a> {
+        Typer { script, types, typing, environment: vec![None; typing.names.len()] }
+    }
+
+    /// The start's type, if the bodies and the start are well typed.
+    pub fn start_type(mut self) -> Result<Type, Refusal> {
+        for (index, run) in self.script.method_runs().enumerate() {
+            for &[_, parameter, result, body] in &self.script.methods[run] {
+                self.environment[THIS] = Some(self.script.class_type(index));
+                self.environment[PARAMETER] = Some(parameter);
+                self.check(body, result)?; // "Bodies are checked against the result type"
+            }
+        }
+        self.environment.fill(None); // "the start is inferred with no variable"
+        self.infer(0)
+    }
+
+    /// The same typer with these variables, the nearest first: "the nearest binding counts".
+    pub fn with(mut self, nearest_first: impl Iterator<Item = (u16, Type)>) -> Typer<'a> {
+        for (name, ty) in nearest_first {
+            // A name that the script does not have is asked for by no node.
+            if let Ok(variable) = self.typing.names.binary_search(&name) {
+                self.environment[variable].get_or_insert(ty);
+            }
+        }
+        self
+    }
+
+    /// The type of a variable, by the name that the file gives it.
+    pub fn variable(&self, name: u16) -> Option<Type> {
+        let variable = self.typing.names.binary_search(&name).ok()?;
+        self.environment[variable]
+    }
+
     /// Γ ⊢ e ⇒ t. "Fork sharing, target variable, field or method, parts in running order."
-    fn infer(&mut self, node: u16) -> Result<Type, Refusal> {
-        match self.expressions[node as usize] {
+    pub fn infer(&mut self, node: u16) -> Result<Type, Refusal> {
+        match self.typing.expressions[node as usize] {
             Expr::Null => Err(self.refusal(Question::InferredNull, node)),
             Expr::Variable { variable } => self.bound(variable, node),
             Expr::Read { target, field } => self.field(target, field, node),
@@ -53,20 +89,14 @@ impl Typer<'_> {
                 self.check(argument, signature.parameter)?;
                 Ok(signature.result)
             }
-            Expr::Let { variable, bound, body } => {
-                let ty = self.infer(bound)?;
-                let outer = self.environment[variable as usize].replace(ty);
-                let result = self.infer(body);
-                self.environment[variable as usize] = outer;
-                result
-            }
+            Expr::Let { variable, bound, body } => self.infer_let(variable, bound, body),
             Expr::New { class } => Ok(class),
             Expr::Cast { ty, operand } => {
                 self.check(operand, ty)?;
                 Ok(ty)
             }
             Expr::Fork { left, right, last } => {
-                if self.sharing[node as usize] {
+                if self.typing.sharing[node as usize] {
                     return Err(self.refusal(Question::Sharing, node));
                 }
                 self.infer(left)?;
@@ -80,10 +110,20 @@ impl Typer<'_> {
         }
     }
 
+    /// The last part is inferred with the variable at the first part's type; then the variable
+    /// means again what it meant outside.
+    fn infer_let(&mut self, variable: u16, bound: u16, body: u16) -> Result<Type, Refusal> {
+        let ty = self.infer(bound)?;
+        let outer = self.environment[variable as usize].replace(ty);
+        let result = self.infer(body);
+        self.environment[variable as usize] = outer;
+        result
+    }
+
     /// Γ ⊢ e ⇐ t. "A null is checked against any type", "every other node is checked by inferring
     /// and asking whether the result is below the wanted type"; if not, that node is at fault.
-    fn check(&mut self, node: u16, wanted: Type) -> Result<(), Refusal> {
-        if let Expr::Null = self.expressions[node as usize] {
+    pub fn check(&mut self, node: u16, wanted: Type) -> Result<(), Refusal> {
+        if let Expr::Null = self.typing.expressions[node as usize] {
             return Ok(());
         }
         let ty = self.infer(node)?;
@@ -109,8 +149,8 @@ impl Typer<'_> {
 }
 
 /// Numbers the variables of the script from 0 without gaps (0 and 1 stay), so that environments
-/// and sets of variables are small arrays, and says how many there are.
-fn renumber_variables(expressions: &mut [Expr]) -> usize {
+/// and sets of variables are small arrays, and answers their names.
+fn renumber_variables(expressions: &mut [Expr]) -> Vec<u16> {
     let mut names = vec![THIS as u16, PARAMETER as u16];
     names.extend(expressions.iter_mut().filter_map(|expr| expr.variable_mut().copied()));
     names.sort_unstable();
@@ -118,7 +158,7 @@ fn renumber_variables(expressions: &mut [Expr]) -> usize {
     for variable in expressions.iter_mut().filter_map(Expr::variable_mut) {
         *variable = names.partition_point(|name| name < variable) as u16;
     }
-    names.len()
+    names
 }
 
 /// Question 15 for every fork at once. Parts have larger numbers than their node, so going down

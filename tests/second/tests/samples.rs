@@ -1,7 +1,10 @@
-//! The samples of document 01 that speak of Check.
+//! The samples of document 01: what Check says of them, and how those that are accepted run.
 
+use second::block;
+use second::program::Program;
 use second::script::{Script, Section};
-use second::{check, Reply};
+use second::state::{Focus, State, Value};
+use second::{check, offer, run, start, Answer, Reply, RunReply, FLAGS};
 
 const I: u16 = 1;
 const C: u16 = 2;
@@ -23,6 +26,29 @@ fn refuses(nodes: &[[u16; 4]], number: u16, node: usize) {
     assert_eq!(check(&script.encode()), Reply { number, place, ty: 0 });
 }
 
+/// What a Run from the start gives, and the state that it leaves.
+fn runs(script: &Script, choices: &[u8]) -> (RunReply, State) {
+    let (file, mut lent) = (script.encode(), vec![0xAA; block::LENGTH]);
+    assert_eq!(start(&file, &mut lent), Answer { number: 0, place: 0 });
+    let reply = run(&file, &mut lent, choices);
+    (reply, state(&file, &lent))
+}
+
+fn state(file: &[u8], lent: &[u8]) -> State {
+    let Ok(program) = Program::read(file) else { unreachable!("accepted scripts can be read") };
+    block::read(lent, &program.types).expect("Run leaves a block in order")
+}
+
+/// A Run that is not refused.
+fn ran(stop: u16, read: u16, moves: u16) -> RunReply {
+    RunReply { number: 0, place: 0, stop, read, moves }
+}
+
+const FINISHED: u16 = 1;
+const FAILED: u16 = 2;
+const STUCK: u16 = 3;
+const OBJECTS_FULL: u16 = 4;
+
 #[test]
 fn forty_bytes() {
     let mut file = vec![];
@@ -31,7 +57,14 @@ fn forty_bytes() {
     }
     assert_eq!(file.len(), 40);
     assert_eq!(check(&file), Reply { number: 0, place: 0, ty: 0 });
-    assert_eq!(file, Script { nodes: vec![[7, 0, 1, 0], [0; 4]], ..Script::default() }.encode());
+    let script = Script { nodes: vec![[7, 0, 1, 0], [0; 4]], ..Script::default() };
+    assert_eq!(file, script.encode());
+    assert_eq!(runs(&script, &[0; 3]).0, ran(FINISHED, 3, 3));
+    assert_eq!(runs(&script, &[0; 2]).0, ran(0, 2, 2));
+    assert_eq!(runs(&script, &[]).0, ran(0, 0, 0));
+    // "Otherwise 0": what is chosen after the end is not read, what is passed over is.
+    assert_eq!(runs(&script, &[0; 9]).0, ran(FINISHED, 3, 3));
+    assert_eq!(runs(&script, &[1, 0, 255, 0, 0, 0]).0, ran(FINISHED, 5, 3));
 }
 
 #[test]
@@ -63,12 +96,25 @@ fn shared_fork() {
 
 #[test]
 fn nested_locks() {
-    accepts(&[[5, X, 1, 2], [6, C, 0, 0], [9, X, 3, 0], [9, X, 4, 0], [1, X, 0, 0]], C);
+    // let x = new C in lock x in lock x in x
+    let nodes = [[5, X, 1, 2], [6, C, 0, 0], [9, X, 3, 0], [9, X, 4, 0], [1, X, 0, 0]];
+    accepts(&nodes, C);
+    let shut_after = |moves: usize| runs(&of_nodes(&nodes), &vec![0; moves]).1.objects[0].shut;
+    assert_eq!([3, 4, 5, 6, 7].map(shut_after), [false, true, true, true, false]);
+    let (reply, state) = runs(&of_nodes(&nodes), &[0; 7]);
+    assert_eq!(reply, ran(FINISHED, 7, 7));
+    assert_eq!(state.tree.focus, Focus::Value(Value::Object(0)));
 }
 
 #[test]
 fn null_lock() {
-    accepts(&[[5, X, 1, 3], [7, C, 2, 0], [0; 4], [9, X, 4, 0], [1, X, 0, 0]], C);
+    // let x = (C)null in lock x in x
+    let nodes = [[5, X, 1, 3], [7, C, 2, 0], [0; 4], [9, X, 4, 0], [1, X, 0, 0]];
+    accepts(&nodes, C);
+    assert_eq!(runs(&of_nodes(&nodes), &[0; 5]).0, ran(0, 5, 5));
+    let (reply, state) = runs(&of_nodes(&nodes), &[0; 10]);
+    assert_eq!(reply, ran(FAILED, 6, 6));
+    assert!(state.tree.is_failed() && state.tree.frames.is_empty());
 }
 
 #[test]
@@ -86,6 +132,9 @@ fn locked_fork() {
         [1, X, 0, 0],
     ];
     accepts(&nodes, C);
+    assert_eq!(runs(&of_nodes(&nodes), &[0, 0, 0, 0, 0, 1, 1, 1]).0, ran(STUCK, 8, 8));
+    // The right async has none of its parent's locks: it never moves.
+    assert_eq!(runs(&of_nodes(&nodes), &[0, 0, 0, 0, 0, 2, 2, 1, 2, 1, 1, 2]).0, ran(STUCK, 11, 8));
 }
 
 #[test]
@@ -94,10 +143,29 @@ fn alias() {
     let lock = |variable, body| [[9, variable, body, 0], [1, variable, 0, 0]];
     let [lock_x, x] = lock(X, 6);
     let [lock_y, y] = lock(Y, 8);
-    accepts(
-        &[[5, X, 1, 2], [6, C, 0, 0], [5, Y, 3, 4], [1, X, 0, 0], [8, 5, 7, 9], lock_x, x, lock_y, y, [1, X, 0, 0]],
-        C,
-    );
+    let nodes =
+        [[5, X, 1, 2], [6, C, 0, 0], [5, Y, 3, 4], [1, X, 0, 0], [8, 5, 7, 9], lock_x, x, lock_y, y, [1, X, 0, 0]];
+    accepts(&nodes, C);
+    let script = of_nodes(&nodes);
+    let flags_after = |choices: &[u8]| {
+        let (file, mut flags) = (script.encode(), [7; FLAGS]);
+        let lent = block::write(&runs(&script, choices).1);
+        assert_eq!(offer(&file, &lent, &mut flags), Answer { number: 0, place: 0 });
+        assert!(flags[3..].iter().all(|&flag| flag == 0));
+        [flags[0], flags[1], flags[2]]
+    };
+    let forked = [0; 7];
+    assert_eq!(flags_after(&forked), [0, 1, 1]);
+    // Each waits while the other holds, and goes on when the other has opened.
+    for (one, both) in [(1, [0, 1, 0]), (2, [0, 0, 1])] {
+        let choices = |more: usize| [&forked[..], &vec![one; more]].concat();
+        assert_eq!([1, 2].map(|more| flags_after(&choices(more))), [both, both]);
+        let mut other_only = [0, 1, 1];
+        other_only[one as usize] = 0;
+        assert_eq!(flags_after(&choices(3)), other_only);
+    }
+    let whole = [&forked[..], &[2, 1, 2, 1, 2, 1, 1, 1, 0, 0]].concat();
+    assert_eq!(runs(&script, &whole).0, ran(FINISHED, 17, 15));
 }
 
 #[test]
@@ -109,6 +177,25 @@ fn write_to_null() {
         ..of_nodes(&[[5, X, 1, 3], [7, C, 2, 0], [0; 4], [3, X, 7, 4], [6, C, 0, 0]])
     };
     assert_eq!(check(&script.encode()), Reply { number: 0, place: 0, ty: 0 });
+    let (reply, state) = runs(&script, &[0; 20]);
+    assert_eq!(reply, ran(FAILED, 8, 8));
+    assert_eq!(state.objects.len(), 1);
+    // At the move before, the object was there and the thread had not failed.
+    let (reply, state) = runs(&script, &[0; 7]);
+    assert_eq!((reply, state.objects.len()), (ran(0, 7, 7), 1));
+}
+
+#[test]
+fn the_257th_object() {
+    // let x = new C in ... 256 times: the last is the 257th object if there are 257 lets.
+    let news = |count: u16| -> Script {
+        let lets = (0..count).flat_map(|index| [[5, X, 2 * index + 1, 2 * index + 2], [6, C, 0, 0]]);
+        of_nodes(&lets.chain([[1, X, 0, 0]]).collect::<Vec<_>>())
+    };
+    let (reply, state) = runs(&news(256), &[0; 4096]);
+    assert_eq!((reply, state.objects.len()), (ran(FINISHED, 769, 769), 256));
+    let (reply, state) = runs(&news(257), &[0; 4096]);
+    assert_eq!((reply, state.objects.len()), (ran(OBJECTS_FULL, 770, 769), 256));
 }
 
 #[test]

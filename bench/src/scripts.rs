@@ -1,0 +1,151 @@
+//! Scripts at the limits.
+
+use second::script::Script;
+
+fn empty() -> Script {
+    Script { interfaces: vec![], signatures: vec![], classes: vec![], fields: vec![], methods: vec![], nodes: vec![] }
+}
+
+/// The program of the paper's Figure 10 without its integers, as in samples/accept-figure10.words.
+pub fn figure_ten() -> Script {
+    Script {
+        interfaces: vec![[0, 2, 0]],
+        signatures: vec![[0, 1, 0], [1, 0, 1]],
+        classes: vec![[1, 1, 3]],
+        fields: vec![[0, 1]],
+        methods: vec![[2, 1, 0, 17], [0, 1, 0, 19], [1, 0, 1, 23]],
+        nodes: vec![
+            [5, 2, 1, 2],
+            [6, 2, 0, 0],
+            [5, 3, 3, 5],
+            [7, 1, 4, 0],
+            [1, 2, 0, 0],
+            [5, 4, 6, 8],
+            [4, 2, 2, 7],
+            [0; 4],
+            [8, 9, 12, 15],
+            [9, 2, 10, 0],
+            [4, 2, 0, 11],
+            [0; 4],
+            [9, 3, 13, 0],
+            [4, 3, 0, 14],
+            [0; 4],
+            [4, 2, 1, 16],
+            [0; 4],
+            [3, 0, 0, 18],
+            [1, 1, 0, 0],
+            [5, 2, 20, 21],
+            [2, 0, 0, 0],
+            [3, 0, 0, 22],
+            [1, 1, 0, 0],
+            [2, 0, 0, 0],
+        ],
+    }
+}
+
+/// Every section full where `scale` is 16: lists of 4 and of 12 signatures and as many joins of them, classes with 4 fields and the 4 methods of their list. Every body reads a field; half of
+/// them write it back, half call a method of it through its interface.
+pub fn largest(scale: u16) -> Script {
+    let mut script = empty();
+    let name = |list: u16, method: u16| 100 * list + method;
+    for list in 0..2 * scale {
+        let methods = if list < scale { 4 } else { 12 };
+        script.interfaces.push([0, methods, 0]);
+        script.signatures.extend((0..methods).map(|method| [name(list, method), list + 1, 0]));
+    }
+    script.interfaces.extend((0..2 * scale).map(|join| [1, 2 * scale + join, join + 1]));
+    script.nodes.push([6, 4 * scale + 1, 0, 0]);
+    for class in 0..4 * scale {
+        let list = class % scale;
+        script.classes.push([list + 1, 4, 4]);
+        script.fields.extend((0..4).map(|field| [field, list + 1]));
+        for method in 0..4 {
+            let at = script.nodes.len() as u16;
+            script.methods.push([name(list, method), list + 1, 0, at]);
+            let last = if method % 2 == 0 { [3, 0, method, at + 3] } else { [4, 2, name(list, method), at + 3] };
+            script.nodes.extend([[5, 2, at + 1, at + 2], [2, 0, method, 0], last, [1, 2, 0, 0]]);
+        }
+    }
+    // The start and 256 bodies of 4 nodes are one too many: the last body has 3, a write of a cast null.
+    let [.., last] = &script.methods[..] else { unreachable!() };
+    let at = last[3];
+    script.nodes.truncate(at as usize);
+    script.nodes.extend([[3, 0, 0, at + 1], [7, scale, at + 2, 0], [0; 4]]);
+    script
+}
+
+/// Joins that each name their predecessor twice; the class of the last has the one method; failed look-ups end the start, so the verdict is 13.
+pub fn ladder(joins: u16) -> Script {
+    let mut script = empty();
+    script.interfaces.push([0, 4, 0]);
+    script.signatures.extend((0..4).map(|name| [name, 0, 0]));
+    script.interfaces.extend((1..=joins).map(|parent| [1, parent, parent]));
+    script.classes.push([joins + 1, 0, 4]);
+    let class = joins + 2;
+    script.nodes.extend([[5, 2, 1, 3], [7, joins + 1, 2, 0], [6, class, 0, 0]]);
+    // Calls through the last join, found at its first ancestor, in a chain of lets.
+    for call in 0..40u16 {
+        let at = 3 + 3 * call;
+        script.nodes.extend([[5, 3, at + 1, at + 3], [4, 2, call % 4, at + 2], [0; 4]]);
+    }
+    let at = script.nodes.len() as u16;
+    script.nodes.extend([[4, 2, 9, at + 1], [0; 4]]);
+    for name in 0..4 {
+        script.methods.push([name, 0, 0, script.nodes.len() as u16]);
+        script.nodes.push([0; 4]);
+    }
+    script
+}
+
+/// Lets in lets, each binding a variable of its own, and at the bottom the first variable.
+pub fn deepest(nodes: u16) -> Script {
+    let mut script = Script { interfaces: vec![[0, 0, 0]], classes: vec![[1, 0, 0]], ..empty() };
+    let lets = (nodes - 2) / 2;
+    script.nodes.extend([[5, 2, 1, 2], [6, 2, 0, 0]]);
+    for depth in 1..lets {
+        let at = 2 * depth;
+        script.nodes.extend([[5, 2 + depth, at + 1, at + 2], [1, 2 + depth / 2, 0, 0]]);
+    }
+    script.nodes.push([1, 2, 0, 0]);
+    script
+}
+
+/// Forks whose asyncs and last parts are `new`s: each fork in the last part of the one before, or in its left async.
+pub fn forks(count: u16, nested_left: bool) -> Script {
+    let mut script = Script { interfaces: vec![[0, 0, 0]], classes: vec![[1, 0, 0]], ..empty() };
+    for index in 0..count {
+        let at = 3 * index;
+        script.nodes.push(if nested_left { [8, at + 3, at + 1, at + 2] } else { [8, at + 1, at + 2, at + 3] });
+        script.nodes.extend([[6, 2, 0, 0], [6, 2, 0, 0]]);
+    }
+    script.nodes.push([6, 2, 0, 0]);
+    script
+}
+
+/// Forks nested to the left, each right async with a variable of its own that an outer let binds.
+pub fn forks_with_variables(count: u16) -> Script {
+    let mut script = Script { interfaces: vec![[0, 0, 0]], classes: vec![[1, 0, 0]], ..empty() };
+    for index in 0..count {
+        let at = 2 * index;
+        script.nodes.extend([[5, 2 + index, at + 1, at + 2], [6, 2, 0, 0]]);
+    }
+    let base = 2 * count;
+    for index in 0..count {
+        let at = base + 3 * index;
+        script.nodes.extend([[8, at + 3, at + 1, at + 2], [1, 2 + index, 0, 0], [6, 2, 0, 0]]);
+    }
+    script.nodes.push([6, 2, 0, 0]);
+    script
+}
+
+/// A method that calls itself: each call adds two bindings, until there is no room. As in samples/accept-endless.words.
+pub fn endless() -> Script {
+    Script {
+        interfaces: vec![[0, 1, 0]],
+        signatures: vec![[0, 0, 0]],
+        classes: vec![[1, 0, 1]],
+        methods: vec![[0, 0, 0, 4]],
+        nodes: vec![[5, 2, 1, 2], [6, 2, 0, 0], [4, 2, 0, 3], [0; 4], [4, 0, 0, 5], [0; 4]],
+        ..empty()
+    }
+}

@@ -1,0 +1,58 @@
+-- What Offer replies and leaves, after each of its answers.
+use Prim.Native.Nat.{ℕ}
+use mathlib.Core.Path.{_≡_, refl, sym, ap, _∙_}
+use mathlib.Core.Bool.{Bool, true, false, not}
+use mathlib.Core.List.{List}
+use mathlib.Core.Option.{Option, none, some}
+use lib.ListN.{length}
+use borrow.Author.Tests.{eq-eqb, ne-eqb}
+use Rattle.limits.specs.Limits.{BLOCK, FLAGS}
+use Rattle.script.proofs.Tests.{true-false}
+use Rattle.typing.specs.declared.Verdict.{Verdict}
+use Rattle.typing.specs.declared.Verdict.the-variants.{Accepted, Refused}
+use Rattle.typing.specs.Check.{checkOf, verdictNumber, verdictPlace}
+use Rattle.machine.specs.Config.{Config}
+use Rattle.calls.specs.declared.LentQuestion.the-variants.{BlockLength, BufferLength, BlockForm}
+use Rattle.calls.specs.Calls.{lentNumber, configOf, askForm, blockAsked, offeredFrom, offerOf}
+use Rattle.calls.specs.Answers.{found}
+
+module _ (s b fl : List ℕ) where
+  abbrev pub OfferSays : ℕ → ℕ → List ℕ → Type 0
+  OfferSays number place after = (number ≡ offerOf s b fl .number) × ((place ≡ offerOf s b fl .place) × (after ≡ offerOf s b fl .flags))
+
+  pub offer-script-refused : (number place : ℕ) → number ≡ verdictNumber (checkOf s) → place ≡ verdictPlace (checkOf s) → (number ≡ 0 → ⊥) → OfferSays number place fl
+  unfolding offerOf blockAsked
+  offer-script-refused number place n p ne = go (checkOf s) refl n p
+    where
+      go : (v : Verdict) → checkOf s ≡ v → number ≡ verdictNumber v → place ≡ verdictPlace v → OfferSays number place fl
+      go (Accepted t) q n p = absurd (ne n)
+      go (Refused k at) q n p = rw (q, n, p) (refl, (refl, refl))
+
+  module _ (t : ℕ) (acc : checkOf s ≡ Accepted t) where
+    pub offer-block-refused : (number : ℕ) → (length b ≡ BLOCK → ⊥) → number ≡ lentNumber BlockLength → OfferSays number 0 fl
+    unfolding offerOf blockAsked
+    offer-block-refused number ne n = rw (acc, ne-eqb _ _ ne, n) (refl, (refl, refl))
+
+    module _ (long : length b ≡ BLOCK) where
+      pub offer-flags-refused : (number : ℕ) → (length fl ≡ FLAGS → ⊥) → number ≡ lentNumber BufferLength → OfferSays number 0 fl
+      unfolding offerOf blockAsked
+      offer-flags-refused number ne n = rw (acc, eq-eqb _ _ long, ne-eqb _ _ ne, n) (refl, (refl, refl))
+
+      asked : length fl ≡ FLAGS → offerOf s b fl ≡ offeredFrom s b fl (askForm (configOf s t b))
+      unfolding offerOf blockAsked
+      asked l = rw (acc, eq-eqb _ _ long, eq-eqb _ _ l)
+
+      module _ {after : List ℕ} (l : length fl ≡ FLAGS) (r : Bool) (e : r ≡ found (configOf s t b)) (h : after ≡ offeredFrom s b fl (askForm (configOf s t b)) .flags) where
+        pub offer-form-refused : (number : ℕ) → not r ≡ true → number ≡ lentNumber BlockForm → OfferSays number 0 after
+        offer-form-refused number f n = rw (asked l) (go (configOf s t b) refl)
+          where
+            go : (q : Option Config) → configOf s t b ≡ q → (number ≡ offeredFrom s b fl (askForm (configOf s t b)) .number) × ((0 ≡ offeredFrom s b fl (askForm (configOf s t b)) .place) × (after ≡ offeredFrom s b fl (askForm (configOf s t b)) .flags))
+            go none k = rw (h, k, n) (refl, (refl, refl))
+            go (some c) k = absurd (true-false (sym f ∙ ap not (e ∙ ap found k)))
+
+        pub offer-done : not r ≡ false → OfferSays 0 0 after
+        offer-done f = rw (asked l) (go (configOf s t b) refl)
+          where
+            go : (q : Option Config) → configOf s t b ≡ q → (0 ≡ offeredFrom s b fl (askForm (configOf s t b)) .number) × ((0 ≡ offeredFrom s b fl (askForm (configOf s t b)) .place) × (after ≡ offeredFrom s b fl (askForm (configOf s t b)) .flags))
+            go none k = absurd (true-false (sym (ap not (e ∙ ap found k)) ∙ f))
+            go (some c) k = rw (h, k) (refl, (refl, refl))

@@ -1,0 +1,45 @@
+// Offer.
+use crate::check::oolong_check;
+use calls::LentQuestion;
+use limits::Limits;
+ghost use mathlib.Core.Path.{_≡_};
+ghost use Rattle.calls.specs.Calls.{offerOf};
+
+// Offer's reply: the number of the question that gets a no and its place, or 0 and 0.
+#[repr(C)]
+pub struct OfferReply {
+    pub number: u16,
+    pub place: u16,
+}
+
+// Offer: questions 1 to 15 about the script, then 20, 22 and 21. A yes to all sets the flags; a no leaves them as they were. The block is only read.
+#[no_mangle]
+pub extern "C" fn oolong_offer(script: &[u8], block: &[u8], flags: &mut [u8]) -> OfferReply
+    ensures number { λ r. ⌜ r .number ≡ offerOf (now (script .entry)) (now (block .entry)) (now (flags .entry)) .number ⌝ }
+    ensures place { λ r. ⌜ r .place ≡ offerOf (now (script .entry)) (now (block .entry)) (now (flags .entry)) .place ⌝ }
+    ensures flags { λ r. ⌜ now (flags .exit) ≡ offerOf (now (script .entry)) (now (block .entry)) (now (flags .entry)) .flags ⌝ }
+{
+    let checked = oolong_check(script);
+    if checked.number != 0 {
+        return OfferReply {
+            number: checked.number,
+            place: checked.place,
+        };
+    }
+    if block.len() != Limits::BLOCK {
+        let number = calls::lent_number(LentQuestion::BlockLength);
+        return OfferReply { number, place: 0 };
+    }
+    if flags.len() != Limits::FLAGS {
+        let number = calls::lent_number(LentQuestion::BufferLength);
+        return OfferReply { number, place: 0 };
+    }
+    if !play::offer(script, checked.start_type, block, flags) {
+        let number = calls::lent_number(LentQuestion::BlockForm);
+        return OfferReply { number, place: 0 };
+    }
+    OfferReply {
+        number: 0,
+        place: 0,
+    }
+}

@@ -1,0 +1,6 @@
+pub mod Seeing
+pub mod Moves
+pub mod Taking
+pub mod Putting
+pub mod Glue
+pub mod Locks

@@ -1,0 +1,11 @@
+pub mod Laws
+pub mod ReadLaws
+pub mod LockLaws
+pub mod WaitingLaws
+pub mod LetLaws
+pub mod Ready
+pub mod NodeLaws
+pub mod WakeLaws
+pub mod ChoiceLaws
+pub mod LookLaws
+pub mod RunLaws

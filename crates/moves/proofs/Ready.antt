@@ -1,0 +1,101 @@
+-- What a well-formed configuration gives the moves' contracts, where it is seen in a block.
+use mathlib.Core.Path.{_≡_, ap}
+use mathlib.Core.List.{List, _∷_, List·Memᴰ·not-nil}
+use Prim.Native.Nat.{ℕ, zero, suc, _<_, _≤_}
+use native.Mathlib.Omega.{arith}
+use native.Mathlib.Decide.{decLt}
+use lib.ListN.{length, getD}
+use Rattle.words.specs.Word.{WORD}
+use Rattle.script.specs.declared.Section.the-variants.{Interfaces as interfaces, Classes as classes, Nodes as nodes}
+use Rattle.script.specs.Section.{countOf}
+use Rattle.script.specs.Lists.{named}
+use Rattle.script.specs.Syntax.{n-bind}
+use Rattle.script.specs.Reading.{viewAt, programOf}
+use Rattle.script.specs.Statements.{WithinLayout}
+use Rattle.script.proofs.Reading.{first}
+use Rattle.script.proofs.Declarations.{length-interfaces, length-classes}
+use Rattle.typing.specs.Members.{typeIn}
+use Rattle.typing.specs.Published.{WfEnv, WF-ENV}
+use Rattle.typing.specs.Tables.{Starts, Forks, Named}
+use Rattle.typing.specs.At.{Blank}
+use Rattle.machine.specs.declared.Value.{Value}
+use Rattle.machine.specs.declared.Want.{Want}
+use Rattle.machine.specs.declared.Frame.{Frame}
+use Rattle.machine.specs.Config as machine
+use Rattle.machine.specs.Config.{Code, codeOf, Object, Binding, Stores}
+use Rattle.machine.specs.Machine.{context}
+use Rattle.machine.specs.WellFormed.{ValueFits, fits-nil, fits-ref, BindingOk, BindingsOk, a-binding, StoresOk}
+use Rattle.machine.proofs.Stores.{object-below, fields-long}
+use Rattle.machine.proofs.Decide.{context-wf}
+use Rattle.block.specs.declared.Area.the-variants.{Objects, Bindings}
+use Rattle.block.specs.Block.{valueWord, waiting}
+use Rattle.threads.specs.declared.Tree.{Tree}
+use Rattle.threads.specs.Entries.{blank}
+use Rattle.scopes.specs.Chains.{bindingCount, bindingAt, newest, bindingsIn, Chain, Typed, Zeros}
+use Rattle.scopes.proofs.ChainLaws.{length-newest}
+use Rattle.hand.specs.Hand.{Else, Seen}
+use Rattle.hand.proofs.Seeing.{seen-length, seen-few, objects-counted, bindings-counted, seen-waiting}
+use Rattle.moves.specs.Came.{OwnFields}
+use Rattle.moves.proofs.Laws.{scope-read}
+
+-- the script's tables, with no variable bound
+pub blank-tables : {s starts forks table : List ℕ} → WithinLayout s → Starts s starts → Forks s forks → Named s (length table) → Zeros table → Blank s starts forks table
+unfolding typeIn named
+blank-tables w r f n z =
+    record {
+      within = w;
+      runs = r;
+      sharing = f;
+      names = n;
+      empty = record { types = WF-ENV (λ b m. absurd (List·Memᴰ·not-nil m)); holds = λ x l. z x };
+    }
+
+-- the first part of a let is a node
+pub let-part : {s : List ℕ} (n x a b : ℕ) → WithinLayout s → n < countOf s nodes → viewAt s n ≡ n-bind x a b → a < countOf s nodes
+let-part n x a b w l e = w .nodes-are nodes n l .in-order a (rw e first) .there
+
+-- an object has a value for each field of its class
+pub own-fields : {s : Code} {st : Stores} → StoresOk s st → OwnFields s (st .objects)
+own-fields ok o y h = fields-long (ok .heap o y h .fields)
+
+-- each of numbered bindings
+newest-ok : {s : Code} {xs : List Object} (f : ℕ → Binding) (n i : ℕ) → i < n → BindingsOk s xs (newest f n) → BindingOk s xs i (f i)
+newest-ok f zero i h ok = absurd (omega arith)
+newest-ok f (suc n) i h (a-binding k ok) =
+    elim (decLt i n) [
+      | yes l ↦ newest-ok f n i l ok
+      | no l ↦ let e : i ≡ n = omega arith in rw e (rw (length-newest f n) at k)
+    ]
+
+module _ {b : List ℕ} {self : Tree} {i : ℕ} {x : Else} {st : Stores} {u : machine.Tree} (seen : Seen b self i x st u) where
+  -- the innermost frame is there
+  pub frame-there : {g : Frame} {fs : List Frame} → waiting u ≡ g ∷ fs → 0 < getD (self .entries) i blank .frames
+  frame-there e = omega (arith, seen-waiting seen, ap length e)
+
+  -- a value of the stores is a word
+  pub value-word : {s : Code} {v : Value} {w : Want} → ValueFits s (st .objects) v w → valueWord v < WORD
+  value-word fits-nil = omega arith
+  value-word (fits-ref {o = o} {x = y} h m) = omega (arith, object-below (st .objects) o y h, objects-counted seen, seen-few seen Objects)
+
+  module _ {s : List ℕ} (w : WithinLayout s) (ok : BindingsOk (codeOf s) (st .objects) (st .bindings)) where
+    -- each binding of the block
+    binding-ok : (k : ℕ) → k < bindingCount b → BindingOk (codeOf s) (st .objects) k (bindingAt b k)
+    unfolding bindingsIn
+    binding-ok k h = newest-ok (bindingAt b) (bindingCount b) k h (rw (scope-read seen) ok)
+
+    -- what the look-ups and the let ask of the bindings
+    pub seen-chain : (e : ℕ) → e ≤ length (st .bindings) → Chain b e
+    seen-chain e h =
+        record {
+          long = seen-length seen;
+          few = seen-few seen Bindings;
+          links = λ k l. binding-ok k l .link;
+          within = omega (arith, bindings-counted seen);
+        }
+
+    pub seen-typed : Typed b
+    seen-typed k l =
+        omega (arith, binding-ok k l .type, length-interfaces s, length-classes s, w .counts-are .within interfaces, w .counts-are .within classes)
+
+    pub seen-env : (e : ℕ) → WfEnv (programOf s) (context (bindingsIn b) e)
+    seen-env e = rw (scope-read seen) (context-wf ok e)

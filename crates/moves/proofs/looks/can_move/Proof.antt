@@ -1,0 +1,62 @@
+use native.Mathlib.Omega.{arith}
+use borrow.Author.Needs.{needs}
+use Rattle.moves.proofs.LookLaws.{absent-not, failed-not, running-asks, running-there, returning-moves, join-asks, join-moves}
+use Rattle.moves.proofs.looks.can_move.Statement.{statement}
+use Rattle.moves.proofs.looks.can_move.Tie as tie
+
+returns : tie.Need-returns
+returns c = λ x. absent-not x _ (c .if1 .taken)
+
+mul-x : tie.Need-mul-x
+mul-x c = search needs
+
+element-copy-out-x : tie.Need-element-copy-out-x
+element-copy-out-x c = search needs
+
+enum-told : tie.Need-enum-told
+enum-told c = search needs
+
+enum-known-cell : tie.Need-enum-known-cell
+enum-known-cell c = search needs
+
+node-can-move-requires : tie.Need-node-can-move-requires
+node-can-move-requires c κs = running-asks (c .before .before .before .before .before .before .before .pre .1) _ (omega arith) (c .before .before .before .before .before .before .before .pre .0) (c .before .cell .given .1)
+
+enum-told-2 : tie.Need-enum-told-2
+enum-told-2 c = search needs
+
+enum-told-3 : tie.Need-enum-told-3
+enum-told-3 c = search needs
+
+join-can-move-requires : tie.Need-join-can-move-requires
+join-can-move-requires c κs = join-asks (c .before .before .before .before .before .before .pre .1) _ (omega arith)
+
+returns-2 : tie.Need-returns-2
+returns-2 c = λ x. failed-not x _ (omega arith) (c .enum-told .given .1)
+
+returns-3 : tie.Need-returns-3
+returns-3 c = λ x. c .node-can-move .ensures x _ _ _ (running-there x _ (omega arith) (c .before .before .cell .given .1))
+
+returns-4 : tie.Need-returns-4
+returns-4 c = λ x. returning-moves x _ (omega arith) (c .before .enum-told2 .given .1)
+
+returns-5 : tie.Need-returns-5
+returns-5 c = λ x. join-moves x _ (omega arith) (c .before .enum-told3 .given .1) (λ fs left right s. c .join-can-move .ensures _ _ (x .config .stores) fs _ _ left right s)
+
+pub can-move-spec : {M : Type 1} → statement M
+can-move-spec =
+    tie.close
+    (tie.spec
+    returns
+    mul-x
+    element-copy-out-x
+    enum-told
+    enum-known-cell
+    node-can-move-requires
+    enum-told-2
+    enum-told-3
+    join-can-move-requires
+    returns-2
+    returns-3
+    returns-4
+    returns-5)

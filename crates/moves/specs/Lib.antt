@@ -1,0 +1,4 @@
+pub mod Came
+pub mod Chose
+pub mod Looks
+pub mod Reports

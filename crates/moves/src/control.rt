@@ -1,0 +1,99 @@
+// Moves that leave a frame, and those of forks and joins.
+use crate::Effect;
+use crate::Step;
+use block::Area;
+use limits::Limits;
+use machine::Frame;
+use machine::Store;
+use threads::Fold;
+use threads::Tree;
+ghost use mathlib.Core.Path.{_≡_};
+ghost use mathlib.Core.List.{List};
+ghost use Prim.Native.Nat.{ℕ, _-_, _<_};
+ghost use Rattle.limits.specs.Limits.{FRAMES, THREADS};
+ghost use Rattle.machine.specs.declared.Frame.{Frame};
+ghost use Rattle.machine.specs.Config as machine;
+ghost use Rattle.machine.specs.Config.{Stores, running, join};
+ghost use Rattle.machine.specs.Machine.{threadCount, descend, spawn, phase, fold};
+ghost use Rattle.block.specs.declared.Area.the-variants.{Frames};
+ghost use Rattle.block.specs.Layout.{counted};
+ghost use Rattle.threads.specs.Entries.{Tidy, Is};
+ghost use Rattle.hand.specs.Hand.{Else, Seen, Sight};
+ghost use Rattle.moves.specs.Came.{Came};
+
+// "kinds 3, 4, 5 and 7 descend into their first-run part and leave a frame"
+pub fn leave_frame(block: &mut [u8], tree: Tree, i: usize, f: Frame, a: u16, env: u16) -> Step
+    requires { ⌜ Sight (now block) tree i ⌝ }
+    ensures { λ r. ⌜
+        ((x : Else) (st : Stores) (a₀ : ℕ) (fs : List Frame) →
+        Seen (now (block .entry)) tree i x st (running a₀ env fs) →
+        Came (now (block .entry)) tree i x (descend st fs env f a (FRAMES - counted (now (block .entry)) Frames)) (now (block .exit)) r)
+        ⌝ }
+{
+    if Limits::FRAMES <= store::count(block, Area::Frames) {
+        return Step {
+            effect: Effect::Full(Store::Frames),
+            tree: tree,
+        };
+    }
+    let after = hand::push(block, tree, i, f, a, env);
+    Step {
+        effect: Effect::Moved,
+        tree: after,
+    }
+}
+
+// "A fork becomes a join that keeps its frames, its last part and the bindings for it, which both asyncs also start with"
+pub fn become_join(tree: Tree, i: usize, env: u16, a: u16, b: u16, c: u16) -> Step
+    requires { ⌜ Tidy tree × (i < tree .len) ⌝ }
+    ensures { λ r. ⌜
+        ((bytes : List ℕ) (t : machine.Tree) (x : Else) (st : Stores) (a₀ : ℕ) (fs : List Frame) →
+        Is tree t →
+        Seen bytes tree i x st (running a₀ env fs) →
+        Came bytes tree i x (spawn st fs env a b c (THREADS - threadCount t)) bytes r)
+        ⌝ }
+{
+    if Limits::POSITIONS < tree.len + 2 {
+        return Step {
+            effect: Effect::Full(Store::Threads),
+            tree: tree,
+        };
+    }
+    let after = hand::fork(tree, i, a, b, c, env);
+    Step {
+        effect: Effect::Moved,
+        tree: after,
+    }
+}
+
+// "A join with both sides finished goes on as the left thread, at the last part and with the frames kept; with a failed side it becomes failed and all beneath is dropped."
+pub fn fold_join(block: &mut [u8], tree: Tree, i: usize) -> Step
+    requires { ⌜ Sight (now block) tree i ⌝ }
+    ensures { λ r. ⌜
+        ((x : Else) (st : Stores) (fs : List Frame) (a e : ℕ) (left right : machine.Tree) →
+        Seen (now (block .entry)) tree i x st (join fs a e left right) →
+        Came (now (block .entry)) tree i x (fold st fs a e (phase left) (phase right)) (now (block .exit)) r)
+        ⌝ }
+{
+    let how = tree.fold(i);
+    match how {
+        Fold::Still => Step {
+            effect: Effect::Still,
+            tree: tree,
+        },
+        Fold::GoesOn => {
+            let after = hand::rejoin(tree, i);
+            Step {
+                effect: Effect::Moved,
+                tree: after,
+            }
+        }
+        Fold::Fails => {
+            let after = hand::fail(block, tree, i);
+            Step {
+                effect: Effect::Moved,
+                tree: after,
+            }
+        }
+    }
+}

@@ -1,0 +1,87 @@
+// Moves that give a value: null, a variable, a field, a new object.
+use crate::Effect;
+use crate::Step;
+use block::Area;
+use limits::Limits;
+use machine::Store;
+use machine::Value;
+use scopes::Lookup;
+use threads::Cell;
+use threads::Tree;
+ghost use mathlib.Core.Path.{_≡_};
+ghost use mathlib.Core.List.{List};
+ghost use Prim.Native.Nat.{ℕ, _-_, _<_};
+ghost use Rattle.limits.specs.Limits.{OBJECTS};
+ghost use Rattle.machine.specs.declared.Value.the-variants.{Null as nil};
+ghost use Rattle.machine.specs.declared.Frame.{Frame};
+ghost use Rattle.machine.specs.Config.{Stores, running, returning, codeOf};
+ghost use Rattle.machine.specs.Machine.{scope, find, moved, give, make};
+ghost use Rattle.block.specs.declared.Area.the-variants.{Objects};
+ghost use Rattle.block.specs.Layout.{counted};
+ghost use Rattle.threads.specs.Entries.{Tidy};
+ghost use Rattle.scopes.specs.Chains.{Chain};
+ghost use Rattle.hand.specs.Hand.{Else, Seen, Sight};
+ghost use Rattle.moves.specs.Came.{Came};
+
+// "null becomes a value"
+pub fn become_null(tree: Tree, i: usize) -> Step
+    requires { ⌜ Tidy tree × (i < tree .len) ⌝ }
+    ensures { λ r. ⌜
+        ((b : List ℕ) (x : Else) (st : Stores) (a e : ℕ) (fs : List Frame) →
+        Seen b tree i x st (running a e fs) →
+        Came b tree i x (moved st (returning nil fs)) b r)
+        ⌝ }
+{
+    let after = hand::settle(tree, i, Cell::Returning(Value::Null));
+    Step {
+        effect: Effect::Moved,
+        tree: after,
+    }
+}
+
+// "a variable gives its value"
+pub fn give_value(block: &[u8], tree: Tree, i: usize, env: u16, x: u16) -> Step
+    requires { ⌜ Tidy tree × (i < tree .len) × Chain (now block) env ⌝ }
+    ensures { λ r. ⌜
+        ((rest : Else) (st : Stores) (a : ℕ) (fs : List Frame) →
+        Seen (now (block .entry)) tree i rest st (running a env fs) →
+        Came (now (block .entry)) tree i rest (give st fs (find (scope (st .bindings) env) x)) (now (block .entry)) r)
+        ⌝ }
+{
+    let found = scopes::variable(block, env, x);
+    let Lookup::Bound(v) = found else {
+        return Step {
+            effect: Effect::Still,
+            tree: tree,
+        };
+    };
+    let after = hand::settle(tree, i, Cell::Returning(v));
+    Step {
+        effect: Effect::Moved,
+        tree: after,
+    }
+}
+
+// "new makes an open object with null fields"
+pub fn make_object(block: &mut [u8], tree: Tree, i: usize, class: u16) -> Step
+    requires { ⌜ Sight (now block) tree i ⌝ }
+    ensures { λ r. ⌜
+        ((s : List ℕ) (x : Else) (st : Stores) (a e : ℕ) (fs : List Frame) →
+        Seen (now (block .entry)) tree i x st (running a e fs) →
+        Came (now (block .entry)) tree i x (make (codeOf s) st fs class (OBJECTS - counted (now (block .entry)) Objects)) (now (block .exit)) r)
+        ⌝ }
+{
+    let n = store::count(block, Area::Objects);
+    if Limits::OBJECTS <= n {
+        return Step {
+            effect: Effect::Full(Store::Objects),
+            tree: tree,
+        };
+    }
+    store::new_object(block, class);
+    let after = hand::settle(tree, i, Cell::Returning(Value::Ref(n as u16)));
+    Step {
+        effect: Effect::Moved,
+        tree: after,
+    }
+}

@@ -1,0 +1,6 @@
+pub mod Answers
+pub mod ZeroLaws
+pub mod KindLaws
+pub mod EachLaws
+pub mod TreeLaws
+pub mod WholeLaws

@@ -1,0 +1,43 @@
+use borrow.Author.Needs.{needs}
+use Rattle.typing.proofs.SubtypeLaws.{class-there}
+use Rattle.typing.proofs.LookupLaws.{laid}
+use Rattle.order.proofs.KindLaws as laws
+use Rattle.order.proofs.records.field_count.Statement.{statement}
+use Rattle.order.proofs.records.field_count.Tie as tie
+
+declared-as-requires : tie.Need-declared-as-requires
+declared-as-requires c κs = search needs
+
+enum-told : tie.Need-enum-told
+enum-told c = search needs
+
+enum-known-d : tie.Need-enum-known-d
+enum-known-d c = search needs
+
+own-count-requires : tie.Need-own-count-requires
+own-count-requires c κs = (laid (c .before .before .before .before .before .pre), class-there (c .before .before .before .declared-as .ensures) (c .before .d .given .1) .0)
+
+enum-told-2 : tie.Need-enum-told-2
+enum-told-2 c = search needs
+
+returns : tie.Need-returns
+returns c = laws.interface-fields (c .before .before .declared-as .ensures) (c .enum-told .given .1)
+
+returns-2 : tie.Need-returns-2
+returns-2 c = laws.class-fields (c .before .before .before .before .declared-as .ensures) _ (c .before .before .before .before .before .before .pre) (c .before .before .d .given .1) (c .own-count .ensures .0)
+
+returns-3 : tie.Need-returns-3
+returns-3 c = laws.no-fields (c .before .before .declared-as .ensures) (c .enum-told2 .given .1)
+
+pub field-count-spec : {M : Type 1} → statement M
+field-count-spec =
+    tie.close
+    (tie.spec
+    declared-as-requires
+    enum-told
+    enum-known-d
+    own-count-requires
+    enum-told-2
+    returns
+    returns-2
+    returns-3)

@@ -1,0 +1,37 @@
+use borrow.Author.Needs.{needs}
+use Rattle.order.proofs.KindLaws as laws
+use Rattle.order.proofs.records.frame_fits.Statement.{statement}
+use Rattle.order.proofs.records.frame_fits.Tie as tie
+
+word-requires : tie.Need-word-requires
+word-requires c κs = search needs
+
+returns : tie.Need-returns
+returns c = laws.awaits-known _ _ _ (c .before .word .ensures .0) (c .if1 .taken)
+
+unused-requires : tie.Need-unused-requires
+unused-requires c κs = search needs
+
+returns-2 : tie.Need-returns-2
+returns-2 c = laws.casts-asked _ _ _ (c .before .before .before .word .ensures .0) (c .before .if2 .taken) (c .unused .ensures)
+
+unused-requires-2 : tie.Need-unused-requires-2
+unused-requires-2 c κs = search needs
+
+returns-3 : tie.Need-returns-3
+returns-3 c = laws.locks-asked _ _ _ (c .before .before .before .before .word .ensures .0) (c .before .if3 .taken) (c .unused2 .ensures)
+
+returns-4 : tie.Need-returns-4
+returns-4 c = laws.unknown-frame _ _ _ (c .before .before .before .word .ensures .0) (c .before .before .if1 .left) (c .before .if2 .left) (c .if3 .left)
+
+pub frame-fits-spec : {M : Type 1} → statement M
+frame-fits-spec =
+    tie.close
+    (tie.spec
+    word-requires
+    returns
+    unused-requires
+    returns-2
+    unused-requires-2
+    returns-3
+    returns-4)

@@ -1,0 +1,56 @@
+use native.Mathlib.Omega.{arith}
+use borrow.Author.Needs.{needs}
+use Prim.Native.Nat.{_-_}
+use Rattle.limits.specs.Limits.{FLAGS}
+use Rattle.play.proofs.OfferLaws.{Marked, mark-none, mark-more, mark-all}
+use Rattle.play.proofs.offers.mark.Statement.{statement}
+use Rattle.play.proofs.offers.mark.Tie as tie
+
+abbrev Inv-loop : tie.InvT-loop
+Inv-loop s block tree flags₀ n₀ flags n = Marked s block tree flags n
+
+abbrev μ-loop : tie.MeasureT-loop
+μ-loop s block tree flags₀ n₀ flags n = FLAGS - n
+
+loop-holds : tie.Need-loop-holds Inv-loop μ-loop
+loop-holds c = mark-none (c .before .before .before .pre .2)
+
+can-move-requires : tie.Need-can-move-requires Inv-loop μ-loop
+can-move-requires c κs = search needs
+
+flag-of-requires : tie.Need-flag-of-requires Inv-loop μ-loop
+flag-of-requires c κs = search needs
+
+slice-write-flags : tie.Need-slice-write-flags Inv-loop μ-loop
+slice-write-flags c = omega (arith, c .before .before .before .loop .inv .long)
+
+add-n : tie.Need-add-n Inv-loop μ-loop
+add-n c = search needs
+
+loop-less : tie.Need-loop-less Inv-loop μ-loop
+loop-less c = search needs
+
+loop-again : tie.Need-loop-again Inv-loop μ-loop
+loop-again c = mark-more (c .before .before .before .loop .inv) (c .before .before .loop-test .taken) (c .before .can-move .ensures) (c .flag-of .ensures)
+
+same-length : tie.Need-same-length Inv-loop μ-loop
+same-length c = omega (arith, c .before .loop .inv .long, c .before .before .before .before .before .pre .2)
+
+returns : tie.Need-returns Inv-loop μ-loop
+returns c = mark-all (c .before .loop .inv) (omega arith)
+
+pub mark-spec : {M : Type 1} → statement M
+mark-spec =
+    tie.close
+    (tie.spec
+    Inv-loop
+    μ-loop
+    loop-holds
+    can-move-requires
+    flag-of-requires
+    slice-write-flags
+    add-n
+    loop-less
+    loop-again
+    same-length
+    returns)

@@ -1,0 +1,29 @@
+use borrow.Author.Needs.{needs}
+use mathlib.Core.Path.{_∙_}
+use Rattle.store.proofs.Laws.{frame-read}
+use Rattle.store.proofs.frames.frame.Statement.{statement}
+use Rattle.store.proofs.frames.frame.Tie as tie
+
+word-requires : tie.Need-word-requires
+word-requires c κs = search needs
+
+word-requires-2 : tie.Need-word-requires-2
+word-requires-2 c κs = search needs
+
+word-requires-3 : tie.Need-word-requires-3
+word-requires-3 c κs = search needs
+
+frame-of-requires : tie.Need-frame-of-requires
+frame-of-requires c κs = search needs
+
+returns : tie.Need-returns
+returns c p is l =
+    let s = c .before .before .before .before .before in
+    let word = c .before .before .before .word in
+    let word2 = c .before .before .word2 in
+    c .frame-of .ensures
+    ∙ frame-read _ p is _ _ _ _ (s .pre .1) l (word .ensures .0) (word2 .ensures .0) (c .before .word3 .ensures .0)
+
+pub frame-spec : {M : Type 1} → statement M
+frame-spec =
+    tie.close (tie.spec word-requires word-requires-2 word-requires-3 frame-of-requires returns)

@@ -1,0 +1,72 @@
+use borrow.Author.Needs.{needs}
+use Rattle.threads.proofs.fold_by.Statement.{statement}
+use Rattle.threads.proofs.fold_by.Tie as tie
+
+enum-told : tie.Need-enum-told
+enum-told c = search needs
+
+enum-told-2 : tie.Need-enum-told-2
+enum-told-2 c = search needs
+
+enum-told-3 : tie.Need-enum-told-3
+enum-told-3 c = search needs
+
+enum-told-4 : tie.Need-enum-told-4
+enum-told-4 c = search needs
+
+enum-told-5 : tie.Need-enum-told-5
+enum-told-5 c = search needs
+
+enum-told-6 : tie.Need-enum-told-6
+enum-told-6 c = search needs
+
+enum-told-7 : tie.Need-enum-told-7
+enum-told-7 c = search needs
+
+enum-told-8 : tie.Need-enum-told-8
+enum-told-8 c = search needs
+
+enum-told-9 : tie.Need-enum-told-9
+enum-told-9 c = search needs
+
+returns : tie.Need-returns
+returns c st fs a e = cc
+
+returns-2 : tie.Need-returns-2
+returns-2 c st fs a e = cc
+
+returns-3 : tie.Need-returns-3
+returns-3 c st fs a e = cc
+
+returns-4 : tie.Need-returns-4
+returns-4 c st fs a e = cc
+
+returns-5 : tie.Need-returns-5
+returns-5 c st fs a e = cc
+
+returns-6 : tie.Need-returns-6
+returns-6 c st fs a e = cc
+
+returns-7 : tie.Need-returns-7
+returns-7 c st fs a e = cc
+
+pub fold-by-spec : {M : Type 1} → statement M
+fold-by-spec =
+    tie.close
+    (tie.spec
+    enum-told
+    enum-told-2
+    enum-told-3
+    enum-told-4
+    enum-told-5
+    enum-told-6
+    enum-told-7
+    enum-told-8
+    enum-told-9
+    returns
+    returns-2
+    returns-3
+    returns-4
+    returns-5
+    returns-6
+    returns-7)

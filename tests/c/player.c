@@ -1,0 +1,130 @@
+/*
+ * A converter that plays a script. `player STOP MOVES < script` starts it, always moves the first tree position that Offer flags, and must come to that stop after that many moves. Then it plays
+ * the same choices again, as many as fit into each call, and asks for every refusal of Offer and Run. It prints nothing unless something is wrong.
+ */
+#include "lent.h"
+#include "oolong.h"
+
+enum { MOST_MOVES = 65536 };
+
+static uint8_t script[OOLONG_SCRIPT_MOST + 1];
+static size_t script_len;
+
+static void must(int holds, const char *what) {
+    if (holds) return;
+    printf("FAIL  %s\n", what);
+    exit(EXIT_FAILURE);
+}
+
+static void started(uint8_t *block) {
+    struct oolong_start_reply reply = oolong_start(script, script_len, block, OOLONG_BLOCK);
+    must(reply.number == OOLONG_OK && reply.place == 0, "the script is not started");
+}
+
+/* The first position that can move; OOLONG_FLAGS if there is none. */
+static size_t first_offered(const uint8_t *block) {
+    uint8_t flags[OOLONG_FLAGS];
+    memset(flags, 0xaa, sizeof flags);
+    struct oolong_offer_reply reply = oolong_offer(script, script_len, block, OOLONG_BLOCK, flags, sizeof flags);
+    must(reply.number == OOLONG_OK && reply.place == 0, "Offer is refused");
+    size_t first = OOLONG_FLAGS;
+    for (size_t position = OOLONG_FLAGS; position-- > 0;) {
+        must(flags[position] <= 1, "a flag is neither 0 nor 1");
+        if (flags[position] == 1) first = position;
+    }
+    return first;
+}
+
+static struct oolong_run_reply ran(uint8_t *block, const uint8_t *choices, size_t count) {
+    struct oolong_run_reply reply = oolong_run(script, script_len, block, OOLONG_BLOCK, choices, count);
+    must(reply.number == OOLONG_OK && reply.place == 0, "Run is refused");
+    must(reply.moves <= reply.read && reply.read <= count, "Run read or moved too often");
+    return reply;
+}
+
+/* The loop of a converter: offer, choose, move, until the run stops. Leaves the choices made and how many they are; what it stopped with is the answer. */
+static unsigned play(uint8_t *block, uint8_t *choices, size_t *made) {
+    struct oolong_run_reply reply = ran(block, NULL, 0);
+    while (reply.stop == OOLONG_SPENT) {
+        size_t position = first_offered(block);
+        must(position < OOLONG_FLAGS, "a run that has not ended offers nothing");
+        must(*made < MOST_MOVES, "the run does not end");
+        choices[*made] = (uint8_t)position;
+        reply = ran(block, &choices[(*made)++], 1);
+        must(reply.read == 1 && reply.moves == (reply.stop < OOLONG_FULL_OBJECTS), "what is offered does not move");
+    }
+    return reply.stop;
+}
+
+/* Every choice again, in as few calls as there can be. */
+static unsigned replay(uint8_t *block, const uint8_t *choices, size_t count) {
+    struct oolong_run_reply reply = ran(block, NULL, 0);
+    for (size_t done = 0; reply.stop == OOLONG_SPENT && done < count; done += reply.read) {
+        size_t rest = count - done;
+        reply = ran(block, choices + done, rest < OOLONG_CHOICES_MOST ? rest : OOLONG_CHOICES_MOST);
+    }
+    return reply.stop;
+}
+
+/* What is lent to Offer and to Run, and how both must refuse it. */
+struct refusal {
+    const char *what;
+    size_t script_len, block_len, flags_len, choices_len;
+    unsigned number, place;
+};
+
+static void expect_refusal(const struct refusal *r, const uint8_t *bytes) {
+    struct lent lent_script = lend_to_read(script, r->script_len), read_block = lend_to_read(bytes, r->block_len), block = lend(bytes, r->block_len);
+    struct lent flags = lend(NULL, r->flags_len), same_flags = lend(NULL, r->flags_len), choices = lend_to_read(NULL, r->choices_len);
+    struct oolong_offer_reply offered = oolong_offer(lent_script.bytes, r->script_len, read_block.bytes, r->block_len, flags.bytes, r->flags_len);
+    must(offered.number == r->number && offered.place == r->place, r->what);
+    must(memcmp(flags.bytes, same_flags.bytes, r->flags_len) == 0, "a refused Offer has written");
+    struct oolong_run_reply run = oolong_run(lent_script.bytes, r->script_len, block.bytes, r->block_len, choices.bytes, r->choices_len);
+    must(run.number == r->number && run.place == r->place && run.stop == 0 && run.read == 0 && run.moves == 0, r->what);
+    must(memcmp(block.bytes, bytes, r->block_len) == 0, "a refused Run has written");
+    struct lent all[] = {lent_script, read_block, block, flags, same_flags, choices};
+    for (size_t i = 0; i < sizeof all / sizeof *all; i++) take_back(all[i]);
+}
+
+static void refusals(const uint8_t *block) {
+    static uint8_t damaged[OOLONG_BLOCK + 1];
+    memcpy(damaged, block, OOLONG_BLOCK);
+    damaged[OOLONG_BLOCK - 1] = 1;
+    struct oolong_check_reply cut = oolong_check(script, script_len - 1);
+    const struct refusal cases[] = {
+        {"a script that is cut", script_len - 1, OOLONG_BLOCK - 1, OOLONG_FLAGS, 0, cut.number, cut.place},
+        {"a short block", script_len, OOLONG_BLOCK - 1, OOLONG_FLAGS - 1, OOLONG_CHOICES_MOST + 1, OOLONG_NO_BLOCK_LENGTH, 0},
+        {"a long block", script_len, OOLONG_BLOCK + 1, OOLONG_FLAGS, 0, OOLONG_NO_BLOCK_LENGTH, 0},
+        {"no block", script_len, 0, OOLONG_FLAGS, 0, OOLONG_NO_BLOCK_LENGTH, 0},
+        {"short flags, long choices", script_len, OOLONG_BLOCK, OOLONG_FLAGS - 1, OOLONG_CHOICES_MOST + 1, OOLONG_NO_BUFFER_LENGTH, 0},
+        {"long flags, long choices", script_len, OOLONG_BLOCK, OOLONG_FLAGS + 1, OOLONG_CHOICES_MOST + 1, OOLONG_NO_BUFFER_LENGTH, 0},
+        {"a damaged block", script_len, OOLONG_BLOCK, OOLONG_FLAGS, OOLONG_CHOICES_MOST, OOLONG_NO_BLOCK_FORM, 0},
+    };
+    for (size_t i = 0; i < sizeof cases / sizeof *cases; i++) expect_refusal(&cases[i], damaged);
+}
+
+int main(int count, char **words) {
+    static uint8_t block[OOLONG_BLOCK], again[OOLONG_BLOCK], first[OOLONG_BLOCK], choices[MOST_MOVES];
+    must(count == 3, "usage: player STOP MOVES < script");
+    script_len = fread(script, 1, sizeof script, stdin);
+    must(oolong_check(script, script_len).number == OOLONG_OK, "the script is not accepted");
+    memset(block, 0xaa, sizeof block);
+    started(block);
+    started(again);
+    must(memcmp(block, again, sizeof block) == 0, "two starts differ");
+    memcpy(first, block, sizeof block);
+
+    size_t made = 0;
+    unsigned stop = play(block, choices, &made);
+    size_t moves = made - (stop >= OOLONG_FULL_OBJECTS);
+    if (stop != (unsigned)atoi(words[1]) || moves != (size_t)atoi(words[2])) {
+        printf("FAIL  stopped with %u after %zu moves; wanted %s after %s\n", stop, moves, words[1], words[2]);
+        return EXIT_FAILURE;
+    }
+    must((first_offered(block) == OOLONG_FLAGS) == (stop < OOLONG_FULL_OBJECTS), "an ended run offers a move, or one at a full store offers none");
+    must(replay(again, choices, made) == stop && memcmp(block, again, sizeof block) == 0, "the same choices in fewer calls lead elsewhere");
+    must(memcmp(block, first, sizeof block) != 0, "nothing has moved");
+    refusals(first);
+    refusals(block);
+    return EXIT_SUCCESS;
+}

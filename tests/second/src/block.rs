@@ -1,0 +1,211 @@
+//! The state block: its bytes read as a state and written back, as docs/BLOCK.md lays them out.
+//! Reading tests every byte, so that a state has one block only.
+
+use crate::state::{
+    Binding, Closure, Environment, Focus, Frame, Object, State, Tree, Value, MOST_BINDINGS, MOST_FRAMES, MOST_OBJECTS,
+    MOST_THREADS,
+};
+use crate::types::Types;
+use std::ops::Range;
+use std::slice::Iter;
+
+/// "Is the state block 49,152 bytes?"
+pub const LENGTH: usize = 49_152;
+/// A tree with 32 threads has 31 joins.
+pub const MOST_POSITIONS: usize = 2 * MOST_THREADS - 1;
+
+/// Words of the header and of a record.
+const HEADER: usize = 4;
+const OBJECT: usize = 10;
+const BINDING: usize = 4;
+const POSITION: usize = 5;
+const FRAME: usize = 3;
+
+const OBJECTS_AT: usize = HEADER;
+const BINDINGS_AT: usize = OBJECTS_AT + OBJECT * MOST_OBJECTS;
+const POSITIONS_AT: usize = BINDINGS_AT + BINDING * MOST_BINDINGS;
+const FRAMES_AT: usize = POSITIONS_AT + POSITION * MOST_POSITIONS;
+const END: usize = FRAMES_AT + FRAME * MOST_FRAMES;
+
+/// The areas of the block, in the order of the block.
+#[derive(Clone, Copy, Debug, PartialEq, Eq, PartialOrd, Ord)]
+pub enum Area {
+    Objects,
+    Bindings,
+    Positions,
+    Frames,
+}
+
+impl Area {
+    pub const ALL: [Area; 4] = [Area::Objects, Area::Bindings, Area::Positions, Area::Frames];
+
+    /// Words of a record.
+    pub fn width(self) -> usize {
+        [OBJECT, BINDING, POSITION, FRAME][self as usize]
+    }
+
+    pub fn bytes(self) -> Range<usize> {
+        let words = [OBJECTS_AT, BINDINGS_AT, POSITIONS_AT, FRAMES_AT, END];
+        2 * words[self as usize]..2 * words[self as usize + 1]
+    }
+
+    /// The byte of the header where the number of records stands.
+    pub fn count_at(self) -> usize {
+        [0, 2, 6, 4][self as usize]
+    }
+}
+
+/// The first word of a tree position and of a frame.
+const AT_NODE: u16 = 1;
+const WITH_VALUE: u16 = 2;
+const FAILED: u16 = 3;
+const JOIN: u16 = 4;
+const WAITING: u16 = 1;
+const CAST: u16 = 2;
+const LOCK: u16 = 3;
+
+/// The state that a block of the right length holds, if each of its bytes is in order.
+/// Numbers of nodes, objects, bindings and types are well-formedness's to judge, except that an
+/// object's class says which of its words are fields.
+pub fn read(block: &[u8], types: &Types) -> Option<State> {
+    let words: Vec<u16> = block.as_chunks().0.iter().map(|pair| u16::from_le_bytes(*pair)).collect();
+    let [objects, bindings, frames, positions]: [u16; HEADER] = words[..HEADER].try_into().ok()?;
+    let objects = records::<OBJECT>(&words[OBJECTS_AT..BINDINGS_AT], objects)?;
+    let bindings = records::<BINDING>(&words[BINDINGS_AT..POSITIONS_AT], bindings)?;
+    let mut positions = records::<POSITION>(&words[POSITIONS_AT..FRAMES_AT], positions)?.iter();
+    let mut frames = records::<FRAME>(&words[FRAMES_AT..END], frames)?.iter();
+    let tree = read_tree(&mut positions, &mut frames)?;
+    let nothing_over = positions.len() == 0 && frames.len() == 0 && is_zero(&words[END..]);
+    let state = State {
+        objects: objects.iter().map(|record| read_object(record, types)).collect::<Option<_>>()?,
+        bindings: bindings.iter().map(read_binding).collect(),
+        tree,
+    };
+    nothing_over.then_some(state)
+}
+
+/// The first `count` records of an area, if it has so many and zeros behind them.
+fn records<const W: usize>(area: &[u16], count: u16) -> Option<&[[u16; W]]> {
+    let (used, rest) = area.split_at_checked(W * count as usize)?;
+    is_zero(rest).then_some(used.as_chunks().0)
+}
+
+fn is_zero(words: &[u16]) -> bool {
+    words.iter().all(|&word| word == 0)
+}
+
+/// "0 is null, n + 1 is object number n."
+fn read_value(word: u16) -> Value {
+    word.checked_sub(1).map_or(Value::Null, Value::Object)
+}
+
+/// "0 has no binding; n + 1 begins with binding number n."
+fn read_environment(word: u16) -> Environment {
+    word.checked_sub(1)
+}
+
+fn read_object(&[class, shut, ref values @ ..]: &[u16; OBJECT], types: &Types) -> Option<Object> {
+    if !types.is_class(class) || shut > 1 {
+        return None;
+    }
+    let (fields, unused) = values.split_at_checked(types.fields(class).len())?;
+    let fields = fields.iter().copied().map(read_value).collect();
+    is_zero(unused).then_some(Object { class, shut: shut == 1, fields })
+}
+
+fn read_binding(&[name, ty, value, link]: &[u16; BINDING]) -> Binding {
+    Binding { name, ty, value: read_value(value), beneath: read_environment(link) }
+}
+
+/// Takes the records of a position and of all beneath it; frames lie in the same order.
+fn read_tree(positions: &mut Iter<[u16; POSITION]>, frames: &mut Iter<[u16; FRAME]>) -> Option<Tree> {
+    let &[kind, node, environment, value, count] = positions.next()?;
+    let closure = Closure { node, environment: read_environment(environment) };
+    let frames_here = (0..count).map(|_| read_frame(frames.next()?)).collect::<Option<_>>()?;
+    let focus = match [kind, node, environment, value, count] {
+        [AT_NODE, _, _, 0, _] => Focus::Node(closure),
+        [WITH_VALUE, 0, 0, value, _] => Focus::Value(read_value(value)),
+        [FAILED, 0, 0, 0, 0] => Focus::Failed,
+        [JOIN, _, _, 0, _] => {
+            let left = read_tree(positions, frames)?;
+            let right = read_tree(positions, frames)?;
+            Focus::Join { last: closure, sides: Box::new([left, right]) }
+        }
+        _ => return None,
+    };
+    Some(Tree { frames: frames_here, focus })
+}
+
+fn read_frame(record: &[u16; FRAME]) -> Option<Frame> {
+    match *record {
+        [WAITING, node, environment] => {
+            Some(Frame::Waiting(Closure { node, environment: read_environment(environment) }))
+        }
+        [CAST, node, 0] => Some(Frame::Cast { node }),
+        [LOCK, object, 0] => Some(Frame::Lock { object }),
+        _ => None,
+    }
+}
+
+/// The block of a state that keeps the limits.
+pub fn write(state: &State) -> Vec<u8> {
+    let (mut positions, mut frames) = (vec![], vec![]);
+    for position in state.tree.positions() {
+        positions.push(position_record(position.tree));
+        frames.extend(position.tree.frames.iter().map(frame_record));
+    }
+    let objects: Vec<[u16; OBJECT]> = state.objects.iter().map(object_record).collect();
+    let bindings: Vec<[u16; BINDING]> = state.bindings.iter().map(binding_record).collect();
+    let mut words = [0; LENGTH / 2];
+    let mut put = |at: usize, records: &[u16]| words[at..at + records.len()].copy_from_slice(records);
+    let counts = [objects.len(), bindings.len(), frames.len(), positions.len()].map(|count| count as u16);
+    put(0, &counts);
+    put(OBJECTS_AT, objects.as_flattened());
+    put(BINDINGS_AT, bindings.as_flattened());
+    put(POSITIONS_AT, positions.as_flattened());
+    put(FRAMES_AT, frames.as_flattened());
+    words.into_iter().flat_map(u16::to_le_bytes).collect()
+}
+
+fn value_word(value: Value) -> u16 {
+    match value {
+        Value::Null => 0,
+        Value::Object(object) => object + 1,
+    }
+}
+
+fn environment_word(environment: Environment) -> u16 {
+    environment.map_or(0, |nearest| nearest + 1)
+}
+
+fn object_record(object: &Object) -> [u16; OBJECT] {
+    let mut record = [0; OBJECT];
+    record[0] = object.class;
+    record[1] = object.shut.into();
+    for (word, field) in record[2..].iter_mut().zip(&object.fields) {
+        *word = value_word(*field);
+    }
+    record
+}
+
+fn binding_record(binding: &Binding) -> [u16; BINDING] {
+    [binding.name, binding.ty, value_word(binding.value), environment_word(binding.beneath)]
+}
+
+fn position_record(tree: &Tree) -> [u16; POSITION] {
+    let frames = tree.frames.len() as u16;
+    match &tree.focus {
+        Focus::Node(at) => [AT_NODE, at.node, environment_word(at.environment), 0, frames],
+        Focus::Value(value) => [WITH_VALUE, 0, 0, value_word(*value), frames],
+        Focus::Failed => [FAILED, 0, 0, 0, frames],
+        Focus::Join { last, .. } => [JOIN, last.node, environment_word(last.environment), 0, frames],
+    }
+}
+
+fn frame_record(frame: &Frame) -> [u16; FRAME] {
+    match *frame {
+        Frame::Waiting(at) => [WAITING, at.node, environment_word(at.environment)],
+        Frame::Cast { node } => [CAST, node, 0],
+        Frame::Lock { object } => [LOCK, object, 0],
+    }
+}

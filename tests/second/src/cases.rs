@@ -1,0 +1,82 @@
+//! Scripts with blocks to lend to Offer and Run, for comparing two implementations.
+
+use crate::block;
+use crate::block_damage::{damage, Edit};
+use crate::configure::configuration;
+use crate::generate::{any, long_running, well_typed, Rng};
+use crate::program::Program;
+use crate::state::State;
+use crate::walk::{reachable, walk};
+use crate::{FLAGS, MOST_CHOICES};
+
+/// How a block came to be.
+#[derive(Clone, Copy, Debug, PartialEq, Eq, PartialOrd, Ord)]
+pub enum Origin {
+    /// A run from the start led to it.
+    Reached,
+    /// Well formed, but made without running.
+    Made,
+    /// One of these with an edit.
+    Damaged(Edit),
+    /// A buffer of a wrong length, or a script that may be refused.
+    Unfit,
+}
+
+/// What is lent to a call, and how the block came to be.
+pub struct Case {
+    pub script: Vec<u8>,
+    pub block: Vec<u8>,
+    /// For Run: they lead on from the block where it is in order.
+    pub choices: Vec<u8>,
+    /// For Offer, with bytes that it must write over or leave alone.
+    pub flags: Vec<u8>,
+    pub origin: Origin,
+}
+
+/// Any case worth trying.
+pub fn any_case(rng: &mut Rng) -> Case {
+    let script = if rng.one_in(4) { well_typed(rng) } else { long_running(rng) };
+    let Ok(program) = Program::read(&script) else { unreachable!("these scripts are accepted") };
+    let made = rng.one_in(2);
+    let state = if made { configuration(&program, rng) } else { reachable(&program, rng) };
+    let origin = if made { Origin::Made } else { Origin::Reached };
+    let (choices, flags) = (choices(&program, &state, rng), vec![rng.bits() as u8; FLAGS]);
+    let mut case = Case { script, block: block::write(&state), choices, flags, origin };
+    match rng.below(16) {
+        0 => make_unfit(&mut case, rng),
+        1..=7 => {
+            if let Some(edit) = damage(&mut case.block, rng) {
+                case.origin = Origin::Damaged(edit);
+            }
+        }
+        _ => {}
+    }
+    case
+}
+
+/// A choice list of any length, made to lead on from the state.
+pub fn choices(program: &Program, state: &State, rng: &mut Rng) -> Vec<u8> {
+    let most = [2, 10, 100, 1_000, MOST_CHOICES][[0, 0, 1, 1, 1, 2, 2, 2, 3, 4][rng.below(10)]];
+    let count = rng.below(most + 1);
+    walk(program, state.clone(), count, rng).0
+}
+
+/// One or more of the buffers are such that a question about them gets a no.
+fn make_unfit(case: &mut Case, rng: &mut Rng) {
+    case.origin = Origin::Unfit;
+    if rng.one_in(3) {
+        case.script = any(rng);
+    }
+    if rng.one_in(2) {
+        let length = [0, 1, block::LENGTH - 1, block::LENGTH + 1][rng.below(4)];
+        case.block.resize(length, 0);
+    }
+    if rng.one_in(2) {
+        case.choices.resize(MOST_CHOICES + 1, 0);
+        let length = [0, FLAGS - 1, FLAGS + 1][rng.below(3)];
+        case.flags.resize(length, 0);
+    }
+    if rng.one_in(2) {
+        damage(&mut case.block, rng);
+    }
+}

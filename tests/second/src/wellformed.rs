@@ -1,0 +1,148 @@
+//! Question 21: "Is the block a well-formed configuration of this script?" Figure 7, read as
+//! document 01's paragraph on the block says.
+
+use crate::expr::Expr;
+use crate::program::Program;
+use crate::state::{Binding, Closure, Environment, Focus, Frame, Object, State, Tree, Value};
+use crate::types::{Type, UNIT};
+use crate::typing::Typer;
+use std::collections::HashSet;
+
+/// What the surroundings of a value ask of it.
+#[derive(Clone, Copy, Debug, PartialEq, Eq)]
+enum Want {
+    Below(Type),
+    /// "To any type at an async."
+    Anything,
+}
+
+/// Whether a state that a block was read as is well formed.
+pub fn well_formed(program: &Program, state: &State) -> bool {
+    let judge = Judge { program, state };
+    // Bindings come before the tree: typing follows their links.
+    state.objects.iter().all(|object| judge.object_fits(object))
+        && (0u16..).zip(&state.bindings).all(|(index, binding)| judge.binding_fits(index, binding))
+        && judge.tree_fits(&state.tree, Want::Below(program.start_type))
+        && judge.locks_fit()
+}
+
+/// A state under judgement.
+struct Judge<'a> {
+    program: &'a Program,
+    state: &'a State,
+}
+
+impl<'a> Judge<'a> {
+    /// WF-FIELDS: each field's value is of the declared type.
+    fn object_fits(&self, object: &Object) -> bool {
+        let declared = self.program.types.fields(object.class);
+        declared.iter().zip(&object.fields).all(|(&[_, ty], &value)| self.value_fits(value, Want::Below(ty)))
+    }
+
+    /// WF-VARS: the value is of the type; and "links run to earlier bindings".
+    fn binding_fits(&self, index: u16, binding: &Binding) -> bool {
+        self.program.types.is_type(binding.ty)
+            && self.value_fits(binding.value, Want::Below(binding.ty))
+            && binding.beneath.is_none_or(|beneath| beneath < index)
+    }
+
+    /// WF-NULL and WF-LOC: null is of every type, an object of those that its class is below.
+    fn value_fits(&self, value: Value, want: Want) -> bool {
+        let Value::Object(object) = value else {
+            return true;
+        };
+        let Some(object) = self.state.objects.get(object as usize) else {
+            return false;
+        };
+        self.meets(object.class, want)
+    }
+
+    fn meets(&self, ty: Type, want: Want) -> bool {
+        match want {
+            Want::Below(upper) => self.program.types.below(ty, upper),
+            Want::Anything => true,
+        }
+    }
+
+    /// WF-T-ASYNC, WF-T-THREAD and WF-T-EXN. Each frame hands on what it wants itself.
+    fn tree_fits(&self, tree: &Tree, want: Want) -> bool {
+        let innermost = tree.frames.iter().try_fold(want, |want, frame| self.awaited(frame, want));
+        let Some(want) = innermost else {
+            return false;
+        };
+        match &tree.focus {
+            Focus::Node(at) => self.node_fits(*at, want),
+            Focus::Value(value) => self.value_fits(*value, want),
+            Focus::Failed => true,
+            Focus::Join { last, sides } => {
+                self.node_fits(*last, want) && sides.iter().all(|side| self.tree_fits(side, Want::Anything))
+            }
+        }
+    }
+
+    /// Γ ⊢ e ⇐ t. A null, which has no inferred type, is also fit where anything is.
+    fn node_fits(&self, at: Closure, want: Want) -> bool {
+        let (Some(expr), Some(mut typer)) = (self.expression(at.node), self.typer(at.environment)) else {
+            return false;
+        };
+        match want {
+            Want::Below(ty) => typer.check(at.node, ty).is_ok(),
+            Want::Anything => matches!(expr, Expr::Null) || typer.infer(at.node).is_ok(),
+        }
+    }
+
+    /// What a frame waits for, if the frame is one and gives what is wanted of it.
+    fn awaited(&self, frame: &Frame, want: Want) -> Option<Want> {
+        let (gives, takes) = match *frame {
+            Frame::Lock { object } => return (usize::from(object) < self.state.objects.len()).then_some(want),
+            Frame::Cast { node } => match self.expression(node)? {
+                Expr::Cast { ty, .. } => (ty, ty),
+                _ => return None,
+            },
+            Frame::Waiting(at) => self.gives_and_takes(at)?,
+        };
+        self.meets(gives, want).then_some(Want::Below(takes))
+    }
+
+    /// The type of a write, call or let, and that of the value it waits for. The part that has
+    /// run is not asked again; a let's first part is, since its type is the variable's.
+    fn gives_and_takes(&self, at: Closure) -> Option<(Type, Type)> {
+        let mut typer = self.typer(at.environment)?;
+        match self.expression(at.node)? {
+            Expr::Write { target, field, .. } => {
+                let class = typer.variable(target)?;
+                Some((UNIT, self.program.types.field(class, field)?))
+            }
+            Expr::Call { target, method, .. } => {
+                let ty = typer.variable(target)?;
+                let signature = self.program.types.method(ty, method)?;
+                Some((signature.result, signature.parameter))
+            }
+            Expr::Let { bound, .. } => Some((typer.infer(at.node).ok()?, typer.infer(bound).ok()?)),
+            _ => None,
+        }
+    }
+
+    fn expression(&self, node: u16) -> Option<Expr> {
+        self.program.expressions.get(node as usize).copied()
+    }
+
+    /// Typing under these bindings, if there are such; links must have been judged before.
+    fn typer(&self, environment: Environment) -> Option<Typer<'a>> {
+        let exists = environment.is_none_or(|nearest| usize::from(nearest) < self.state.bindings.len());
+        let bindings = || self.state.bindings_of(environment).map(|binding| (binding.name, binding.ty));
+        exists.then(|| self.program.typer().with(bindings()))
+    }
+
+    /// "All lock frames name distinct objects, each of them shut", and "with no failed thread no
+    /// other objects are shut". So held objects are distinct, whoever holds them.
+    fn locks_fit(&self) -> bool {
+        let positions = self.state.tree.positions();
+        let mut locked = HashSet::new();
+        let distinct = positions.iter().flat_map(|position| position.tree.locks()).all(|object| locked.insert(object));
+        let shut = |object: u16| self.state.objects.get(object as usize).is_some_and(|object| object.shut);
+        let others_shut = self.state.objects.iter().filter(|object| object.shut).count() > locked.len();
+        let some_failed = positions.iter().any(|position| position.tree.is_failed());
+        distinct && locked.iter().all(|&object| shut(object)) && (some_failed || !others_shut)
+    }
+}
