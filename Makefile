@@ -1,6 +1,7 @@
 # make           build/: the library, its header and the checking program, ready to take away
 # make demo      the checking program on every sample script, with what each shows
 # make test      the whole test run, which is the gate
+# make quick     for daily work: what has changed since it was last proved, proved and compiled, and the short tests; no must-fail edit
 # make install   into PREFIX (default /usr/local): lib/liboolong.a, include/oolong.h, bin/oolong_check
 # make bench     the speed of Check and Run beside the second implementation's
 # make clean     removes build/ and target/
@@ -10,7 +11,7 @@ CFLAGS ?= -O2
 CFLAGS += -std=c11 -D_DEFAULT_SOURCE -Wall -Wextra -Werror
 SOURCES := crates.txt $(shell find crates -type f)
 
-.PHONY: all test demo install bench clean
+.PHONY: all test quick demo install bench clean
 
 all: build/lib/liboolong.a build/include/oolong.h build/bin/oolong_check
 
@@ -42,6 +43,9 @@ demo: build/bin/oolong_check build/bin/words
 
 test:
 	@tests/run
+
+quick:
+	@tests/run quick
 
 install: all
 	install -d $(DESTDIR)$(PREFIX)/lib $(DESTDIR)$(PREFIX)/include $(DESTDIR)$(PREFIX)/bin

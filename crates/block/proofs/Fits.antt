@@ -4,7 +4,7 @@ use mathlib.Core.List.{List, [], _∷_, List·Memᴰ·head, List·Memᴰ·tail, 
 use mathlib.Core.Logic.{⊎-elim}
 use Prim.Native.Nat.{ℕ, zero, suc, _*_, _%_, _/_, _<_, _≤_}
 use native.Mathlib.Omega.{arith}
-use lib.ListN.{length}
+use lib.ListN.{length, getD}
 use Rattle.words.specs.Word.{WORD, bytes}
 use Rattle.limits.specs.Limits.{CLASS-FIELDS}
 use Rattle.script.specs.Lists.{_∈_}
@@ -111,3 +111,9 @@ laid-words p few os bs ts fs =
 
     in-area : (a : Area) → AllWords (area a (rows p a))
     in-area a = filled-words (width a * most a) (flatten (rows p a)) (flatten-words (rows p a) (row-words a))
+
+-- bytes, each of them below 256, by number
+pub all-small : (xs : List ℕ) → ((x : ℕ) → x ∈ xs → x < 256) → (i : ℕ) → getD xs i 0 < 256
+all-small [] h i = omega arith
+all-small (x ∷ xs) h zero = h x (List·Memᴰ·head refl)
+all-small (x ∷ xs) h (suc i) = all-small xs (λ y m. h y (List·Memᴰ·tail m)) i

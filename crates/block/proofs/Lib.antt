@@ -1,13 +1,5 @@
 pub mod Rows
 pub mod Trees
 pub mod Words
-pub mod Shows
 pub mod Fits
 pub mod Decode
-pub mod Changes
-pub mod Start
-pub mod Growing
-pub mod InOrder
-pub mod Ordered
-pub mod Places
-pub mod Preorder

@@ -2,10 +2,9 @@
 use Prim.Native.Nat.{ℕ, suc, _*_}
 use mathlib.Core.Bool.{Bool, true, false}
 use mathlib.Core.List.{List, [], _∷_, _++_, map, flatMap, flatten, reverse}
-use lib.ListN.{length, getD, set}
+use lib.ListN.{length}
 use Rattle.words.specs.Word.{bytes}
 use Rattle.limits.specs.Limits.{CLASS-FIELDS}
-use Rattle.script.specs.Lists.{sumBelow}
 use Rattle.machine.specs.declared.Value.{Value}
 use Rattle.machine.specs.declared.Value.the-variants.{Null as nil, Ref as ref}
 use Rattle.machine.specs.declared.Frame.{Frame}
@@ -57,18 +56,14 @@ positionWords (join fs p e l r) = JOIN ∷ p ∷ e ∷ 0 ∷ length fs ∷ []
 unfoldable pub framesOf : Tree → List Frame
 framesOf t = flatMap (λ s. reverse (waiting s)) (preorder t)
 
--- Where the frames of position i begin: after those of the positions before it.
-abbrev pub frameStart : Tree → ℕ → ℕ
-frameStart t i = sumBelow (λ n. length (waiting (getD (preorder t) n failed))) i
-
 -- A frame: what it is, and its node and environment, its node, or its object.
 abbrev pub frameWords : Frame → List ℕ
 frameWords (awaits p e) = AWAITS ∷ p ∷ e ∷ []
 frameWords (casts p) = CASTS ∷ p ∷ 0 ∷ []
 frameWords (locks o) = LOCKS ∷ o ∷ 0 ∷ []
 
--- What lies in a block, area by area: objects, bindings in the order in which they were made, positions and frames. While Run moves, frames are those of the tree in hand
--- and positions still those written last, so laws are about parts; those of a configuration are its own.
+-- What lies in a block, area by area: objects, bindings in the order in which they were made, positions and frames. While Run moves, frames are those of the
+-- tree in hand and positions still those written last, so laws are about parts; those of a configuration are its own.
 pub record Parts : Type 0 where
   pub objects : List Object
   pub bindings : List Binding
@@ -83,23 +78,6 @@ partsOf c =
       positions = preorder (c .tree);
       frames = framesOf (c .tree);
     }
-
--- Parts with other objects, other bindings, or other frames.
-abbrev pub withObjects : Parts → List Object → Parts
-withObjects p os = record { objects = os; bindings = p .bindings; positions = p .positions; frames = p .frames }
-
-abbrev pub withBindings : Parts → List Binding → Parts
-withBindings p bs = record { objects = p .objects; bindings = bs; positions = p .positions; frames = p .frames }
-
-abbrev pub withFrames : Parts → List Frame → Parts
-withFrames p fs = record { objects = p .objects; bindings = p .bindings; positions = p .positions; frames = fs }
-
--- An object opened or shut, and one with another value in field k.
-abbrev pub withShut : Object → Bool → Object
-withShut o b = record { class = o .class; shut = b; fields = o .fields }
-
-abbrev pub withField : Object → ℕ → Value → Object
-withField o k v = record { class = o .class; shut = o .shut; fields = set (o .fields) k v }
 
 -- The records of an area as rows of words.
 abbrev pub rows : Parts → Area → List (List ℕ)

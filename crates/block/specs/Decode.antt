@@ -40,7 +40,8 @@ planted r fs ts =
     (cond (eqb (getD r 0 0) JOIN) (join fs (getD r 1 0) (getD r 2 0) (getD ts 0 failed) (getD ts 1 failed) ∷ drop 2 ts)
     (failed ∷ ts)))
 
--- The trees that positions form, from the last position to the first, and the frames that are left. Frames come last one first, so each position takes its own from the front.
+-- The trees that positions form, from the last position to the first, and the frames that are left. Frames come last one first, so each position takes its own
+-- from the front.
 pub record Grove : Type 0 where
   pub trees : List Tree
   pub frames : List Frame
@@ -65,7 +66,8 @@ same [] (y ∷ ys) = false
 same (x ∷ xs) [] = false
 same (x ∷ xs) (y ∷ ys) = eqb x y && same xs ys
 
--- A block is in order if the configuration read from it fits and has this very block. That this is to say that counts are within the limits, kinds are known, the positions
--- form one tree with the counted positions and frames, and "bytes with no meaning are 0", is proved: `in-order-decodes`, `decoded-in-order` (InOrder.antt has it word by word).
+-- A block is in order if the configuration read from it fits and has this very block. That this is to say that counts are within the limits, kinds are known,
+-- the positions form one tree with the counted positions and frames, and "bytes with no meaning are 0", is proved: `in-order-decodes`, `decoded-in-order`
+-- (InOrder.antt has it word by word).
 unfoldable pub decode : (ℕ → ℕ) → List ℕ → Option Config
 decode fieldCount b = let c = configIn fieldCount b in cond (fitsTest fieldCount c && same (encode c) b) (some c) none

@@ -13,8 +13,8 @@ use Rattle.machine.specs.Config.{Object, Config}
 use Rattle.block.specs.Layout.{Area, Objects, Bindings, Positions, Frames, most}
 use Rattle.block.specs.Block.{Parts, partsOf, rows, blockWords}
 
--- "at most 256 objects (class, open or shut, fields), 2,048 variable bindings (name, type, value, the binding beneath), 2,048 waiting frames in all, and a tree of joins
--- with at most 32 threads", which is one with at most 63 positions (`positions-threads`).
+-- "at most 256 objects (class, open or shut, fields), 2,048 variable bindings (name, type, value, the binding beneath), 2,048 waiting frames in all, and a tree
+-- of joins with at most 32 threads", which is one with at most 63 positions (`positions-threads`).
 abbrev pub Few : Parts → Type 0
 Few p = (a : Area) → length (rows p a) ≤ most a
 

@@ -1,8 +1,7 @@
 -- Records as rows of words in a fixed place. "bytes with no meaning are 0"
-use Prim.Native.Nat.{ℕ, zero, suc, _+_}
+use Prim.Native.Nat.{ℕ, zero, suc}
 use mathlib.Core.List.{List, [], _∷_}
 use lib.ListN.{getD}
-use Rattle.words.specs.Word.{putWord}
 
 -- Exactly n words: those of the list, and zeros after them.
 unfoldable pub filled : ℕ → List ℕ → List ℕ
@@ -13,8 +12,3 @@ filled (suc n) (w ∷ ws) = w ∷ filled n ws
 -- Word j of row i, and 0 where there is no such row.
 abbrev pub cell : List (List ℕ) → ℕ → ℕ → ℕ
 cell rows i j = getD (getD rows i []) j 0
-
--- The bytes with the words vs from byte `at` on.
-abbrev pub putWords : List ℕ → ℕ → List ℕ → List ℕ
-putWords b at [] = b
-putWords b at (v ∷ vs) = putWords (putWord b at v) (at + 2) vs

@@ -13,12 +13,12 @@ use Rattle.machine.specs.declared.Store.{Store}
 use Rattle.machine.specs.declared.Stop.the-variants.{Full}
 use Rattle.machine.specs.Stops.{stopNumber}
 use Rattle.machine.specs.Config.{Config, codeOf}
-use Rattle.machine.specs.Machine.{limits, full, Path, move}
-use Rattle.machine.specs.ReadAs.{Reading, reading, Steps}
-use Rattle.machine.specs.Silent.{part, quietIn}
+use Rattle.machine.specs.Machine.{limits, full, Path, move, part}
+use Rattle.published.specs.ReadAs.{Reading, reading, Steps}
+use Rattle.machine.specs.Silent.{quietIn}
 use Rattle.machine.specs.Runs.{report}
-use Rattle.machine.specs.Reach.{site, OneRun}
-use Rattle.machine.proofs.Reached.{steps-reached}
+use Rattle.published.specs.Reach.{site, OneRun}
+use Rattle.published.proofs.Reached.{steps-reached}
 use Rattle.calls.specs.Answers.{Holds, ReachedBy}
 use Rattle.calls.proofs.Answers.{accepts}
 use Rattle.calls.proofs.Replies.{run-reply, run-holds}

@@ -25,7 +25,7 @@ use Rattle.machine.specs.Config.{codeOf}
 use Rattle.machine.specs.Machine.{limits, phase, move, choice, initial}
 use Rattle.machine.specs.WellFormed.{shutAt}
 use Rattle.machine.specs.Runs.{Report, look, report}
-use Rattle.block.proofs.Ordered.{all-small}
+use Rattle.block.proofs.Fits.{all-small}
 use Rattle.calls.specs.Calls.{startAsked, startOf, ran}
 use Rattle.calls.specs.Samples.{Trial, Sample, Tried, Sampled, nodesAlone, nodesWithClass, nodesWithField, samples}
 use Rattle.calls.proofs.Replies.{start-writes, run-reply, run-holds}

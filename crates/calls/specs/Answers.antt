@@ -19,9 +19,9 @@ use Rattle.machine.specs.Config.{Config, codeOf}
 use Rattle.machine.specs.Machine.{limits, full, Path, move, initial}
 use Rattle.machine.specs.WellFormed.{WellFormed}
 use Rattle.machine.specs.Runs.{Report, report, Runs, Stopped}
-use Rattle.machine.specs.ReadAs.{Reading, reading}
+use Rattle.published.specs.ReadAs.{Reading, reading}
 use Rattle.machine.specs.Short.{StopsShort}
-use Rattle.machine.specs.Reach.{OneRun}
+use Rattle.published.specs.Reach.{OneRun}
 use Rattle.block.specs.Block.{encode}
 use Rattle.calls.specs.declared.LentQuestion.the-variants.{BlockLength, BufferLength, BlockForm}
 use Rattle.calls.specs.Calls.{lentNumber, Started, Offered, flagsOf, Ran, ran, runOf}
@@ -88,8 +88,8 @@ pub record KeepsBytes (before after : List ℕ) : Type 0 where
   pub long : length after ≡ length before
   pub small : ((x : ℕ) → x ∈ before → x < 256) → (x : ℕ) → x ∈ after → x < 256
 
--- "each open published step can be reached by choices, unless a store is full": one Run from a block that holds c to one that reads as q, with the machine's silent choices and then the one for the
--- published step at the place p.
+-- "each open published step can be reached by choices, unless a store is full": one Run from a block that holds c to one that reads as q, with the machine's
+-- silent choices and then the one for the published step at the place p.
 pub record ReachedBy (s : List ℕ) (t : ℕ) (b : List ℕ) (c : Config) (q : Reading) (p : Path) : Type 0 where
   pub by : OneRun (codeOf s) limits c q p
   pub choices : List ℕ

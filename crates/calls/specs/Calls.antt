@@ -1,5 +1,5 @@
--- Start, Offer and Run on byte lists (Check is `checkOf`): each gives its reply's numbers and every lent byte that the call may write, for all inputs. The script and the
--- choices are lent to be read only.
+-- Start, Offer and Run on byte lists (Check is `checkOf`): each gives its reply's numbers and every lent byte that the call may write, for all inputs. The
+-- script and the choices are lent to be read only.
 use Prim.Native.Nat.{ℕ}
 use mathlib.Core.Bool.{Bool, true, false}
 use mathlib.Core.List.{List}
@@ -32,8 +32,8 @@ abbrev pub askScript : Verdict → (ℕ → Questioned) → Questioned
 askScript (Accepted t) next = next t
 askScript (Refused q place) next = no-at (numberOf q) place
 
--- "Is the state block 49,152 bytes? 20", "Is the choice list at most 4,096 bytes (Run), or the flag buffer exactly 63 (Offer)? 22", "Is the block a well-formed configuration of this
--- script? 21"
+-- "Is the state block 49,152 bytes? 20", "Is the choice list at most 4,096 bytes (Run), or the flag buffer exactly 63 (Offer)? 22", "Is the block a well-formed
+-- configuration of this script? 21"
 abbrev pub lentNumber : LentQuestion → ℕ
 lentNumber BlockLength = 20
 lentNumber BufferLength = 22

@@ -32,11 +32,13 @@ NotToStart to-start = ⊥
 NotToStart (to-offer fl) = Unit {0}
 NotToStart (to-run ns) = Unit {0}
 
--- `Had s Past b calls e`: the list, begun at block b and followed past such calls, has block e "at the first block, at every point between moves .., and after every call".
+-- `Had s Past b calls e`: the list, begun at block b and followed past such calls, has block e "at the first block, at every point between moves .., and after
+-- every call".
 pub data Had (s : List ℕ) (Past : Lent → Type 0) : List ℕ → List Lent → List ℕ → Type 0 where
   first-block : {b : List ℕ} {calls : List Lent} → Had s Past b calls b
   -- "the block that it would leave with only its first n choices, for each n from 0 to the choices read"
-  between-moves : {b : List ℕ} {calls : List Lent} (ns : List ℕ) (n : ℕ) → n ≤ runOf s b ns .read → Had s Past b (to-run ns ∷ calls) (runOf s b (take n ns) .block)
+  between-moves : {b : List ℕ} {calls : List Lent} (ns : List ℕ) (n : ℕ) → n ≤ runOf s b ns .read
+      → Had s Past b (to-run ns ∷ calls) (runOf s b (take n ns) .block)
   after-call : {b e : List ℕ} {calls : List Lent} (call : Lent) → Past call → Had s Past (blockAfter s b call) calls e → Had s Past b (call ∷ calls) e
 
 -- `HadLater s b calls d e`: the list, begun at block b, has block d, and at that point or later, with no Start between, block e.
@@ -57,7 +59,8 @@ pub data HadNext (s : List ℕ) : List ℕ → List Lent → List ℕ → List �
   one-start : {b : List ℕ} {calls : List Lent} → HadNext s b (to-start ∷ calls) b (startOf s b .block)
   next-after : {b d e : List ℕ} {calls : List Lent} (call : Lent) → HadNext s (blockAfter s b call) calls d e → HadNext s b (call ∷ calls) d e
 
--- What demand 3 claims of a block that the list has: it is 49,152 bytes, and stands for a configuration that is well formed and of which the machine's claim holds.
+-- What demand 3 claims of a block that the list has: it is 49,152 bytes, and stands for a configuration that is well formed and of which the machine's claim
+-- holds.
 pub record ClaimedOf (s : List ℕ) (t : ℕ) (b : List ℕ) : Type 0 where
   pub config : Config
   pub holds : Holds s t b config

@@ -16,8 +16,8 @@ use Rattle.machine.specs.WellFormed.{shutAt, WellFormed}
 use Rattle.block.specs.Block.{encode}
 use Rattle.calls.specs.Calls.{startOf, runOf}
 
--- A Run right after Start: its choices; the stop, choices read and moves made that it returns; and of the configuration that it leaves, how the root stands, how many objects
--- there are, and 1 where object 0 is shut.
+-- A Run right after Start: its choices; the stop, choices read and moves made that it returns; and of the configuration that it leaves, how the root stands,
+-- how many objects there are, and 1 where object 0 is shut.
 pub record Trial : Type 0 where
   pub choices : List ℕ
   pub stop : ℕ
@@ -33,15 +33,16 @@ pub record Sample : Type 0 where
   pub verdict : Verdict
   pub trials : List Trial
 
--- What is said of a trial of the script s begun on block b: Start is not refused and writes the initial block; Run on that block is not refused, returns the trial's numbers and leaves
--- the block of a well-formed configuration that stands as the trial says.
+-- What is said of a trial of the script s begun on block b: Start is not refused and writes the initial block; Run on that block is not refused, returns the
+-- trial's numbers and leaves the block of a well-formed configuration that stands as the trial says.
 pub record Tried (s b : List ℕ) (x : Trial) : Type 0 where
   pub started : startOf s b ≡ record { number = 0; place = 0; block = encode initial }
   pub type : ℕ
   pub accepted : checkOf s ≡ Accepted type
   pub config : Config
   pub well : WellFormed (codeOf s) limits type config
-  pub ran : runOf s (startOf s b .block) (x .choices) ≡ record { number = 0; place = 0; stop = x .stop; read = x .read; moves = x .moves; block = encode config }
+  pub ran : runOf s (startOf s b .block) (x .choices)
+      ≡ record { number = 0; place = 0; stop = x .stop; read = x .read; moves = x .moves; block = encode config }
   pub root : phase (config .tree) ≡ x .root
   pub objects : length (config .stores .objects) ≡ x .objects
   pub shut : shutAt (config .stores .objects) 0 ≡ x .shut
@@ -125,18 +126,21 @@ samples =
       verdict = Accepted 2;
       trials = record { choices = times 5 0 (times 3 1 []); stop = 3; read = 8; moves = 8; root = busy; objects = 1; shut = 1 } ∷ [];
     } ∷
-    -- "An alias y = x, fork{lock x in x}{lock y in y}: accepted; each waits while the other holds.": one async takes the lock, and the other is passed over, both ways round.
+    -- "An alias y = x, fork{lock x in x}{lock y in y}: accepted; each waits while the other holds.": one async takes the lock, and the other is passed over,
+    -- both ways round.
     record {
       script =
           nodesWithClass
-          (5 ∷ 2 ∷ 1 ∷ 2 ∷ 6 ∷ 2 ∷ 0 ∷ 0 ∷ 5 ∷ 3 ∷ 3 ∷ 4 ∷ 1 ∷ 2 ∷ 0 ∷ 0 ∷ 8 ∷ 5 ∷ 6 ∷ 7 ∷ 9 ∷ 2 ∷ 8 ∷ 0 ∷ 9 ∷ 3 ∷ 9 ∷ 0 ∷ 1 ∷ 2 ∷ 0 ∷ 0 ∷ 1 ∷ 2 ∷ 0 ∷ 0 ∷ 1 ∷ 3 ∷ 0 ∷ 0 ∷ []);
+          (5 ∷ 2 ∷ 1 ∷ 2 ∷ 6 ∷ 2 ∷ 0 ∷ 0 ∷ 5 ∷ 3 ∷ 3 ∷ 4 ∷ 1 ∷ 2 ∷ 0 ∷ 0
+          ∷ 8 ∷ 5 ∷ 6 ∷ 7 ∷ 9 ∷ 2 ∷ 8 ∷ 0 ∷ 9 ∷ 3 ∷ 9 ∷ 0 ∷ 1 ∷ 2 ∷ 0 ∷ 0 ∷ 1 ∷ 2 ∷ 0 ∷ 0 ∷ 1 ∷ 3 ∷ 0 ∷ 0 ∷ []);
       verdict = Accepted 2;
       trials =
           record { choices = times 7 0 (1 ∷ 2 ∷ []); stop = 0; read = 9; moves = 8; root = busy; objects = 1; shut = 1 } ∷
           record { choices = times 7 0 (2 ∷ 1 ∷ []); stop = 0; read = 9; moves = 8; root = busy; objects = 1; shut = 1 } ∷
           [];
     } ∷
-    -- Not starred: "A write to null whose value is `new C`: one object, then failed." It is let x = (C)null in x.0 = new C; after move 7 there is the object, move 8 fails.
+    -- Not starred: "A write to null whose value is `new C`: one object, then failed." It is let x = (C)null in x.0 = new C; after move 7 there is the object,
+    -- move 8 fails.
     record {
       script = nodesWithField (5 ∷ 2 ∷ 1 ∷ 2 ∷ 7 ∷ 2 ∷ 3 ∷ 0 ∷ 3 ∷ 2 ∷ 0 ∷ 4 ∷ 0 ∷ 0 ∷ 0 ∷ 0 ∷ 6 ∷ 2 ∷ 0 ∷ 0 ∷ []);
       verdict = Accepted 0;

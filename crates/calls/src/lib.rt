@@ -3,8 +3,8 @@ mod numbers;
 
 pub use numbers::lent_number;
 
-// The questions about what is lent beside the script: "Is the state block 49,152 bytes?", "Is the choice list at most 4,096 bytes (Run), or the flag buffer exactly 63 (Offer)?" and
-// "Is the block a well-formed configuration of this script?", in the order in which they are asked.
+// The questions about what is lent beside the script: "Is the state block 49,152 bytes?", "Is the choice list at most 4,096 bytes (Run), or the flag buffer
+// exactly 63 (Offer)?" and "Is the block a well-formed configuration of this script?", in the order in which they are asked.
 pub enum LentQuestion {
     BlockLength,
     BufferLength,

@@ -18,8 +18,8 @@ use Rattle.machine.specs.Machine.{limits}
 use Rattle.machine.specs.Runs.{report}
 use Rattle.calls.specs.declared.LentQuestion.the-variants.{BlockLength, BufferLength, BlockForm}
 use Rattle.calls.specs.Calls.{lentNumber, configOf, askForm, blockAsked, ranFrom, runOf}
-use Rattle.play.specs.declared.Played.{Played}
-use Rattle.play.specs.Plays.{Reported, Plays}
+use Rattle.replies.specs.declared.Played.{Played}
+use Rattle.replies.specs.Plays.{Reported, Plays}
 use Rattle.engine.proofs.Replies.{accepts}
 use Rattle.engine.specs.declared.run.RunReply.{RunReply}
 

@@ -1,5 +1,4 @@
 // Check.
-use script::Question;
 use typing::Verdict;
 ghost use mathlib.Core.Path.{_≡_};
 ghost use Rattle.typing.specs.Check.{checkOf, verdictNumber, verdictPlace, verdictType};
@@ -19,7 +18,7 @@ pub extern "C" fn oolong_check(script: &[u8]) -> CheckReply
     ensures place { λ r. ⌜ r .place ≡ verdictPlace (checkOf (now (script .entry))) ⌝ }
     ensures start_type { λ r. ⌜ r .«start_type» ≡ verdictType (checkOf (now (script .entry))) ⌝ }
 {
-    let v = typing::verdict_of(script);
+    let v = checker::verdict_of(script);
     match v {
         Verdict::Accepted(t) => CheckReply {
             number: 0,

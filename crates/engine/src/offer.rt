@@ -34,7 +34,7 @@ pub extern "C" fn oolong_offer(script: &[u8], block: &[u8], flags: &mut [u8]) ->
         let number = calls::lent_number(LentQuestion::BufferLength);
         return OfferReply { number, place: 0 };
     }
-    if !play::offer(script, checked.start_type, block, flags) {
+    if !replies::offer(script, checked.start_type, block, flags) {
         let number = calls::lent_number(LentQuestion::BlockForm);
         return OfferReply { number, place: 0 };
     }

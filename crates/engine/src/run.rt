@@ -48,7 +48,7 @@ pub extern "C" fn oolong_run(script: &[u8], block: &mut [u8], choices: &[u8]) ->
     if Limits::CHOICES < choices.len() {
         return refusal(calls::lent_number(LentQuestion::BufferLength), 0);
     }
-    let played = play::run(script, checked.start_type, block, choices);
+    let played = replies::run(script, checked.start_type, block, choices);
     if !played.formed {
         return refusal(calls::lent_number(LentQuestion::BlockForm), 0);
     }

@@ -12,7 +12,8 @@ pub struct StartReply {
     pub place: u16,
 }
 
-// Start: questions 1 to 15 about the script, then 20 about the block. A yes to all writes the initial block over whatever was there; a no leaves every byte as it was.
+// Start: questions 1 to 15 about the script, then 20 about the block. A yes to all writes the initial block over whatever was there; a no leaves every byte as
+// it was.
 #[no_mangle]
 pub extern "C" fn oolong_start(script: &[u8], block: &mut [u8]) -> StartReply
     ensures number { λ r. ⌜ r .number ≡ startOf (now (script .entry)) (now (block .entry)) .number ⌝ }
@@ -30,7 +31,7 @@ pub extern "C" fn oolong_start(script: &[u8], block: &mut [u8]) -> StartReply
         let number = calls::lent_number(LentQuestion::BlockLength);
         return StartReply { number, place: 0 };
     }
-    store::start(block);
+    areas::start(block);
     StartReply {
         number: 0,
         place: 0,

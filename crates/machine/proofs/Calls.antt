@@ -10,10 +10,9 @@ use Rattle.machine.specs.declared.Ending.{Ending}
 use Rattle.machine.specs.declared.Stop.{Stop}
 use Rattle.machine.specs.declared.Stop.the-variants.{Spent, Ended, Full}
 use Rattle.machine.specs.Config.{Code, Stores, Tree, failed, Config}
-use Rattle.machine.specs.Machine.{limits, Outcome, still, full, moved, Path, here, left, right, locate, chosen, choice, initial}
+use Rattle.machine.specs.Machine.{limits, Outcome, still, full, moved, Path, here, left, right, locate, chosen, choice, initial, part}
 use Rattle.machine.specs.WellFormed.{WellFormed}
 use Rattle.machine.specs.Accepted.{AcceptedCode}
-use Rattle.machine.specs.Silent.{part}
 use Rattle.machine.specs.Runs.{unless, follow, look, report}
 use Rattle.machine.specs.Promise.{Kept}
 use Rattle.machine.specs.Calls.{Call, starts, offers, runs, refused, leaves, AnyCall, NotStart, Seen, at-first, between, after, Later, from-first, in-run, from-run, after-both, Next, next-choice, next-start, after-next, Claimed, FailsOnNull, DemandThree}

@@ -19,7 +19,7 @@ use Rattle.script.proofs.Tests.{says-yes, yes-said, decides-as, decides-and, de
 use Rattle.script.proofs.Reading.{first, second}
 use Rattle.typing.specs.declared.Answer.{Answer}
 use Rattle.typing.specs.declared.Answer.the-variants.{Typed, Faulty}
-use Rattle.typing.specs.Members.{typeIn, fieldIn, methodIn}
+use Rattle.typing.specs.Members.{typeIn, fieldIn, methodIn, fieldsOf}
 use Rattle.typing.specs.Typing.{inferred}
 use Rattle.typing.specs.Published.{WfType, Sub, WfEnv, WF-ENV, MsigIn, Infer}
 use Rattle.typing.proofs.Types.{type-wf}
@@ -31,7 +31,7 @@ use Rattle.machine.specs.declared.Value.the-variants.{Null as nil, Ref a
 use Rattle.machine.specs.declared.Frame.{Frame}
 use Rattle.machine.specs.declared.Frame.the-variants.{Awaits as awaits, Casts as casts, Locks as locks}
 use Rattle.machine.specs.Config.{Code, Object, Binding, Stores, Tree, running, returning, failed, join, Config}
-use Rattle.machine.specs.Machine.{fieldsOf, scope, slot, context, object, Places}
+use Rattle.machine.specs.Machine.{scope, slot, context, object, Places}
 use Rattle.machine.specs.declared.Want.{Want}
 use Rattle.machine.specs.declared.Want.the-variants.{Any as any, Upto as upto}
 use Rattle.machine.specs.WellFormed.{Meets, meets-any, meets-type, ValueFits, fits-nil, fits-ref, Gives, gives-null, gives-type, NodeGives, BindingOk, BindingsOk, no-bindings, a-binding, FieldsOk, no-fields, a-field, StoresOk, Awaits, a-let, a-write, a-call, FramesOk, no-frames, a-node, a-cast, a-lock, TreeOk, running-ok, returning-ok, failed-ok, join-ok, lockCount, failures, shutAt, Within, WellFormed}

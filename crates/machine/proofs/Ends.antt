@@ -218,3 +218,10 @@ pub classified : {s : Code} {start : ℕ} (acc : AcceptedCode s start) (lim : Pl
 unfolding move
 classified acc lim {c = c} h n =
     ⊎-elim failed-end (λ x. ended h x (phase (c .tree)) refl) (stands acc (spare lim (c .stores) (c .tree)) (h .stores) [] (c .tree) (h .tree) (h .distinct) n)
+
+pub is-broken : (t : Tree) → phase t ≡ broken → t ≡ failed
+is-broken (running a e fs) h = cc
+is-broken (returning v []) h = cc
+is-broken (returning v (f ∷ fs)) h = cc
+is-broken failed h = refl
+is-broken (join fs a e l r) h = cc

@@ -10,7 +10,8 @@ use Rattle.script.specs.Syntax.{Point, Expr, Slot}
 use Rattle.machine.specs.declared.Value.{Value}
 use Rattle.machine.specs.declared.Frame.{Frame}
 use Rattle.machine.specs.Config.{Code, Object, Binding, Stores, Tree}
-use Rattle.machine.specs.Machine.{fieldsOf, scope, slot, context, object, setShut, setFields}
+use Rattle.typing.specs.Members.{fieldsOf}
+use Rattle.machine.specs.Machine.{scope, slot, context, object, setShut, setFields}
 use Rattle.machine.specs.declared.Want.{Want}
 use Rattle.machine.specs.WellFormed.{ValueFits, fits-nil, fits-ref, Gives, NodeGives, BindingsOk, no-bindings, a-binding, FieldsOk, no-fields, a-field, TypedObject, FramesOk, no-frames, a-node, a-cast, a-lock, TreeOk, running-ok, returning-ok, failed-ok, join-ok}
 use Rattle.machine.proofs.Stores.{Keeps, keeps-same, scope-older}

@@ -10,10 +10,6 @@ pub mod Trees
 pub mod Ends
 pub mod Locks
 pub mod Positions
-pub mod Names
-pub mod Unplug
-pub mod Steps
-pub mod HeldLocks
 pub mod Within
 pub mod Run
 pub mod Stays
@@ -21,8 +17,6 @@ pub mod Silent
 pub mod OnNull
 pub mod Asks
 pub mod Short
-pub mod Reach
-pub mod Reached
 pub mod Decide
 pub mod Promise
 pub mod Calls

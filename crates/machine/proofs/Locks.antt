@@ -3,7 +3,7 @@
 use Prim.Native.Nat.{ℕ, _+_, _≤_}
 use native.Mathlib.Omega.{arith}
 use native.Mathlib.Decide.{ℕ-discrete}
-use mathlib.Core.Path.{_≡_, refl, sym, _∙_, ap}
+use mathlib.Core.Path.{_≡_, refl, sym, ap}
 use mathlib.Core.List.{List, [], _∷_, _++_, List·Memᴰ·head, List·Memᴰ·tail, List·Memᴰ·cases-cons, List·Memᴰ·not-nil}
 use mathlib.Core.Logic.{⊎-elim}
 use lib.Dec.{eqb}
@@ -11,13 +11,10 @@ use borrow.Author.Tests.{eq-eqb, ne-eqb}
 use Rattle.script.specs.Lists.{_∈_, countIn}
 use Rattle.machine.specs.declared.Frame.{Frame}
 use Rattle.machine.specs.declared.Frame.the-variants.{Awaits as awaits, Casts as casts, Locks as locks}
-use Rattle.machine.specs.Config.{Code, Binding, Tree, running, returning, failed, join}
-use Rattle.machine.specs.Machine.{oneIf, lockFrames, Path, here, left, right}
+use Rattle.machine.specs.Config.{Tree, running, returning, failed, join}
+use Rattle.machine.specs.Machine.{oneIf, lockFrames, held}
 use Rattle.machine.specs.WellFormed.{lockCount}
-use Rattle.machine.specs.Standing.{heldBy}
-use Rattle.machine.specs.ReadAs.{held, read, locksAt}
 use Rattle.machine.specs.Decide.{lockList}
-use Rattle.machine.proofs.Ends.{frames-append}
 
 -- laws of counting
 count-head : (o p : ℕ) (l : List ℕ) → countIn o (p ∷ l) ≡ oneIf (eqb o p) + countIn o l
@@ -72,17 +69,3 @@ count-listed o (join fs a e l r) =
 
 pub lock-listed : (o : ℕ) (t : Tree) → 1 ≤ lockCount o t → o ∈ lockList t
 lock-listed o t h = count-in o (lockList t) (omega (arith, count-listed o t))
-
--- What a thread holds is 𝓛 in the published reading.
-pub held-published : (s : Code) (bs : List Binding) (o : ℕ) (above : List Frame) (t : Tree) (p : Path) → heldBy o (lockFrames o above) t p ≡ countIn o (locksAt (read s bs above t) p)
-unfolding countIn
-held-published s bs o above (running a e fs) here = sym (frames-append o fs above) ∙ frames-held o (fs ++ above)
-held-published s bs o above (running a e fs) (left p) = refl
-held-published s bs o above (running a e fs) (right p) = refl
-held-published s bs o above (returning v fs) here = sym (frames-append o fs above) ∙ frames-held o (fs ++ above)
-held-published s bs o above (returning v fs) (left p) = refl
-held-published s bs o above (returning v fs) (right p) = refl
-held-published s bs o above failed p = refl
-held-published s bs o above (join fs a e l r) here = refl
-held-published s bs o above (join fs a e l r) (left p) = ap (λ (n : ℕ). heldBy o n l p) (sym (frames-append o fs above)) ∙ held-published s bs o (fs ++ above) l p
-held-published s bs o above (join fs a e l r) (right p) = held-published s bs o [] r p

@@ -13,7 +13,7 @@ use Rattle.script.specs.Regular.{IsClass}
 use Rattle.script.proofs.Declarations.{is-class}
 use Rattle.script.proofs.Reading.{first, second, third}
 use Rattle.typing.specs.declared.Answer.the-variants.{Typed}
-use Rattle.typing.specs.Members.{typeIn}
+use Rattle.typing.specs.Members.{typeIn, fieldsOf}
 use Rattle.typing.specs.Published.{T-SUB-EQ, FieldIn, MsigIn, Infer, BD-INFER-VAR, BD-INFER-LET, BD-INFER-CALL, BD-INFER-CAST, BD-INFER-SELECT, BD-INFER-UPDATE, BD-INFER-NEW, BD-INFER-LOCK, BD-INFER-FJ}
 use Rattle.typing.proofs.Types.{type-wf}
 use Rattle.machine.specs.declared.Store.{Store}
@@ -22,7 +22,7 @@ use Rattle.machine.specs.declared.Value.the-variants.{Null as nil, Ref a
 use Rattle.machine.specs.declared.Frame.{Frame}
 use Rattle.machine.specs.declared.Frame.the-variants.{Awaits as awaits, Casts as casts, Locks as locks}
 use Rattle.machine.specs.Config.{Code, Object, Binding, Stores, Tree, running, returning, failed}
-use Rattle.machine.specs.Machine.{fieldsOf, scope, slot, context, find, object, setShut, setFields, setField, nulls, oneIf, lockFrames, Places, Outcome, still, full, moved, give, descend, make, spawn, enter, shutAndEnter, lockObject, lockValue, lockTarget, extend, selectValue, selectTarget, updateValue, callMethod, callValue, runNode, wake, resume}
+use Rattle.machine.specs.Machine.{scope, slot, context, find, object, setShut, setFields, setField, nulls, oneIf, lockFrames, Places, Outcome, still, full, moved, give, descend, make, spawn, enter, shutAndEnter, lockObject, lockValue, lockTarget, extend, selectValue, selectTarget, updateValue, callMethod, callValue, runNode, wake, resume}
 use Rattle.machine.specs.declared.Want.{Want}
 use Rattle.machine.specs.declared.Want.the-variants.{Any as any, Upto as upto}
 use Rattle.machine.specs.WellFormed.{Meets, meets-any, meets-type, ValueFits, fits-nil, fits-ref, Gives, gives-type, NodeGives, a-binding, FieldsOk, StoresOk, Awaits, a-let, a-write, a-call, FramesOk, no-frames, a-node, a-cast, a-lock, TreeOk, running-ok, returning-ok, failed-ok, join-ok, lockCount, failures, shutAt}

@@ -15,10 +15,10 @@ use Rattle.machine.specs.declared.Value.the-variants.{Null as nil, Ref a
 use Rattle.machine.specs.declared.Frame.{Frame}
 use Rattle.machine.specs.declared.Frame.the-variants.{Awaits as awaits, Casts as casts, Locks as locks}
 use Rattle.machine.specs.Config.{Code, Object, Binding, Stores, Tree, running, returning, failed, join, Config}
-use Rattle.machine.specs.Machine.{fieldsOf, definedIn, scope, context, find, object, fieldValue, lockFrames, Places, spare, Outcome, still, full, moved, give, descend, make, spawn, enter, shutAndEnter, lockObject, lockValue, lockTarget, extend, selectField, selectObject, selectValue, selectTarget, updateObject, updateValue, updateTarget, callMethod, callObject, callValue, callTarget, runNode, wake, resume, Phase, finished, broken, busy, phase, fold, Path, here, left, right, moveAt, move}
-use Rattle.machine.specs.Silent.{part}
+use Rattle.typing.specs.Members.{fieldsOf, definedIn}
+use Rattle.machine.specs.Machine.{scope, context, find, object, fieldValue, lockFrames, Places, spare, Outcome, still, full, moved, give, descend, make, spawn, enter, shutAndEnter, lockObject, lockValue, lockTarget, extend, selectField, selectObject, selectValue, selectTarget, updateObject, updateValue, updateTarget, callMethod, callObject, callValue, callTarget, runNode, wake, resume, Phase, finished, broken, busy, phase, fold, Path, here, left, right, moveAt, move, part}
 use Rattle.machine.specs.OnNull.{NullAt, Fails, null-read, null-lock, null-write, null-call, left-failed, right-failed}
-use Rattle.machine.proofs.Steps.{is-broken}
+use Rattle.machine.proofs.Ends.{is-broken}
 use Rattle.machine.proofs.Silent.{left-side, right-side}
 
 -- trees without a failed thread, as a move leaves them at its place

@@ -1,5 +1,5 @@
 -- Positions and paths; no two threads hold one lock; the initial configuration is well formed.
-use Prim.Native.Nat.{ℕ, suc, _+_, _-_, _≤_, _<_}
+use Prim.Native.Nat.{ℕ, suc, _+_, _-_, _≤_, _<_, _*_}
 use native.Mathlib.Omega.{arith}
 use mathlib.Core.Path.{_≡_, refl, sym, _∙_, ap}
 use mathlib.Core.Logic.{_⊎_, inl, inr, ⊎-elim}
@@ -11,7 +11,7 @@ use Rattle.typing.specs.Published.{T-SUB-EQ}
 use Rattle.script.specs.Syntax.{Point}
 use Rattle.machine.specs.declared.Frame.{Frame}
 use Rattle.machine.specs.Config.{Code, Stores, Tree, running, returning, failed, join, Config}
-use Rattle.machine.specs.Machine.{phase, lockFrames, Places, limits, spare, still, Path, here, left, right, inLeft, inRight, moveAt, move, size, locate, chosen, choice, initial}
+use Rattle.machine.specs.Machine.{phase, lockFrames, Places, limits, spare, still, Path, here, left, right, inLeft, inRight, moveAt, move, size, locate, chosen, choice, initial, threadCount}
 use Rattle.machine.specs.declared.Want.{Want}
 use Rattle.machine.specs.declared.Want.the-variants.{Upto as upto}
 use Rattle.machine.specs.WellFormed.{meets-type, gives-type, no-bindings, no-frames, running-ok, lockCount, WfConfig, WellFormed}
@@ -133,3 +133,10 @@ initial-formed acc =
 
 pub initial-well : {s : Code} {start : ℕ} → AcceptedCode s start → WellFormed s limits start initial
 initial-well acc = record { formed = initial-formed acc; within = record { objects = omega arith; bindings = omega arith; frames = omega arith; threads = omega arith } }
+
+-- a tree of n threads has 2 n - 1 positions
+pub positions : (t : Tree) → size t + 1 ≡ 2 * threadCount t
+positions (running a e fs) = refl
+positions (returning v fs) = refl
+positions failed = refl
+positions (join fs a e l r) = omega (arith, positions l, positions r)

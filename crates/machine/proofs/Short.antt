@@ -18,11 +18,12 @@ use Rattle.machine.specs.declared.Value.the-variants.{Null as nil, Ref a
 use Rattle.machine.specs.declared.Frame.{Frame}
 use Rattle.machine.specs.declared.Frame.the-variants.{Awaits as awaits, Casts as casts, Locks as locks}
 use Rattle.machine.specs.Config.{Code, Object, Binding, Stores, Tree, running, returning, failed, join, Config}
-use Rattle.machine.specs.Machine.{fieldsOf, definedIn, scope, context, find, object, fieldValue, lockFrames, Places, spare, Outcome, still, full, moved, give, descend, make, spawn, enter, shutAndEnter, lockObject, lockValue, lockTarget, extend, selectField, selectObject, selectValue, selectTarget, updateObject, updateValue, updateTarget, callMethod, callObject, callValue, callTarget, runNode, wake, resume, Phase, finished, broken, busy, phase, fold, inLeft, inRight, Path, here, left, right, moveAt, move, locate, chosen, choice}
+use Rattle.typing.specs.Members.{fieldsOf, definedIn}
+use Rattle.machine.specs.Machine.{scope, context, find, object, fieldValue, lockFrames, Places, spare, Outcome, still, full, moved, give, descend, make, spawn, enter, shutAndEnter, lockObject, lockValue, lockTarget, extend, selectField, selectObject, selectValue, selectTarget, updateObject, updateValue, updateTarget, callMethod, callObject, callValue, callTarget, runNode, wake, resume, Phase, finished, broken, busy, phase, fold, inLeft, inRight, Path, here, left, right, moveAt, move, locate, chosen, choice, part}
 use Rattle.machine.specs.declared.Want.{Want}
 use Rattle.machine.specs.WellFormed.{StoresOk, Awaits, a-let, a-call, a-node, TreeOk, returning-ok, join-ok, WfConfig, WellFormed}
 use Rattle.machine.specs.Accepted.{AcceptedCode}
-use Rattle.machine.specs.Silent.{descends, part}
+use Rattle.machine.specs.Silent.{descends}
 use Rattle.machine.specs.Asks.{TargetObject}
 use Rattle.machine.specs.Short.{Short, no-object, no-binding, no-two, no-frame, no-lock, no-thread, ShortAt, StopsShort}
 use Rattle.machine.specs.Runs.{Report, report, LastFull, onto}

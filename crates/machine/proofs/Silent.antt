@@ -13,12 +13,11 @@ use Rattle.machine.specs.declared.Value.the-variants.{Null as nil}
 use Rattle.machine.specs.declared.Frame.{Frame}
 use Rattle.machine.specs.declared.Frame.the-variants.{Awaits as awaits, Casts as casts}
 use Rattle.machine.specs.Config.{Code, Stores, Tree, running, returning, failed, join, Config}
-use Rattle.machine.specs.Machine.{Places, spare, Outcome, still, full, moved, descend, runNode, inLeft, inRight, Path, here, left, right, moveAt, move}
+use Rattle.machine.specs.Machine.{Places, spare, Outcome, still, full, moved, descend, runNode, inLeft, inRight, Path, here, left, right, moveAt, move, part}
 use Rattle.machine.specs.declared.Want.{Want}
 use Rattle.machine.specs.WellFormed.{TreeOk, running-ok, returning-ok, failed-ok, join-ok, WfConfig}
 use Rattle.machine.specs.Accepted.{LaterPart, AcceptedCode}
-use Rattle.machine.specs.Silent.{quiet, part, quietIn, InARow, row-ends, and-then, meanwhile}
-use Rattle.machine.specs.Reach.{samePlace}
+use Rattle.machine.specs.Silent.{quiet, quietIn, InARow, row-ends, and-then, meanwhile, samePlace}
 
 -- What a move made of a side of a join.
 pub record Side (f : Tree → Tree) (o : Outcome) (su : Stores) (u : Tree) : Type 0 where

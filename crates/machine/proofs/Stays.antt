@@ -19,7 +19,7 @@ use Rattle.machine.specs.Standing.{Waits, waits, FinishedAt, finished-he
 use Rattle.machine.specs.Stays.{StaysAt, stays-waiting, stays-finished, stays-failed, stays-join, stays-left, stays-right, Stays, absent, cannot-move}
 use Rattle.machine.proofs.Move.{Judged, no-move, no-room, a-move, run-good, resume-good}
 use Rattle.machine.proofs.Positions.{PlaceIn, root-place, left-place, right-place}
-use Rattle.machine.proofs.Steps.{is-broken}
+use Rattle.machine.proofs.Ends.{is-broken}
 
 -- an outcome is no move exactly if Q
 data Told (Q : Type 0) : Outcome → Type 0 where

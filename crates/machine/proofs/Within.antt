@@ -15,7 +15,8 @@ use Rattle.machine.specs.declared.Value.the-variants.{Null as nil, Ref a
 use Rattle.machine.specs.declared.Frame.{Frame}
 use Rattle.machine.specs.declared.Frame.the-variants.{Awaits as awaits, Casts as casts, Locks as locks}
 use Rattle.machine.specs.Config.{Code, Object, Binding, Stores, Tree, running, returning, failed, join, Config}
-use Rattle.machine.specs.Machine.{fieldsOf, definedIn, scope, context, find, object, setShut, setFields, fieldValue, lockFrames, Places, spare, frameCount, threadCount, Outcome, still, full, moved, give, descend, make, spawn, enter, shutAndEnter, lockObject, lockValue, lockTarget, extend, selectField, selectObject, selectValue, selectTarget, updateObject, updateValue, updateTarget, callMethod, callObject, callValue, callTarget, runNode, wake, resume, Phase, finished, broken, busy, phase, fold, inLeft, inRight, Path, here, left, right, moveAt, move}
+use Rattle.typing.specs.Members.{fieldsOf, definedIn}
+use Rattle.machine.specs.Machine.{scope, context, find, object, setShut, setFields, fieldValue, lockFrames, Places, spare, frameCount, threadCount, Outcome, still, full, moved, give, descend, make, spawn, enter, shutAndEnter, lockObject, lockValue, lockTarget, extend, selectField, selectObject, selectValue, selectTarget, updateObject, updateValue, updateTarget, callMethod, callObject, callValue, callTarget, runNode, wake, resume, Phase, finished, broken, busy, phase, fold, inLeft, inRight, Path, here, left, right, moveAt, move}
 use Rattle.machine.specs.WellFormed.{Within}
 
 length-shut : (b : Bool) (xs : List Object) (o : ℕ) → length (setShut b xs o) ≡ length xs

@@ -6,10 +6,9 @@ use mathlib.Core.Logic.{_⊎_}
 use mathlib.Core.Option.{some}
 use lib.ListN.{take}
 use Rattle.machine.specs.Config.{Code, Tree, failed, Config}
-use Rattle.machine.specs.Machine.{limits, initial, Path}
+use Rattle.machine.specs.Machine.{limits, initial, Path, part}
 use Rattle.machine.specs.WellFormed.{WellFormed}
 use Rattle.machine.specs.Runs.{report, Leaves}
-use Rattle.machine.specs.Silent.{part}
 use Rattle.machine.specs.OnNull.{Fails}
 use Rattle.machine.specs.Promise.{Promised, Kept}
 
@@ -36,7 +35,8 @@ NotStart offers = Unit {0}
 NotStart (runs ns) = Unit {0}
 NotStart refused = Unit {0}
 
--- `Seen s Past c calls d`: the list, begun at c and followed past such calls, has d "at the first block, at every point between moves .., and after every call".
+-- `Seen s Past c calls d`: the list, begun at c and followed past such calls, has d "at the first block, at every point between moves .., and after every
+-- call".
 pub data Seen (s : Code) (Past : Call → Type 0) : Config → List Call → Config → Type 0 where
   at-first : {c : Config} {calls : List Call} → Seen s Past c calls c
   -- "the block that it would leave with only its first n choices"
@@ -47,14 +47,17 @@ pub data Seen (s : Code) (Past : Call → Type 0) : Config → List Call → Con
 pub data Later (s : Code) : Config → List Call → Config → Config → Type 0 where
   from-first : {c e : Config} {calls : List Call} → Seen s NotStart c calls e → Later s c calls c e
   -- both between moves of one Run
-  in-run : {c : Config} {calls : List Call} (ns : List ℕ) (m n : ℕ) → m ≤ n → Later s c (runs ns ∷ calls) (report s limits c (take m ns) .config) (report s limits c (take n ns) .config)
+  in-run : {c : Config} {calls : List Call} (ns : List ℕ) (m n : ℕ) → m ≤ n
+      → Later s c (runs ns ∷ calls) (report s limits c (take m ns) .config) (report s limits c (take n ns) .config)
   -- d between moves of a Run, e after it
-  from-run : {c e : Config} {calls : List Call} (ns : List ℕ) (m : ℕ) → Seen s NotStart (leaves s c (runs ns)) calls e → Later s c (runs ns ∷ calls) (report s limits c (take m ns) .config) e
+  from-run : {c e : Config} {calls : List Call} (ns : List ℕ) (m : ℕ) → Seen s NotStart (leaves s c (runs ns)) calls e
+      → Later s c (runs ns ∷ calls) (report s limits c (take m ns) .config) e
   after-both : {c d e : Config} {calls : List Call} (call : Call) → Later s (leaves s c call) calls d e → Later s c (call ∷ calls) d e
 
 -- `Next s c calls d e`: two neighbours in the list, e with one choice more than d, or by a Start. (Offer and refused calls leave what they had.)
 pub data Next (s : Code) : Config → List Call → Config → Config → Type 0 where
-  next-choice : {c : Config} {calls : List Call} (ns : List ℕ) (n : ℕ) → Next s c (runs ns ∷ calls) (report s limits c (take n ns) .config) (report s limits c (take (suc n) ns) .config)
+  next-choice : {c : Config} {calls : List Call} (ns : List ℕ) (n : ℕ)
+      → Next s c (runs ns ∷ calls) (report s limits c (take n ns) .config) (report s limits c (take (suc n) ns) .config)
   next-start : {c : Config} {calls : List Call} → Next s c (starts ∷ calls) c initial
   after-next : {c d e : Config} {calls : List Call} (call : Call) → Next s (leaves s c call) calls d e → Next s c (call ∷ calls) d e
 
@@ -67,7 +70,9 @@ pub record Claimed (s : Code) (start : ℕ) (d : Config) : Type 0 where
 
 -- A thread that is failed in e was so in d, or stood in d before a null target or was there a join with a failed side.
 abbrev pub FailsOnNull : Code → Config → Config → Type 0
-FailsOnNull s d e = (q : Path) → part (e .tree) q ≡ some failed → (part (d .tree) q ≡ some failed) ⊎ ((t : Tree) × (part (d .tree) q ≡ some t) × Fails s (d .stores) t)
+FailsOnNull s d e =
+    (q : Path) → part (e .tree) q ≡ some failed
+    → (part (d .tree) q ≡ some failed) ⊎ ((t : Tree) × (part (d .tree) q ≡ some t) × Fails s (d .stores) t)
 
 -- Demand 3, of a list of calls begun at c: "one claim about the list, not a claim per call".
 pub record DemandThree (s : Code) (start : ℕ) (c : Config) (calls : List Call) : Type 0 where

@@ -1,5 +1,5 @@
--- Configurations: what a state block holds, Figure 6. "A block holds at most 256 objects (class, open or shut, fields), 2,048 variable bindings (name, type, value, the
--- binding beneath), 2,048 waiting frames in all, and a tree of joins with at most 32 threads."
+-- Configurations: what a state block holds, Figure 6. "A block holds at most 256 objects (class, open or shut, fields), 2,048 variable bindings (name, type,
+-- value, the binding beneath), 2,048 waiting frames in all, and a tree of joins with at most 32 threads."
 use Prim.Native.Nat.{ℕ}
 use mathlib.Core.Bool.{Bool}
 use mathlib.Core.List.{List}
@@ -7,8 +7,6 @@ use Rattle.script.specs.Section.{countOf}
 use Rattle.script.specs.declared.Section.the-variants.{Nodes as nodes}
 use Rattle.script.specs.Syntax.{Point, Expr, Node, Program}
 use Rattle.script.specs.Reading.{viewAt, exprAt, programOf}
-use Rattle.machine.specs.declared.Value.{Value}
-use Rattle.machine.specs.declared.Frame.{Frame}
 use Rattle.machine.specs.declared.Value.{Value}
 use Rattle.machine.specs.declared.Frame.{Frame}
 
@@ -35,12 +33,14 @@ pub record Binding : Type 0 where
   pub value : Value
   pub link : ℕ
 
--- Objects are counted from the front. Bindings stand newest first, so the number of a binding is the number of those behind it. "Objects and bindings are never freed."
+-- Objects are counted from the front. Bindings stand newest first, so the number of a binding is the number of those behind it. "Objects and bindings are never
+-- freed."
 pub record Stores : Type 0 where
   pub objects : List Object
   pub bindings : List Binding
 
--- A thread at a node in an environment, a thread with a value, a failed thread, or a join of two trees with its frames (innermost first), its last part and the environment for it.
+-- A thread at a node in an environment, a thread with a value, a failed thread, or a join of two trees with its frames (innermost first), its last part and the
+-- environment for it.
 pub data Tree : Type 0 where
   running : Point → ℕ → List Frame → Tree
   returning : Value → List Frame → Tree

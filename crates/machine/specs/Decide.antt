@@ -1,4 +1,5 @@
--- Question 21 as a computed answer: "Is the block a well-formed configuration of this script?", of a configuration. `proofs/Decide.antt` shows that it decides `WellFormed`.
+-- Question 21 as a computed answer: "Is the block a well-formed configuration of this script?", of a configuration. `proofs/Decide.antt` shows that it decides
+-- `WellFormed`.
 use Prim.Native.Nat.{ℕ, zero, suc, _+_}
 use mathlib.Core.Bool.{Bool, true, false, not, _&&_, _||_}
 use mathlib.Core.List.{List, [], _∷_, _++_}
@@ -9,18 +10,17 @@ use Rattle.script.specs.Questions.{allOf}
 use Rattle.script.specs.Syntax.{Point, Node, n-null, n-var, n-select, n-update, n-call, n-bind, n-new, n-cast, n-fork, n-lock, Expr, isNull, Slot}
 use Rattle.typing.specs.declared.Answer.{Answer}
 use Rattle.typing.specs.declared.Answer.the-variants.{Typed, Faulty}
-use Rattle.typing.specs.Members.{below, typeIn, fieldIn, methodIn}
+use Rattle.typing.specs.Members.{below, typeIn, fieldIn, methodIn, fieldsOf}
 use Rattle.typing.specs.Typing.{inferred}
 use Rattle.machine.specs.declared.Value.{Value}
 use Rattle.machine.specs.declared.Value.the-variants.{Null as nil, Ref as ref}
 use Rattle.machine.specs.declared.Frame.{Frame}
 use Rattle.machine.specs.declared.Frame.the-variants.{Awaits as awaits, Casts as casts, Locks as locks}
 use Rattle.machine.specs.Config.{Code, Object, Binding, Stores, Tree, running, returning, failed, join, Config}
-use Rattle.machine.specs.Machine.{fieldsOf, context, object, Places, frameCount, threadCount}
+use Rattle.machine.specs.Machine.{context, object, Places, frameCount, threadCount, held}
 use Rattle.machine.specs.declared.Want.{Want}
 use Rattle.machine.specs.declared.Want.the-variants.{Any as any, Upto as upto}
 use Rattle.machine.specs.WellFormed.{lockCount, failures, shutAt}
-use Rattle.machine.specs.ReadAs.{held}
 
 -- Go on with what is found, with a type, or where a test passes.
 abbrev pub given : {A B : Type 0} → Option A → (A → Option B) → Option B
@@ -71,7 +71,8 @@ fieldsTest s xs (d ∷ ds) (v ∷ l) = valueFitsTest s xs v (upto (d .type)) && 
 abbrev pub bindingTest : Code → List Object → ℕ → Binding → Bool
 bindingTest s xs older b =
     ltb (b .name) 65536
-    && (leb (b .type) (length (s .program .interfaces) + length (s .program .classes)) && (leb (b .link) older && valueFitsTest s xs (b .value) (upto (b .type))))
+    && (leb (b .type) (length (s .program .interfaces) + length (s .program .classes))
+    && (leb (b .link) older && valueFitsTest s xs (b .value) (upto (b .type))))
 
 abbrev pub bindingsTest : Code → List Object → List Binding → Bool
 bindingsTest s xs [] = true
@@ -120,8 +121,12 @@ abbrev pub expects : Code → List Binding → Want → List Frame → Option Wa
 expects s bs w [] = some w
 expects s bs w (awaits n e ∷ fs) =
     given (expects s bs w fs)
-    (λ v. only (ltb n (s .size)) (only (leb e (length bs)) (given (turn s (context bs e) (s .view n)) (λ k. only (meetsTest s (k .gives) v) (some (upto (k .wanted)))))))
-expects s bs w (casts n ∷ fs) = given (expects s bs w fs) (λ v. only (ltb n (s .size)) (given (castType (s .view n)) (λ t. only (meetsTest s t v) (some (upto t)))))
+    (λ v.
+    only (ltb n (s .size))
+    (only (leb e (length bs))
+    (given (turn s (context bs e) (s .view n)) (λ k. only (meetsTest s (k .gives) v) (some (upto (k .wanted)))))))
+expects s bs w (casts n ∷ fs) =
+    given (expects s bs w fs) (λ v. only (ltb n (s .size)) (given (castType (s .view n)) (λ t. only (meetsTest s t v) (some (upto t)))))
 expects s bs w (locks o ∷ fs) = expects s bs w fs
 
 -- The tree

@@ -5,15 +5,11 @@ pub mod WellFormed
 pub mod Accepted
 pub mod Standing
 pub mod Stays
-pub mod Steps
-pub mod ReadAs
-pub mod HeldLocks
 pub mod Silent
 pub mod Runs
 pub mod Asks
 pub mod OnNull
 pub mod Short
-pub mod Reach
 pub mod Decide
 pub mod Promise
 pub mod Calls

@@ -7,10 +7,11 @@ use lib.Dec.{eqb, ltb}
 use lib.ListN.{length}
 use Rattle.limits.specs.Limits.{OBJECTS, BINDINGS, FRAMES, THREADS}
 use Rattle.script.specs.Lists.{named}
-use Rattle.script.specs.Syntax.{Point, Node, n-null, n-var, n-select, n-update, n-call, n-bind, n-new, n-cast, n-fork, n-lock, pointOf, Slot, Method, Program, Declaration, a-unit, an-interface, a-class, no-type, declarationAt}
+use Rattle.script.specs.Syntax.{Point, Node, n-null, n-var, n-select, n-update, n-call, n-bind, n-new, n-cast, n-fork, n-lock, pointOf, Slot, Method}
 use Rattle.script.specs.Reading.{programOf}
 use Rattle.typing.specs.declared.Answer.{Answer}
 use Rattle.typing.specs.declared.Answer.the-variants.{Typed, Faulty}
+use Rattle.typing.specs.Members.{fieldsOf, definedIn}
 use Rattle.typing.specs.Typing.{inferred}
 use Rattle.machine.specs.declared.Store.{Store}
 use Rattle.machine.specs.declared.Store.the-variants.{Objects, Bindings, Frames, Threads}
@@ -20,29 +21,9 @@ use Rattle.machine.specs.declared.Frame.{Frame}
 use Rattle.machine.specs.declared.Frame.the-variants.{Awaits as awaits, Casts as casts, Locks as locks}
 use Rattle.machine.specs.Config.{Code, Object, Binding, Stores, Tree, running, returning, failed, join, Config}
 
--- fields(C), appendix A.3: the fields that a class declares.
-abbrev pub fieldsFrom : Declaration → List Slot
-fieldsFrom a-unit = []
-fieldsFrom (an-interface i) = []
-fieldsFrom (a-class c) = c .fields
-fieldsFrom no-type = []
-
-abbrev pub fieldsOf : Program → ℕ → List Slot
-fieldsOf p t = fieldsFrom (declarationAt p t)
-
 -- How many fields a class type of the script s declares.
 abbrev pub fieldCount : List ℕ → ℕ → ℕ
 fieldCount s t = length (fieldsOf (programOf s) t)
-
--- methods(C)(m), appendix A.3: the method of this name that a class defines.
-abbrev pub definedFrom : ℕ → Declaration → Option Method
-definedFrom m a-unit = none
-definedFrom m (an-interface i) = none
-definedFrom m (a-class c) = named (λ (d : Method). d .signature .name) m (c .methods)
-definedFrom m no-type = none
-
-abbrev pub definedIn : Program → ℕ → ℕ → Option Method
-definedIn p t m = definedFrom m (declarationAt p t)
 
 -- The bindings of an environment, nearest first.
 abbrev pub scope : List Binding → ℕ → List Binding
@@ -158,7 +139,8 @@ abbrev pub shutAndEnter : Stores → List Frame → Point → ℕ → ℕ → �
 shutAndEnter st fs a e o zero = full Frames
 shutAndEnter st fs a e o (suc k) = moved (withShut true st o) (running a e (locks o ∷ fs))
 
--- A lock on an object, if there is one. `above` has the frames of the joins whose leftmost thread this is: "A thread holds exactly the objects of the lock frames it will resume".
+-- A lock on an object, if there is one. `above` has the frames of the joins whose leftmost thread this is: "A thread holds exactly the objects of the lock
+-- frames it will resume".
 abbrev pub lockObject : Stores → List Frame → List Frame → Point → ℕ → ℕ → ℕ → Option Object → Outcome
 lockObject st above fs a e k o none = still
 lockObject st above fs a e k o (some x) =
@@ -203,7 +185,8 @@ selectTarget s st fs f (some b) = selectValue s st fs f (b .value)
 abbrev pub updateObject : Code → Stores → List Frame → ℕ → Value → ℕ → Option Object → Outcome
 updateObject s st fs f v o none = still
 updateObject s st fs f v o (some y) =
-    moved (record { objects = setFields (setField v (fieldsOf (s .program) (y .class)) (y .fields) f) (st .objects) o; bindings = st .bindings }) (returning nil fs)
+    moved (record { objects = setFields (setField v (fieldsOf (s .program) (y .class)) (y .fields) f) (st .objects) o; bindings = st .bindings })
+    (returning nil fs)
 
 abbrev pub updateValue : Code → Stores → List Frame → ℕ → Value → Value → Outcome
 updateValue s st fs f v nil = moved st failed
@@ -284,7 +267,8 @@ phase (returning v (f ∷ fs)) = busy
 phase failed = broken
 phase (join fs a e l r) = busy
 
--- "A join with both sides finished goes on as the left thread, at the last part and with the frames kept; with a failed side it becomes failed and all beneath is dropped."
+-- "A join with both sides finished goes on as the left thread, at the last part and with the frames kept; with a failed side it becomes failed and all beneath
+-- is dropped."
 abbrev pub fold : Stores → List Frame → Point → ℕ → Phase → Phase → Outcome
 fold st fs a e finished finished = moved st (running a e fs)
 fold st fs a e finished broken = moved st failed
@@ -395,3 +379,22 @@ canMove s lim c n = able (choice s lim c n)
 -- "the initial block ..: no object, no binding, and one thread at node 0 without a frame"
 abbrev pub initial : Config
 initial = record { stores = record { objects = []; bindings = [] }; tree = running 0 0 [] }
+
+-- The part of a tree at a place.
+abbrev pub part : Tree → Path → Option Tree
+part t here = some t
+part (running a e fs) (left p) = none
+part (running a e fs) (right p) = none
+part (returning v fs) (left p) = none
+part (returning v fs) (right p) = none
+part failed (left p) = none
+part failed (right p) = none
+part (join fs a e l r) (left p) = part l p
+part (join fs a e l r) (right p) = part r p
+
+-- The objects of lock frames; `lockFrames` counts one of them (`frames-held`).
+abbrev pub held : List Frame → List ℕ
+held [] = []
+held (awaits n e ∷ fs) = held fs
+held (casts n ∷ fs) = held fs
+held (locks o ∷ fs) = o ∷ held fs

@@ -8,7 +8,8 @@ use Rattle.typing.specs.Published.{FieldIn, MsigIn}
 use Rattle.machine.specs.declared.Ending.{Ending}
 use Rattle.machine.specs.declared.Value.{Value}
 use Rattle.machine.specs.Config.{Code, Object, Binding, Config}
-use Rattle.machine.specs.Machine.{fieldsOf, object, fieldValue, Places, still, Path, choice}
+use Rattle.typing.specs.Members.{fieldsOf}
+use Rattle.machine.specs.Machine.{object, fieldValue, Places, still, Path, choice}
 use Rattle.machine.specs.declared.Want.the-variants.{Upto as upto}
 use Rattle.machine.specs.WellFormed.{ValueFits}
 use Rattle.machine.specs.Standing.{heldBy, End}
@@ -17,7 +18,8 @@ use Rattle.machine.specs.Asks.{AsksField, AsksMethod}
 pub record Promised (s : Code) (lim : Places) (c : Config) : Type 0 where
   -- every read, waiting write and waiting call due on an object names a field or method that its class has
   pub field-asked : (f : ℕ) (y : Object) (p : Path) → AsksField s (c .stores) f y (c .tree) p → (u : ℕ) × FieldIn (s .program) (y .class) f u
-  pub method-asked : (m : ℕ) (y : Object) (p : Path) → AsksMethod s (c .stores) m y (c .tree) p → (t u : ℕ) × MsigIn (s .program) (y .class) (record { name = m; param = t; result = u })
+  pub method-asked : (m : ℕ) (y : Object) (p : Path) → AsksMethod s (c .stores) m y (c .tree) p
+      → (t u : ℕ) × MsigIn (s .program) (y .class) (record { name = m; param = t; result = u })
   -- every binding and field holds null or an object whose class is below its type
   pub binding-typed : (b : Binding) → b ∈ c .stores .bindings → ValueFits s (c .stores .objects) (b .value) (upto (b .type))
   pub field-typed : (o : ℕ) (y : Object) (f u : ℕ) (v : Value) → object (c .stores .objects) o ≡ some y → FieldIn (s .program) (y .class) f u

@@ -61,22 +61,26 @@ unfoldable pub report : Code → Places → Config → List ℕ → Report
 report s lim c [] = stopped (spentUnless (look s lim c)) c
 report s lim c (n ∷ ns) = unless (look s lim c) c (λ d. follow d (λ e. report s lim e ns) (choice s lim d n))
 
--- What each choice did, as a plain statement. A run has ended; or it has no choice left; or the first choice is passed over, makes its move, or meets a full store.
+-- What each choice did, as a plain statement. A run has ended; or it has no choice left; or the first choice is passed over, makes its move, or meets a full
+-- store.
 pub data Runs (s : Code) (lim : Places) : Config → List ℕ → Report → Type 0 where
   ends : {c : Config} {ns : List ℕ} {k : Ending} → look s lim c ≡ some k → Runs s lim c ns (record { stop = Ended k; read = 0; moves = 0; config = c })
   spends : {c : Config} → look s lim c ≡ none → Runs s lim c [] (record { stop = Spent; read = 0; moves = 0; config = c })
   passes : {c : Config} {n : ℕ} {ns : List ℕ} {r : Report} → look s lim c ≡ none → choice s lim c n ≡ still → Runs s lim c ns r
       → Runs s lim c (n ∷ ns) (record { stop = r .stop; read = suc (r .read); moves = r .moves; config = r .config })
   moves : {c : Config} {st : Stores} {t : Tree} {n : ℕ} {ns : List ℕ} {r : Report} → look s lim c ≡ none → choice s lim c n ≡ moved st t
-      → Runs s lim (record { stores = st; tree = t }) ns r → Runs s lim c (n ∷ ns) (record { stop = r .stop; read = suc (r .read); moves = suc (r .moves); config = r .config })
-  fills : {c : Config} {n : ℕ} {k : Store} {ns : List ℕ} → look s lim c ≡ none → choice s lim c n ≡ full k → Runs s lim c (n ∷ ns) (record { stop = Full k; read = 1; moves = 0; config = c })
+      → Runs s lim (record { stores = st; tree = t }) ns r
+      → Runs s lim c (n ∷ ns) (record { stop = r .stop; read = suc (r .read); moves = suc (r .moves); config = r .config })
+  fills : {c : Config} {n : ℕ} {k : Store} {ns : List ℕ} → look s lim c ≡ none → choice s lim c n ≡ full k
+      → Runs s lim c (n ∷ ns) (record { stop = Full k; read = 1; moves = 0; config = c })
 
 -- A position that can move.
 pub record CanMove (s : Code) (lim : Places) (c : Config) : Type 0 where
   pub position : ℕ
   pub moves : choice s lim c position ≡ still → ⊥
 
--- What holds of the configuration that a run leaves with its stop: a position can move; or the run has come to one of the three ends, and none can; or a store is full for a move that is due.
+-- What holds of the configuration that a run leaves with its stop: a position can move; or the run has come to one of the three ends, and none can; or a store
+-- is full for a move that is due.
 pub data Stopped (s : Code) (lim : Places) (c : Config) : Stop → Type 0 where
   spent : CanMove s lim c → Stopped s lim c Spent
   at-end : {k : Ending} → End s c k → ((n : ℕ) → choice s lim c n ≡ still) → Stopped s lim c (Ended k)

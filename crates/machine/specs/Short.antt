@@ -1,5 +1,5 @@
--- When a store is full for a move, said of the configuration: "when the chosen move needs more places than that store has left (it is full for that move, as bindings with one
--- place left are for a call)".
+-- When a store is full for a move, said of the configuration: "when the chosen move needs more places than that store has left (it is full for that move, as
+-- bindings with one place left are for a call)".
 use Prim.Native.Nat.{ℕ, _<_}
 use mathlib.Core.Path.{_≡_}
 use mathlib.Core.Bool.{true, false}
@@ -12,8 +12,8 @@ use Rattle.machine.specs.declared.Value.{Value}
 use Rattle.machine.specs.declared.Frame.{Frame}
 use Rattle.machine.specs.declared.Frame.the-variants.{Awaits as awaits}
 use Rattle.machine.specs.Config.{Code, Object, Stores, Tree, running, returning, Config}
-use Rattle.machine.specs.Machine.{Places, spare, Path, locate}
-use Rattle.machine.specs.Silent.{descends, part}
+use Rattle.machine.specs.Machine.{Places, spare, Path, locate, part}
+use Rattle.machine.specs.Silent.{descends}
 use Rattle.machine.specs.Asks.{TargetObject}
 use Rattle.machine.specs.Runs.{Report, LastFull}
 
@@ -22,11 +22,14 @@ pub data Short (s : Code) (room : Places) (st : Stores) : Tree → Store → Typ
   -- new makes an object
   no-object : {a : Point} {e c : ℕ} {fs : List Frame} → s .view a ≡ n-new c → room .objects < 1 → Short s room st (running a e fs) Objects
   -- a waiting let adds one binding, a waiting call on an object two
-  no-binding : {n a b : Point} {e x : ℕ} {v : Value} {fs : List Frame} → s .view n ≡ n-bind x a b → room .bindings < 1 → Short s room st (returning v (awaits n e ∷ fs)) Bindings
-  no-two : {n a : Point} {e x m : ℕ} {v : Value} {fs : List Frame} {y : Object} → s .view n ≡ n-call x m a → TargetObject st e x y → room .bindings < 2 → Short s room st (returning v (awaits n e ∷ fs)) Bindings
+  no-binding : {n a b : Point} {e x : ℕ} {v : Value} {fs : List Frame} → s .view n ≡ n-bind x a b → room .bindings < 1
+      → Short s room st (returning v (awaits n e ∷ fs)) Bindings
+  no-two : {n a : Point} {e x m : ℕ} {v : Value} {fs : List Frame} {y : Object} → s .view n ≡ n-call x m a → TargetObject st e x y
+      → room .bindings < 2 → Short s room st (returning v (awaits n e ∷ fs)) Bindings
   -- to descend leaves a frame, and so does a lock on an open object
   no-frame : {a : Point} {e : ℕ} {fs : List Frame} → descends (s .view a) ≡ true → room .frames < 1 → Short s room st (running a e fs) Frames
-  no-lock : {a b : Point} {e x : ℕ} {fs : List Frame} {y : Object} → s .view a ≡ n-lock x b → TargetObject st e x y → y .shut ≡ false → room .frames < 1 → Short s room st (running a e fs) Frames
+  no-lock : {a b : Point} {e x : ℕ} {fs : List Frame} {y : Object} → s .view a ≡ n-lock x b → TargetObject st e x y → y .shut ≡ false
+      → room .frames < 1 → Short s room st (running a e fs) Frames
   -- a fork makes one thread two
   no-thread : {a b c d : Point} {e : ℕ} {fs : List Frame} → s .view a ≡ n-fork b c d → room .threads < 1 → Short s room st (running a e fs) Threads
 

@@ -5,10 +5,10 @@ use mathlib.Core.Bool.{Bool, true, false}
 use mathlib.Core.Option.{Option, none, some}
 use Rattle.script.specs.Syntax.{Node, n-null, n-var, n-select, n-update, n-call, n-bind, n-new, n-cast, n-fork, n-lock}
 use Rattle.machine.specs.Config.{Code, Stores, Tree, running, returning, failed, join, Config}
-use Rattle.machine.specs.Machine.{Places, moved, Path, here, left, right, move}
-use Rattle.machine.specs.ReadAs.{reading, Steps}
+use Rattle.machine.specs.Machine.{Places, moved, Path, here, left, right, move, part}
 
--- "Silent: null becomes a value; kinds 3, 4, 5 and 7 descend into their first-run part and leave a frame." One table of the kinds; `forNull` is the answer for null.
+-- "Silent: null becomes a value; kinds 3, 4, 5 and 7 descend into their first-run part and leave a frame." One table of the kinds; `forNull` is the answer for
+-- null.
 abbrev pub silentKind : Bool → Node → Bool
 silentKind forNull n-null = forNull
 silentKind forNull (n-var x) = false
@@ -28,18 +28,6 @@ quiet n = silentKind true n
 abbrev pub descends : Node → Bool
 descends n = silentKind false n
 
--- The part of a tree at a place, and whether the move due there is silent.
-abbrev pub part : Tree → Path → Option Tree
-part t here = some t
-part (running a e fs) (left p) = none
-part (running a e fs) (right p) = none
-part (returning v fs) (left p) = none
-part (returning v fs) (right p) = none
-part failed (left p) = none
-part failed (right p) = none
-part (join fs a e l r) (left p) = part l p
-part (join fs a e l r) (right p) = part r p
-
 abbrev pub quietIn : Code → Option Tree → Bool
 quietIn s none = false
 quietIn s (some (running a e fs)) = quiet (s .view a)
@@ -47,14 +35,21 @@ quietIn s (some (returning v fs)) = false
 quietIn s (some failed) = false
 quietIn s (some (join fs a e l r)) = false
 
--- What a move from c to d means in the published semantics: nothing, where it is silent (the flag), and one step where it is not.
-pub data Means (s : Code) (c d : Config) : Bool → Type 0 where
-  silently : d .stores ≡ c .stores → reading s d ≡ reading s c → Means s c d true
-  publicly : Steps (s .program) (reading s c) (reading s d) → Means s c d false
-
 -- `InARow s lim p c n`: from c on, the thread at p makes n silent moves and no other; in between others may move, while it stays as it is.
 pub data InARow (s : Code) (lim : Places) (p : Path) : Config → ℕ → Type 0 where
   row-ends : {c : Config} → InARow s lim p c 0
   and-then : {c : Config} {st : Stores} {t : Tree} {n : ℕ} → quietIn s (part (c .tree) p) ≡ true → move s lim c p ≡ moved st t
       → InARow s lim p (record { stores = st; tree = t }) n → InARow s lim p c (suc n)
   meanwhile : {c d : Config} {n : ℕ} → part (d .tree) p ≡ part (c .tree) p → InARow s lim p d n → InARow s lim p c n
+
+-- How often a place is among others.
+abbrev pub samePlace : Path → Path → Bool
+samePlace here here = true
+samePlace here (left q) = false
+samePlace here (right q) = false
+samePlace (left p) here = false
+samePlace (left p) (left q) = samePlace p q
+samePlace (left p) (right q) = false
+samePlace (right p) here = false
+samePlace (right p) (left q) = false
+samePlace (right p) (right q) = samePlace p q

@@ -36,11 +36,13 @@ pub data FinishedAt : Tree → Path → Type 0 where
 
 pub data WaitsAt (s : Code) (st : Stores) (o : ℕ) : List Frame → Tree → Path → Type 0 where
   waits-here : {above fs : List Frame} {a : Point} {e : ℕ} → Waits st above fs e o (s .view a) → WaitsAt s st o above (running a e fs) here
-  waits-left : {above fs : List Frame} {a : Point} {e : ℕ} {l r : Tree} {p : Path} → WaitsAt s st o (fs ++ above) l p → WaitsAt s st o above (join fs a e l r) (left p)
+  waits-left : {above fs : List Frame} {a : Point} {e : ℕ} {l r : Tree} {p : Path} → WaitsAt s st o (fs ++ above) l p
+      → WaitsAt s st o above (join fs a e l r) (left p)
   waits-right : {above fs : List Frame} {a : Point} {e : ℕ} {l r : Tree} {p : Path} → WaitsAt s st o [] r p → WaitsAt s st o above (join fs a e l r) (right p)
 
--- By how many lock frames the thread at a place holds an object: "A thread holds exactly the objects of the lock frames it will resume (a join's are resumed by its leftmost thread);
--- a failed thread holds nothing". The number n counts those of the joins above. The count is how often the object stands in the published 𝓛 of that thread (`held-published`).
+-- By how many lock frames the thread at a place holds an object: "A thread holds exactly the objects of the lock frames it will resume (a join's are resumed by
+-- its leftmost thread); a failed thread holds nothing". The number n counts those of the joins above. The count is how often the object stands in the published
+-- 𝓛 of that thread (`held-published`).
 abbrev pub heldBy : ℕ → ℕ → Tree → Path → ℕ
 heldBy o n (running a e fs) here = lockFrames o fs + n
 heldBy o n (running a e fs) (left p) = 0
@@ -67,8 +69,8 @@ pub record Deadlock (s : Code) (st : Stores) (t : Tree) : Type 0 where
   pub place : Path
   pub waiting : Blocked s st t place
 
--- How a run has ended, if it has, by how the root stands and whether a position can move: "the root is a finished thread, .. the root is a failed thread, .. neither and no
--- position can move".
+-- How a run has ended, if it has, by how the root stands and whether a position can move: "the root is a finished thread, .. the root is a failed thread, ..
+-- neither and no position can move".
 abbrev pub ending : Phase → Bool → Option Ending
 ending finished q = some Finished
 ending broken q = some Failed

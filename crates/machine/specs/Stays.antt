@@ -1,5 +1,5 @@
--- Which positions cannot move: "A thread waits when its move due is a lock on a shut object that it does not hold; unless waiting, finished or failed, it can move. A join can when
--- both sides are finished threads or one is a failed thread."
+-- Which positions cannot move: "A thread waits when its move due is a lock on a shut object that it does not hold; unless waiting, finished or failed, it can
+-- move. A join can when both sides are finished threads or one is a failed thread."
 use Prim.Native.Nat.{ℕ}
 use mathlib.Core.Path.{_≡_}
 use mathlib.Core.List.{List, [], _++_}
@@ -18,7 +18,8 @@ pub data StaysAt (s : Code) (st : Stores) : List Frame → Tree → Path → Typ
   stays-failed : {above : List Frame} → StaysAt s st above failed here
   stays-join : {above fs : List Frame} {a : Point} {e : ℕ} {l r : Tree} → (FinishedAt l here → FinishedAt r here → ⊥) → (l ≡ failed → ⊥) → (r ≡ failed → ⊥)
       → StaysAt s st above (join fs a e l r) here
-  stays-left : {above fs : List Frame} {a : Point} {e : ℕ} {l r : Tree} {p : Path} → StaysAt s st (fs ++ above) l p → StaysAt s st above (join fs a e l r) (left p)
+  stays-left : {above fs : List Frame} {a : Point} {e : ℕ} {l r : Tree} {p : Path} → StaysAt s st (fs ++ above) l p
+      → StaysAt s st above (join fs a e l r) (left p)
   stays-right : {above fs : List Frame} {a : Point} {e : ℕ} {l r : Tree} {p : Path} → StaysAt s st [] r p → StaysAt s st above (join fs a e l r) (right p)
 
 -- "A position that is absent or cannot move"

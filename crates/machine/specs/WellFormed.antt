@@ -1,5 +1,5 @@
--- Well-formed configurations: Figure 7, read with document 01's points. Γ is what the configuration itself says: the types of its bindings and the classes of its objects. Values are
--- typed as in Figure 5, nodes as in Figure 11, as Check does it. What document 01 adds to the figures is in quotes.
+-- Well-formed configurations: Figure 7, read with document 01's points. Γ is what the configuration itself says: the types of its bindings and the classes of
+-- its objects. Values are typed as in Figure 5, nodes as in Figure 11, as Check does it. What document 01 adds to the figures is in quotes.
 use Prim.Native.Nat.{ℕ, zero, suc, _+_, _≤_, _<_}
 use mathlib.Core.Path.{_≡_}
 use mathlib.Core.List.{List, [], _∷_}
@@ -7,7 +7,7 @@ use mathlib.Core.Option.{some}
 use lib.ListN.{length}
 use Rattle.script.specs.Syntax.{Point, Node, n-bind, n-cast, n-update, n-call, Expr, null, Slot}
 use Rattle.script.specs.Regular.{IsType, IsClass}
-use Rattle.typing.specs.Members.{typeIn}
+use Rattle.typing.specs.Members.{typeIn, fieldsOf}
 use Rattle.typing.specs.Published.{Sub, FieldIn, MsigIn, Infer}
 use Rattle.machine.specs.declared.Value.{Value}
 use Rattle.machine.specs.declared.Want.{Want}
@@ -16,7 +16,7 @@ use Rattle.machine.specs.declared.Value.the-variants.{Null as nil, Ref a
 use Rattle.machine.specs.declared.Frame.{Frame}
 use Rattle.machine.specs.declared.Frame.the-variants.{Awaits as awaits, Casts as casts, Locks as locks}
 use Rattle.machine.specs.Config.{Code, Object, Binding, Stores, Tree, running, returning, failed, join, Config}
-use Rattle.machine.specs.Machine.{fieldsOf, context, object, oneIf, lockFrames, Places, frameCount, threadCount}
+use Rattle.machine.specs.Machine.{context, object, oneIf, lockFrames, Places, frameCount, threadCount}
 
 -- t' <: t, the premise of WF-LOC and of BD-CHECK-SUB.
 pub data Meets (s : Code) : ℕ → Want → Type 0 where
@@ -75,18 +75,21 @@ pub record StoresOk (s : Code) (st : Stores) : Type 0 where
   -- WF-HEAP
   pub heap : (o : ℕ) (x : Object) → object (st .objects) o ≡ some x → TypedObject s (st .objects) x
 
--- `Awaits s Γ n t u`: the node waits for a value of type t, or below, and then gives one of type u, or below. Each is the rule of Figure 11 for the whole node, less the premise about
--- the part that the value has come from.
+-- `Awaits s Γ n t u`: the node waits for a value of type t, or below, and then gives one of type u, or below. Each is the rule of Figure 11 for the whole node,
+-- less the premise about the part that the value has come from.
 pub data Awaits (s : Code) (Γ : List Slot) : Node → ℕ → ℕ → Type 0 where
-  -- BD-INFER-LET; its premise Γ ⊢ e₁ ⇒ t₁ stays: "what a let frame waits for fits the type inferred for the let's first part under the frame's bindings (there must be one)"
-  a-let : {x t u : ℕ} {a b : Point} → Infer (s .program) Γ (s .expr a) t → Infer (s .program) (record { name = x; type = t } ∷ Γ) (s .expr b) u → Awaits s Γ (n-bind x a b) t u
+  -- BD-INFER-LET; its premise Γ ⊢ e₁ ⇒ t₁ stays: "what a let frame waits for fits the type inferred for the let's first part under the frame's bindings (there
+  -- must be one)"
+  a-let : {x t u : ℕ} {a b : Point} → Infer (s .program) Γ (s .expr a) t → Infer (s .program) (record { name = x; type = t } ∷ Γ) (s .expr b) u
+      → Awaits s Γ (n-bind x a b) t u
   -- BD-INFER-UPDATE, less Γ ⊢ e ⇐ t
   a-write : {x f c t : ℕ} {a : Point} → typeIn Γ x ≡ some c → FieldIn (s .program) c f t → Awaits s Γ (n-update x f a) t 0
   -- BD-INFER-CALL, less Γ ⊢ e ⇐ t₂
-  a-call : {x m c t u : ℕ} {a : Point} → typeIn Γ x ≡ some c → MsigIn (s .program) c (record { name = m; param = t; result = u }) → Awaits s Γ (n-call x m a) t u
+  a-call : {x m c t u : ℕ} {a : Point} → typeIn Γ x ≡ some c → MsigIn (s .program) c (record { name = m; param = t; result = u })
+      → Awaits s Γ (n-call x m a) t u
 
--- `FramesOk s bs w fs v`: the frames turn a value that fits v into an answer that fits w. Γ ⊢ E[v] : t, one frame at a time: "frames are typed up to the start's type or below at the
--- root and to any type at an async".
+-- `FramesOk s bs w fs v`: the frames turn a value that fits v into an answer that fits w. Γ ⊢ E[v] : t, one frame at a time: "frames are typed up to the
+-- start's type or below at the root and to any type at an async".
 pub data FramesOk (s : Code) (bs : List Binding) (w : Want) : List Frame → Want → Type 0 where
   no-frames : FramesOk s bs w [] w
   -- a write, call or let; then BD-CHECK-SUB
@@ -133,21 +136,24 @@ shutAt (x ∷ xs) (suc o) = shutAt xs o
 pub record WfConfig (s : Code) (w : Want) (c : Config) : Type 0 where
   pub stores : StoresOk s (c .stores)
   pub tree : TreeOk s (c .stores) w (c .tree)
-  -- H ⊢lock T, in one line: an object has at most one lock frame in the whole tree, and that only if it is there and shut. That is distinctLocks(e) of WF-L-THREAD and WF-L-ASYNC, the
-  -- disjoint held locks of WF-L-ASYNC, and H(ι) = (C, F, locked) of WF-L-THREAD: "all lock frames name distinct objects, each of them shut". That locks(e) are held by the thread, or by
-  -- the first thread of an async, is how `heldBy` is defined: "A thread holds exactly the objects of the lock frames it will resume". WF-L-EXN asks nothing.
+  -- H ⊢lock T, in one line: an object has at most one lock frame in the whole tree, and that only if it is there and shut. That is distinctLocks(e) of
+  -- WF-L-THREAD and WF-L-ASYNC, the disjoint held locks of WF-L-ASYNC, and H(ι) = (C, F, locked) of WF-L-THREAD: "all lock frames name distinct objects, each
+  -- of them shut". That locks(e) are held by the thread, or by the first thread of an async, is how `heldBy` is defined: "A thread holds exactly the objects of
+  -- the lock frames it will resume". WF-L-EXN asks nothing.
   pub distinct : (o : ℕ) → lockCount o (c .tree) ≤ shutAt (c .stores .objects) o
   -- added to Figure 7: "With no failed thread no other objects are shut."
   pub covered : failures (c .tree) ≡ 0 → (o : ℕ) → shutAt (c .stores .objects) o ≤ lockCount o (c .tree)
 
--- Added to Figure 7: "A block holds at most 256 objects .., 2,048 variable bindings .., 2,048 waiting frames in all, and a tree of joins with at most 32 threads."
+-- Added to Figure 7: "A block holds at most 256 objects .., 2,048 variable bindings .., 2,048 waiting frames in all, and a tree of joins with at most 32
+-- threads."
 pub record Within (lim : Places) (c : Config) : Type 0 where
   pub objects : length (c .stores .objects) ≤ lim .objects
   pub bindings : length (c .stores .bindings) ≤ lim .bindings
   pub frames : frameCount (c .tree) ≤ lim .frames
   pub threads : threadCount (c .tree) ≤ lim .threads
 
--- "Is the block a well-formed configuration of this script?", for a script whose start has type t: "frames are typed up to the start's type or below at the root".
+-- "Is the block a well-formed configuration of this script?", for a script whose start has type t: "frames are typed up to the start's type or below at the
+-- root".
 pub record WellFormed (s : Code) (lim : Places) (t : ℕ) (c : Config) : Type 0 where
   pub formed : WfConfig s (upto t) c
   pub within : Within lim c

@@ -16,13 +16,15 @@ pub enum Frame {
     Locks(u16),
 }
 
-// What is expected of a value, the type t in Γ ⊢ T : t: any, since WF-T-ASYNC lets its sides have any types ("to any type at an async"), or a type and those below it ("the start's type or below").
+// What is expected of a value, the type t in Γ ⊢ T : t: any, since WF-T-ASYNC lets its sides have any types ("to any type at an async"), or a type and those
+// below it ("the start's type or below").
 pub enum Want {
     Any,
     Upto(u16),
 }
 
-// The four stores of a block, each of which a move can find full: "4 objects, 5 bindings, 6 frames, 7 threads when the chosen move needs more places than that store has left".
+// The four stores of a block, each of which a move can find full: "4 objects, 5 bindings, 6 frames, 7 threads when the chosen move needs more places than that
+// store has left".
 pub enum Store {
     Objects,
     Bindings,

@@ -1,4 +1,4 @@
--- Fields by their numbers, and what the code of their look-up answers: a law for each return, with the callees' results as variables.
+-- The numbers of fields, and what the code of their look-up answers: a law for each return, with the callees' results as variables.
 use mathlib.Core.Path.{_≡_, refl, ap}
 use mathlib.Core.Bool.{Bool, true, false, cond, not}
 use mathlib.Core.List.{List, [], _∷_}
@@ -6,7 +6,7 @@ use mathlib.Core.Option.{Option, none, some, Option·map}
 use Prim.Native.Nat.{ℕ, zero, suc, _+_, _-_, _<_, _≤_}
 use native.Mathlib.Omega.{arith}
 use lib.Dec.{eqb}
-use lib.ListN.{length, getD, set, replicate}
+use lib.ListN.{length}
 use Rattle.limits.specs.Limits.{CLASS-FIELDS}
 use Rattle.script.specs.declared.Found.{Found}
 use Rattle.script.specs.declared.Found.the-variants.{At, Nothing}
@@ -17,23 +17,16 @@ use Rattle.script.specs.Syntax.{Slot, Declaration, a-unit, an-interface, a-clas
 use Rattle.script.specs.Reading.{ownFields, fieldAt, classAt, programOf}
 use Rattle.script.specs.Asking.{firstOut}
 use Rattle.script.specs.Statements.{WithinLayout}
-use Rattle.script.specs.Laid.{foundOf}
+use Rattle.sections.specs.Laid.{foundOf}
 use Rattle.script.proofs.Lists.{length-run}
 use Rattle.script.proofs.Declarations.{class-from}
-use Rattle.typing.specs.declared.Declared.{Declared}
-use Rattle.typing.specs.declared.Declared.the-variants.{Interface as is-interface, Class as is-class, Neither as is-neither}
-use Rattle.typing.specs.Lookup.{Memberless, DeclaredAs, otherName, ownNamed}
-use Rattle.typing.proofs.SubtypeLaws.{type-interface, type-class, type-neither}
-use Rattle.typing.proofs.LookupLaws.{found-at, found-nothing}
-use Rattle.machine.specs.declared.Value.{Value}
-use Rattle.machine.specs.declared.Value.the-variants.{Null as nil}
-use Rattle.machine.specs.Machine.{fieldsFrom, fieldsOf, fieldValue, setField, nulls}
+use Rattle.members.specs.declared.Declared.{Declared}
+use Rattle.members.specs.declared.Declared.the-variants.{Interface as is-interface, Class as is-class, Neither as is-neither}
+use Rattle.members.specs.Lookup.{Memberless, DeclaredAs, otherName, ownNamed}
+use Rattle.members.proofs.SubtypeLaws.{type-interface, type-class, type-neither}
+use Rattle.members.proofs.LookupLaws.{found-at, found-nothing}
+use Rattle.typing.specs.Members.{fieldsFrom, fieldsOf}
 use Rattle.members.specs.Defined.{fieldNumber}
-
--- A new object has null in every field.
-pub nulls-are : (ds : List Slot) → nulls ds ≡ replicate (length ds) nil
-nulls-are [] = refl
-nulls-are (d ∷ ds) = ap (_∷_ nil) (nulls-are ds)
 
 -- the number of a field is below how many there are
 below-next : {n : ℕ} (b : Bool) (r : Option ℕ) → ((k : ℕ) → r ≡ some k → k < n) → (k : ℕ) → cond b (some 0) (Option·map suc r) ≡ some k → k < suc n
@@ -44,63 +37,6 @@ below-next false (some j) h k e = let z : suc j ≡ k = cc in omega (arith, h j 
 pub number-below : (ds : List Slot) (f k : ℕ) → fieldNumber ds f ≡ some k → k < length ds
 number-below [] f k e = absurd (let z : _≡_ {A = ℕ} 0 1 = cc in omega arith)
 number-below (d ∷ ds) f k e = below-next (eqb (d .name) f) (fieldNumber ds f) (number-below ds f) k e
-
--- F(f): what stands at the number of f, if it has one.
-value-numbered : (ds : List Slot) (l : List Value) (f : ℕ) → length l ≡ length ds → fieldValue ds l f ≡ Option·map (λ k. getD l k nil) (fieldNumber ds f)
-value-numbered [] l f h = refl
-value-numbered (d ∷ ds) [] f h = absurd (omega arith)
-value-numbered (d ∷ ds) (v ∷ l) f h = go (eqb (d .name) f) (fieldNumber ds f) (value-numbered ds l f (omega arith))
-  where
-    go :
-        (b : Bool) (r : Option ℕ) → fieldValue ds l f ≡ Option·map (λ k. getD l k nil) r
-        → cond b (some v) (fieldValue ds l f) ≡ Option·map (λ k. getD (v ∷ l) k nil) (cond b (some 0) (Option·map suc r))
-    go true r e = refl
-    go false none e = e
-    go false (some k) e = e
-
-pub value-none : (ds : List Slot) (l : List Value) (f : ℕ) → fieldNumber ds f ≡ none → fieldValue ds l f ≡ none
-value-none [] l f e = refl
-value-none (d ∷ ds) [] f e = refl
-value-none (d ∷ ds) (v ∷ l) f e = go (eqb (d .name) f) (fieldNumber ds f) (value-none ds l f) e
-  where
-    go :
-        (b : Bool) (r : Option ℕ) → (r ≡ none → fieldValue ds l f ≡ none)
-        → cond b (some 0) (Option·map suc r) ≡ none → cond b (some v) (fieldValue ds l f) ≡ none
-    go true r h q = absurd (let z : _≡_ {A = ℕ} 0 1 = cc in omega arith)
-    go false none h q = h refl
-    go false (some k) h q = absurd (let z : _≡_ {A = ℕ} 0 1 = cc in omega arith)
-
--- F[f ↦ v]: v put where f has its number, if it has one.
-abbrev putAt : Value → List Value → Option ℕ → List Value
-putAt x l none = l
-putAt x l (some k) = set l k x
-
-field-set : (x : Value) (ds : List Slot) (l : List Value) (f : ℕ) → setField x ds l f ≡ putAt x l (fieldNumber ds f)
-field-set x [] l f = refl
-field-set x (d ∷ ds) [] f = go (fieldNumber (d ∷ ds) f)
-  where
-    go : (r : Option ℕ) → [] ≡ putAt x [] r
-    go none = refl
-    go (some k) = refl
-field-set x (d ∷ ds) (v ∷ l) f = go (eqb (d .name) f) (fieldNumber ds f) (field-set x ds l f)
-  where
-    go :
-        (b : Bool) (r : Option ℕ) → setField x ds l f ≡ putAt x l r
-        → cond b (x ∷ l) (v ∷ setField x ds l f) ≡ putAt x (v ∷ l) (cond b (some 0) (Option·map suc r))
-    go true r e = refl
-    go false none e = ap (_∷_ v) e
-    go false (some k) e = ap (_∷_ v) e
-
--- So the code may read and store a field by its number.
-module _ (ds : List Slot) (l : List Value) (f : ℕ) where
-  pub value-at : (k : ℕ) → fieldNumber ds f ≡ some k → length l ≡ length ds → fieldValue ds l f ≡ some (getD l k nil)
-  value-at k e h = rw (value-numbered ds l f h, e)
-
-  pub set-at : (x : Value) (k : ℕ) → fieldNumber ds f ≡ some k → setField x ds l f ≡ set l k x
-  set-at x k e = rw (field-set x ds l f, e)
-
-  pub set-none : (x : Value) → fieldNumber ds f ≡ none → setField x ds l f ≡ l
-  set-none x e = rw (field-set x ds l f, e)
 
 -- a class has as many fields as its record counts
 class-few : (s : List ℕ) (c : ℕ) → ownFields s c ≤ CLASS-FIELDS → length (classAt s c .fields) ≤ CLASS-FIELDS

@@ -1,2 +1,5 @@
+pub mod SubtypeLaws
+pub mod LookupLaws
+pub mod MemberLaws
 pub mod FieldLaws
 pub mod MethodLaws

@@ -12,14 +12,14 @@ use Rattle.script.specs.Section.{countOf, recordWord}
 use Rattle.script.specs.Syntax.{Point, Expr, Node, n-null, n-var, n-select, n-update, n-call, n-bind, n-new, n-cast, n-fork, n-lock, build, pointOf, Method, Declaration, a-unit, an-interface, a-class, no-type, declarationAt}
 use Rattle.script.specs.Reading.{viewAt, exprAt, ownMethods, methodAt, classAt, programOf}
 use Rattle.script.specs.Statements.{WithinLayout}
-use Rattle.script.specs.Laid.{foundOf}
+use Rattle.sections.specs.Laid.{foundOf}
 use Rattle.script.proofs.Reading.{expr-at}
-use Rattle.typing.specs.declared.Declared.{Declared}
-use Rattle.typing.specs.declared.Declared.the-variants.{Interface as is-interface, Class as is-class, Neither as is-neither}
-use Rattle.typing.specs.Lookup.{Memberless, DeclaredAs, ownNamed}
-use Rattle.typing.proofs.SubtypeLaws.{class-there, type-interface, type-class, type-neither}
-use Rattle.typing.proofs.LookupLaws.{named-run, own-there}
-use Rattle.machine.specs.Machine.{definedFrom, definedIn}
+use Rattle.members.specs.declared.Declared.{Declared}
+use Rattle.members.specs.declared.Declared.the-variants.{Interface as is-interface, Class as is-class, Neither as is-neither}
+use Rattle.members.specs.Lookup.{Memberless, DeclaredAs, ownNamed}
+use Rattle.members.proofs.SubtypeLaws.{class-there, type-interface, type-class, type-neither}
+use Rattle.members.proofs.LookupLaws.{named-run, own-there}
+use Rattle.typing.specs.Members.{definedFrom, definedIn}
 use Rattle.members.specs.Defined.{MethodIs, no-method, method-at}
 
 -- The record of a method: in a class the first of its run with the name, and no other type defines any.

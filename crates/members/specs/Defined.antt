@@ -11,7 +11,7 @@ use Rattle.script.specs.declared.Section.the-variants.{Methods as methods}
 use Rattle.script.specs.Section.{countOf}
 use Rattle.script.specs.Syntax.{Slot}
 use Rattle.script.specs.Reading.{methodAt, programOf}
-use Rattle.machine.specs.Machine.{definedIn}
+use Rattle.typing.specs.Members.{definedIn}
 
 -- The number of the first field of this name, from 0 on in the order in which they are declared, as the values of an object stand.
 abbrev pub fieldNumber : List Slot → ℕ → Option ℕ

@@ -1,58 +1,28 @@
-// What a Run asks of a class: the places of its fields, and the records of its methods.
-use limits::Limits;
-use script::Found;
-use script::Section;
-use typing::Declared;
-use typing::declared_as;
-use typing::find_own;
-ghost use mathlib.Core.Path.{_≡_};
-ghost use Prim.Native.Nat.{ℕ, _<_};
-ghost use Rattle.limits.specs.Limits.{CLASS-FIELDS};
-ghost use Rattle.script.specs.declared.Found.the-variants.{At};
-ghost use Rattle.script.specs.Reading.{programOf};
-ghost use Rattle.script.specs.Statements.{WithinLayout};
-ghost use Rattle.script.specs.Laid.{foundOf};
-ghost use Rattle.typing.specs.Tables.{Starts};
-ghost use Rattle.machine.specs.Machine.{fieldsOf};
-ghost use Rattle.members.specs.Defined.{fieldNumber, MethodIs};
+// Subtyping and members in code: what a type is below, its fields and methods, and where a class keeps them.
+mod classes;
+mod lookup;
+mod starts;
+mod subtyping;
 
-// The place of the field f among those that the type t declares, which only a class does.
-pub fn field_place(s: &[u8], starts: &[u16], t: u16, f: u16) -> Found
-    requires { ⌜ WithinLayout (now s) × Starts (now s) (now starts) ⌝ }
-    ensures { λ r. ⌜ r ≡ foundOf (fieldNumber (fieldsOf (programOf (now (s .entry))) t) f) ⌝ }
-    ensures { λ r. ⌜ ((k : ℕ) → r ≡ At k → k < CLASS-FIELDS) ⌝ }
-{
-    let d = declared_as(s, t);
-    match d {
-        Declared::Interface(_) => Found::Nothing,
-        Declared::Class(c) => {
-            let at = Limits::INTERFACES + c;
-            let Found::At(i) = find_own(s, starts, Section::Fields, c, at, f) else {
-                return Found::Nothing;
-            };
-            let from = starts[at] as usize;
-            Found::At(i - from)
-        }
-        Declared::Neither => Found::Nothing,
-    }
+pub use classes::field_place;
+pub use classes::method_record;
+pub use lookup::field_type;
+pub use lookup::find_own;
+pub use lookup::meanings;
+pub use lookup::method_of;
+pub use starts::fill_starts;
+pub use subtyping::declared_as;
+pub use subtyping::is_below;
+
+// What a method look-up finds: the types of the parameter and the result.
+pub enum Member {
+    Missing,
+    Types(u16, u16),
 }
 
-// The record of the method m that the type t defines, which only a class does.
-pub fn method_record(s: &[u8], starts: &[u16], t: u16, m: u16) -> Found
-    requires { ⌜ WithinLayout (now s) × Starts (now s) (now starts) ⌝ }
-    ensures { λ r. ⌜ MethodIs (now (s .entry)) t m r ⌝ }
-{
-    let d = declared_as(s, t);
-    match d {
-        Declared::Interface(_) => Found::Nothing,
-        Declared::Class(c) => find_own(
-            s,
-            starts,
-            Section::Methods,
-            c,
-            Limits::INTERFACES + Limits::CLASSES + c,
-            m,
-        ),
-        Declared::Neither => Found::Nothing,
-    }
+// What a type number is declared as, with the index of the record.
+pub enum Declared {
+    Interface(usize),
+    Class(usize),
+    Neither,
 }

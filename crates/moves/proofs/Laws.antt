@@ -14,26 +14,28 @@ use Rattle.machine.specs.declared.Frame.{Frame}
 use Rattle.machine.specs.declared.Store.the-variants.{Objects as objects, Frames as frames, Threads as threads}
 use Rattle.machine.specs.Config as machine
 use Rattle.machine.specs.Config.{Code, Object, Binding, Stores, running, returning, failed, join}
-use Rattle.machine.specs.Machine.{nulls, fieldsOf, scope, find, Outcome, still, full, moved, give, descend, make, spawn, Phase, finished, broken, busy, phase, fold, threadCount}
+use Rattle.machine.specs.Machine.{nulls, scope, find, Outcome, still, full, moved, give, descend, make, spawn, Phase, finished, broken, busy, phase, fold, threadCount}
+use Rattle.typing.specs.Members.{fieldsOf}
 use Rattle.block.specs.declared.Area.the-variants.{Objects, Frames}
 use Rattle.block.specs.Layout.{counted}
-use Rattle.block.specs.Block.{preorder, framesOf, Parts, withObjects, laid}
-use Rattle.threads.specs.declared.Tree.{Tree}
-use Rattle.threads.specs.declared.Fold.{Fold}
-use Rattle.threads.specs.declared.Fold.the-variants.{Still as stays, GoesOn as goes-on, Fails as fails}
-use Rattle.threads.specs.Entries.{Is}
-use Rattle.threads.specs.Parts.{Stands}
-use Rattle.threads.specs.Phases.{outcomeOf, FoldAt}
-use Rattle.threads.proofs.Trees.{entries-length, size-threads}
-use Rattle.threads.proofs.Parts.{used-length}
-use Rattle.scopes.specs.declared.Lookup.{Lookup}
-use Rattle.scopes.specs.declared.Lookup.the-variants.{Unbound, Bound}
-use Rattle.scopes.specs.Chains.{bindingsIn, lookupOf}
-use Rattle.members.proofs.FieldLaws.{nulls-are}
-use Rattle.scopes.proofs.LaidLaws.{bindings-read}
-use Rattle.hand.specs.Hand.{partsIn, Else, Seen, Sight}
-use Rattle.hand.proofs.Seeing.{lying, objects-counted, seen-inside}
-use Rattle.hand.proofs.Moves.{seen-objects}
+use Rattle.block.specs.Block.{preorder, framesOf, Parts, laid}
+use Rattle.representation.specs.Changed.{withObjects}
+use Rattle.tree.specs.declared.Tree.{Tree}
+use Rattle.tree.specs.declared.Fold.{Fold}
+use Rattle.tree.specs.declared.Fold.the-variants.{Still as stays, GoesOn as goes-on, Fails as fails}
+use Rattle.tree.specs.Entries.{Is}
+use Rattle.tree.specs.Parts.{Stands}
+use Rattle.tree.specs.Phases.{outcomeOf, FoldAt}
+use Rattle.tree.proofs.Trees.{entries-length, size-threads}
+use Rattle.tree.proofs.Parts.{used-length}
+use Rattle.environments.specs.declared.Lookup.{Lookup}
+use Rattle.environments.specs.declared.Lookup.the-variants.{Unbound, Bound}
+use Rattle.environments.specs.Chains.{bindingsIn, lookupOf}
+use Rattle.moves.proofs.FieldValues.{nulls-are}
+use Rattle.environments.proofs.LaidLaws.{bindings-read}
+use Rattle.state.specs.Hand.{partsIn, Else, Seen, Sight}
+use Rattle.state.proofs.Seeing.{lying, objects-counted, seen-inside}
+use Rattle.state.proofs.Moves.{seen-objects}
 use Rattle.moves.specs.declared.Effect.the-variants.{Still, Moved, Full}
 use Rattle.moves.specs.Came.{Came, came-still, came-full, came-moved}
 

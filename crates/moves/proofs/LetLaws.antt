@@ -18,7 +18,7 @@ use Rattle.typing.specs.declared.Answer.the-variants.{Typed, Faulty}
 use Rattle.typing.specs.Members.{typeIn}
 use Rattle.typing.specs.Typing.{inferred}
 use Rattle.typing.specs.Published.{WfEnv}
-use Rattle.typing.specs.At.{At, Inferred, Blank}
+use Rattle.inference.specs.At.{At, Inferred, Blank}
 use Rattle.machine.specs.declared.Value.{Value}
 use Rattle.machine.specs.declared.Frame.{Frame}
 use Rattle.machine.specs.declared.Store.the-variants.{Bindings as bindings}
@@ -27,15 +27,16 @@ use Rattle.machine.specs.Config.{Binding, Stores, running, returning}
 use Rattle.machine.specs.Machine.{context, Outcome, extend, size}
 use Rattle.block.specs.declared.Area.the-variants.{Bindings}
 use Rattle.block.specs.Layout.{counted}
-use Rattle.block.specs.Block.{waiting, framesOf, Parts, withBindings, laid}
-use Rattle.threads.specs.declared.Cell.{Cell}
-use Rattle.threads.specs.declared.Cell.the-variants.{Running}
-use Rattle.threads.specs.declared.Tree.{Tree}
-use Rattle.threads.specs.Entries.{cellOf}
-use Rattle.scopes.specs.Chains.{bindingsIn, Zeros, Filled}
-use Rattle.hand.specs.Hand.{Else, Seen, Sight}
-use Rattle.hand.proofs.Seeing.{lying, bindings-counted, sighted}
-use Rattle.hand.proofs.Moves.{seen-bindings}
+use Rattle.block.specs.Block.{waiting, framesOf, Parts, laid}
+use Rattle.representation.specs.Changed.{withBindings}
+use Rattle.tree.specs.declared.Cell.{Cell}
+use Rattle.tree.specs.declared.Cell.the-variants.{Running}
+use Rattle.tree.specs.declared.Tree.{Tree}
+use Rattle.tree.specs.Entries.{cellOf}
+use Rattle.environments.specs.Chains.{bindingsIn, Zeros, Filled}
+use Rattle.state.specs.Hand.{Else, Seen, Sight}
+use Rattle.state.proofs.Seeing.{lying, bindings-counted, sighted}
+use Rattle.state.proofs.Moves.{seen-bindings}
 use Rattle.moves.specs.declared.Effect.the-variants.{Still, Moved, Full}
 use Rattle.moves.specs.Came.{Came, came-still, came-full, came-moved}
 use Rattle.moves.proofs.Laws.{scope-read}

@@ -3,9 +3,5 @@ pub mod ReadLaws
 pub mod LockLaws
 pub mod WaitingLaws
 pub mod LetLaws
+pub mod FieldValues
 pub mod Ready
-pub mod NodeLaws
-pub mod WakeLaws
-pub mod ChoiceLaws
-pub mod LookLaws
-pub mod RunLaws

@@ -20,15 +20,16 @@ use Rattle.machine.specs.Config.{Object, Stores, running, failed}
 use Rattle.machine.specs.Machine.{scope, find, object, setShut, lockFrames, still, withShut as shutIn, enter, shutAndEnter, lockObject, lockTarget}
 use Rattle.block.specs.declared.Area.the-variants.{Objects, Frames}
 use Rattle.block.specs.Layout.{counted, wordIn}
-use Rattle.block.specs.Block.{shutWord, framesOf, Parts, withObjects, withShut, laid}
-use Rattle.threads.specs.declared.Tree.{Tree}
-use Rattle.scopes.specs.declared.Lookup.{Lookup}
-use Rattle.scopes.specs.declared.Lookup.the-variants.{Unbound, Bound}
-use Rattle.scopes.specs.Chains.{bindingsIn, lookupOf}
-use Rattle.scopes.proofs.LaidLaws.{object-cell, object-there, object-absent, shut-set}
-use Rattle.hand.specs.Hand.{Else, Seen}
-use Rattle.hand.proofs.Seeing.{lying, objects-counted, frames-counted, seen-few}
-use Rattle.hand.proofs.Moves.{seen-objects}
+use Rattle.block.specs.Block.{shutWord, framesOf, Parts, laid}
+use Rattle.representation.specs.Changed.{withObjects, withShut}
+use Rattle.tree.specs.declared.Tree.{Tree}
+use Rattle.environments.specs.declared.Lookup.{Lookup}
+use Rattle.environments.specs.declared.Lookup.the-variants.{Unbound, Bound}
+use Rattle.environments.specs.Chains.{bindingsIn, lookupOf}
+use Rattle.environments.proofs.LaidLaws.{object-cell, object-there, object-absent, shut-set}
+use Rattle.state.specs.Hand.{Else, Seen}
+use Rattle.state.proofs.Seeing.{lying, objects-counted, frames-counted, seen-few}
+use Rattle.state.proofs.Moves.{seen-objects}
 use Rattle.moves.specs.declared.Effect.the-variants.{Still, Moved, Full}
 use Rattle.moves.specs.declared.Step.{Step}
 use Rattle.moves.specs.Came.{Came, came-still, came-full, came-moved}

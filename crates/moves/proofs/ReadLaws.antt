@@ -11,28 +11,29 @@ use Rattle.limits.specs.Limits.{CLASS-FIELDS}
 use Rattle.script.specs.declared.Found.{Found}
 use Rattle.script.specs.declared.Found.the-variants.{At, Nothing}
 use Rattle.script.specs.Reading.{programOf}
-use Rattle.script.specs.Laid.{foundOf}
-use Rattle.typing.proofs.LookupLaws.{found-at, found-nothing}
+use Rattle.sections.specs.Laid.{foundOf}
+use Rattle.members.proofs.LookupLaws.{found-at, found-nothing}
 use Rattle.machine.specs.declared.Value.{Value}
 use Rattle.machine.specs.declared.Value.the-variants.{Null as nil, Ref as ref}
 use Rattle.machine.specs.declared.Frame.{Frame}
 use Rattle.machine.specs.Config as machine
 use Rattle.machine.specs.Config.{codeOf, Code, Object, Stores, returning, failed}
-use Rattle.machine.specs.Machine.{fieldsOf, scope, find, object, selectField, selectObject, selectTarget}
+use Rattle.typing.specs.Members.{fieldsOf}
+use Rattle.machine.specs.Machine.{scope, find, object, selectField, selectObject, selectTarget}
 use Rattle.members.specs.Defined.{fieldNumber}
-use Rattle.members.proofs.FieldLaws.{value-at, value-none}
+use Rattle.moves.proofs.FieldValues.{value-at, value-none}
 use Rattle.block.specs.declared.Area.the-variants.{Objects}
 use Rattle.block.specs.Layout.{counted, wordIn}
 use Rattle.block.specs.Block.{valueWord, Parts, laid}
 use Rattle.block.specs.Decode.{valueOf}
 use Rattle.block.specs.Fits.{Few}
 use Rattle.block.proofs.Rows.{getD-filled}
-use Rattle.threads.specs.declared.Tree.{Tree}
-use Rattle.scopes.specs.declared.Lookup.{Lookup}
-use Rattle.scopes.specs.declared.Lookup.the-variants.{Unbound, Bound}
-use Rattle.scopes.specs.Chains.{bindingsIn, lookupOf}
-use Rattle.scopes.proofs.LaidLaws.{objects-counted, object-cell, object-there, object-absent, value-back}
-use Rattle.hand.specs.Hand.{Else, Seen}
+use Rattle.tree.specs.declared.Tree.{Tree}
+use Rattle.environments.specs.declared.Lookup.{Lookup}
+use Rattle.environments.specs.declared.Lookup.the-variants.{Unbound, Bound}
+use Rattle.environments.specs.Chains.{bindingsIn, lookupOf}
+use Rattle.environments.proofs.LaidLaws.{objects-counted, object-cell, object-there, object-absent, value-back}
+use Rattle.state.specs.Hand.{Else, Seen}
 use Rattle.moves.specs.declared.Effect.the-variants.{Still, Moved}
 use Rattle.moves.specs.Came.{Came, came-still, came-moved, OwnFields, fieldFrom, valueFound}
 use Rattle.moves.proofs.Laws.{unbound-not, bound-same, not-bound, bound, looked}

@@ -16,8 +16,10 @@ use Rattle.script.proofs.Reading.{first}
 use Rattle.script.proofs.Declarations.{length-interfaces, length-classes}
 use Rattle.typing.specs.Members.{typeIn}
 use Rattle.typing.specs.Published.{WfEnv, WF-ENV}
-use Rattle.typing.specs.Tables.{Starts, Forks, Named}
-use Rattle.typing.specs.At.{Blank}
+use Rattle.members.specs.Tables.{Starts}
+use Rattle.sharing.specs.Tables.{Forks}
+use Rattle.inference.specs.Tables.{Named}
+use Rattle.inference.specs.At.{Blank}
 use Rattle.machine.specs.declared.Value.{Value}
 use Rattle.machine.specs.declared.Want.{Want}
 use Rattle.machine.specs.declared.Frame.{Frame}
@@ -29,12 +31,12 @@ use Rattle.machine.proofs.Stores.{object-below, fields-long}
 use Rattle.machine.proofs.Decide.{context-wf}
 use Rattle.block.specs.declared.Area.the-variants.{Objects, Bindings}
 use Rattle.block.specs.Block.{valueWord, waiting}
-use Rattle.threads.specs.declared.Tree.{Tree}
-use Rattle.threads.specs.Entries.{blank}
-use Rattle.scopes.specs.Chains.{bindingCount, bindingAt, newest, bindingsIn, Chain, Typed, Zeros}
-use Rattle.scopes.proofs.ChainLaws.{length-newest}
-use Rattle.hand.specs.Hand.{Else, Seen}
-use Rattle.hand.proofs.Seeing.{seen-length, seen-few, objects-counted, bindings-counted, seen-waiting}
+use Rattle.tree.specs.declared.Tree.{Tree}
+use Rattle.tree.specs.Entries.{blank}
+use Rattle.environments.specs.Chains.{bindingCount, bindingAt, newest, bindingsIn, Chain, Typed, Zeros}
+use Rattle.environments.proofs.ChainLaws.{length-newest}
+use Rattle.state.specs.Hand.{Else, Seen}
+use Rattle.state.proofs.Seeing.{seen-length, seen-few, objects-counted, bindings-counted, seen-waiting}
 use Rattle.moves.specs.Came.{OwnFields}
 use Rattle.moves.proofs.Laws.{scope-read}
 

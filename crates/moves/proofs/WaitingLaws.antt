@@ -15,32 +15,34 @@ use Rattle.script.specs.Section.{recordWord}
 use Rattle.script.specs.Syntax.{Method, Program}
 use Rattle.script.specs.Reading.{methodAt, programOf}
 use Rattle.script.specs.Statements.{WithinLayout}
-use Rattle.script.specs.Laid.{foundOf}
-use Rattle.typing.proofs.LookupLaws.{found-at, found-nothing}
+use Rattle.sections.specs.Laid.{foundOf}
+use Rattle.members.proofs.LookupLaws.{found-at, found-nothing}
 use Rattle.machine.specs.declared.Value.{Value}
 use Rattle.machine.specs.declared.Value.the-variants.{Null as nil, Ref as ref}
 use Rattle.machine.specs.declared.Frame.{Frame}
 use Rattle.machine.specs.declared.Store.the-variants.{Bindings as bindings}
 use Rattle.machine.specs.Config as machine
 use Rattle.machine.specs.Config.{Code, codeOf, Object, Binding, Stores, running, returning, failed}
-use Rattle.machine.specs.Machine.{fieldsOf, definedIn, scope, find, object, setShut, setFields, setField, Outcome, full, withShut, updateTarget}
-use Rattle.machine.specs.Machine.{callBindings, callMethod, callObject, callTarget}
+use Rattle.typing.specs.Members.{fieldsOf, definedIn}
+use Rattle.machine.specs.Machine.{scope, find, object, setShut, setFields, setField, Outcome, full, withShut, updateTarget, callBindings, callMethod, callObject, callTarget}
 use Rattle.block.specs.declared.Area.the-variants.{Objects, Bindings}
 use Rattle.block.specs.Layout.{counted, wordIn}
-use Rattle.block.specs.Block as block
-use Rattle.block.specs.Block.{framesOf, Parts, withObjects, withBindings, withField, laid}
+use Rattle.representation.specs.Changed as altered
+use Rattle.block.specs.Block.{framesOf, Parts, laid}
+use Rattle.representation.specs.Changed.{withObjects, withBindings, withField}
 use Rattle.members.specs.Defined.{fieldNumber, MethodIs}
-use Rattle.members.proofs.FieldLaws.{number-below, set-at, set-none}
+use Rattle.members.proofs.FieldLaws.{number-below}
+use Rattle.moves.proofs.FieldValues.{set-at, set-none}
 use Rattle.members.proofs.MethodLaws.{defined-none, defined-at, param-word, body-word}
-use Rattle.threads.specs.declared.Tree.{Tree}
-use Rattle.scopes.specs.declared.Lookup.{Lookup}
-use Rattle.scopes.specs.declared.Lookup.the-variants.{Unbound, Bound}
-use Rattle.scopes.specs.Chains.{bindingsIn, lookupOf}
-use Rattle.scopes.proofs.LaidLaws as laid-laws
-use Rattle.scopes.proofs.LaidLaws.{object-cell, object-there, object-absent, shut-set, field-set}
-use Rattle.hand.specs.Hand.{Else, Seen}
-use Rattle.hand.proofs.Seeing.{lying, seen-few, objects-counted, bindings-counted}
-use Rattle.hand.proofs.Moves.{seen-objects, seen-bindings}
+use Rattle.tree.specs.declared.Tree.{Tree}
+use Rattle.environments.specs.declared.Lookup.{Lookup}
+use Rattle.environments.specs.declared.Lookup.the-variants.{Unbound, Bound}
+use Rattle.environments.specs.Chains.{bindingsIn, lookupOf}
+use Rattle.environments.proofs.LaidLaws as laid-laws
+use Rattle.environments.proofs.LaidLaws.{object-cell, object-there, object-absent, shut-set, field-set}
+use Rattle.state.specs.Hand.{Else, Seen}
+use Rattle.state.proofs.Seeing.{lying, seen-few, objects-counted, bindings-counted}
+use Rattle.state.proofs.Moves.{seen-objects, seen-bindings}
 use Rattle.moves.specs.declared.Effect.the-variants.{Still, Moved, Full}
 use Rattle.moves.specs.declared.Step.{Step}
 use Rattle.moves.specs.Came.{Came, came-still, came-full, came-moved}
@@ -50,7 +52,7 @@ use Rattle.moves.proofs.Laws.{BoundTo, bound, not-bound, looked}
 abbrev pub Shuts : List ℕ → List ℕ → ℕ → Bool → Type 0
 Shuts b c o h =
     (p : Parts) (d : Object) → b ≡ bytes (laid p) → o < length (p .objects)
-    → c ≡ bytes (laid (withObjects p (set (p .objects) o (block.withShut (getD (p .objects) o d) h))))
+    → c ≡ bytes (laid (withObjects p (set (p .objects) o (altered.withShut (getD (p .objects) o d) h))))
 
 -- what put_field ensures
 abbrev pub Stored : List ℕ → List ℕ → ℕ → ℕ → Value → Type 0
@@ -100,7 +102,7 @@ module _ {b : List ℕ} {self : Tree} {i : ℕ} {x : Else} {st : Stores} {u : ma
   pub opens : {c : List ℕ} (o n : ℕ) → n ≡ counted b Objects → o < n → Shuts b c o false → Seen c self i x (withShut false st o) u
   opens o n e l shuts =
       rw (shut-set false (st .objects) o none-there)
-      (changed o (block.withShut (getD (st .objects) o none-there) false) (shuts (lying x st (framesOf u)) none-there (s .block) (omega (arith, objects-counted s))))
+      (changed o (altered.withShut (getD (st .objects) o none-there) false) (shuts (lying x st (framesOf u)) none-there (s .block) (omega (arith, objects-counted s))))
 
   -- the class of an object
   pub class-read : (o class : ℕ) (y : Object) → object (st .objects) o ≡ some y → class ≡ wordIn b Objects o 0 → class ≡ y .class

@@ -10,21 +10,23 @@ use Rattle.machine.specs.declared.Want.{Want}
 use Rattle.machine.specs.declared.Store.{Store}
 use Rattle.machine.specs.Config as machine
 use Rattle.machine.specs.Config.{Code, codeOf, Object, Stores, returning, Config}
-use Rattle.machine.specs.Machine.{fieldsOf, object, fieldValue, Outcome, still, full, moved, Path, locate}
-use Rattle.machine.specs.Silent.{part}
+use Rattle.typing.specs.Members.{fieldsOf}
+use Rattle.machine.specs.Machine.{object, fieldValue, Outcome, still, full, moved, Path, locate, part}
 use Rattle.machine.specs.WellFormed.{StoresOk, TreeOk}
-use Rattle.threads.specs.declared.Tree.{Tree}
-use Rattle.scopes.specs.declared.Lookup.{Lookup}
-use Rattle.scopes.specs.declared.Lookup.the-variants.{Unbound, Bound}
-use Rattle.hand.specs.Hand.{InHand, Else, Seen}
+use Rattle.tree.specs.declared.Tree.{Tree}
+use Rattle.environments.specs.declared.Lookup.{Lookup}
+use Rattle.environments.specs.declared.Lookup.the-variants.{Unbound, Bound}
+use Rattle.state.specs.Hand.{InHand, Else, Seen}
 use Rattle.moves.specs.declared.Effect.the-variants.{Still, Moved, Full}
 use Rattle.moves.specs.declared.Step.{Step}
 
--- The block and the answer after the machine's outcome for the part at position i, where the block was b and the tree `self`; all else is x and stays. "that move not made"
+-- The block and the answer after the machine's outcome for the part at position i, where the block was b and the tree `self`; all else is x and stays. "that
+-- move not made"
 pub data Came (b : List ℕ) (self : Tree) (i : ℕ) (x : Else) : Outcome → List ℕ → Step → Type 0 where
   came-still : Came b self i x still b (record { effect = Still; tree = self })
   came-full : {k : Store} → Came b self i x (full k) b (record { effect = Full k; tree = self })
-  came-moved : {after : List ℕ} {tree : Tree} {st : Stores} {w : machine.Tree} → Seen after tree i x st w → Came b self i x (moved st w) after (record { effect = Moved; tree = tree })
+  came-moved : {after : List ℕ} {tree : Tree} {st : Stores} {w : machine.Tree} → Seen after tree i x st w
+      → Came b self i x (moved st w) after (record { effect = Moved; tree = tree })
 
 -- The block b and the tree `self` are the configuration c, and choice i names the place p of the part u; all else is x.
 pub record Here (b : List ℕ) (self : Tree) (i : ℕ) (c : Config) (p : Path) (u : machine.Tree) (x : Else) : Type 0 where

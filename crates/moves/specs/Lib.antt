@@ -1,4 +1,1 @@
 pub mod Came
-pub mod Chose
-pub mod Looks
-pub mod Reports

@@ -5,9 +5,8 @@ use block::Area;
 use limits::Limits;
 use machine::Frame;
 use machine::Store;
-use threads::Fold;
-use threads::Tree;
-ghost use mathlib.Core.Path.{_≡_};
+use tree::Fold;
+use tree::Tree;
 ghost use mathlib.Core.List.{List};
 ghost use Prim.Native.Nat.{ℕ, _-_, _<_};
 ghost use Rattle.limits.specs.Limits.{FRAMES, THREADS};
@@ -17,8 +16,8 @@ ghost use Rattle.machine.specs.Config.{Stores, running, join};
 ghost use Rattle.machine.specs.Machine.{threadCount, descend, spawn, phase, fold};
 ghost use Rattle.block.specs.declared.Area.the-variants.{Frames};
 ghost use Rattle.block.specs.Layout.{counted};
-ghost use Rattle.threads.specs.Entries.{Tidy, Is};
-ghost use Rattle.hand.specs.Hand.{Else, Seen, Sight};
+ghost use Rattle.tree.specs.Entries.{Tidy, Is};
+ghost use Rattle.state.specs.Hand.{Else, Seen, Sight};
 ghost use Rattle.moves.specs.Came.{Came};
 
 // "kinds 3, 4, 5 and 7 descend into their first-run part and leave a frame"
@@ -30,13 +29,13 @@ pub fn leave_frame(block: &mut [u8], tree: Tree, i: usize, f: Frame, a: u16, env
         Came (now (block .entry)) tree i x (descend st fs env f a (FRAMES - counted (now (block .entry)) Frames)) (now (block .exit)) r)
         ⌝ }
 {
-    if Limits::FRAMES <= store::count(block, Area::Frames) {
+    if Limits::FRAMES <= areas::count(block, Area::Frames) {
         return Step {
             effect: Effect::Full(Store::Frames),
             tree: tree,
         };
     }
-    let after = hand::push(block, tree, i, f, a, env);
+    let after = state::push(block, tree, i, f, a, env);
     Step {
         effect: Effect::Moved,
         tree: after,
@@ -59,14 +58,15 @@ pub fn become_join(tree: Tree, i: usize, env: u16, a: u16, b: u16, c: u16) -> St
             tree: tree,
         };
     }
-    let after = hand::fork(tree, i, a, b, c, env);
+    let after = state::fork(tree, i, a, b, c, env);
     Step {
         effect: Effect::Moved,
         tree: after,
     }
 }
 
-// "A join with both sides finished goes on as the left thread, at the last part and with the frames kept; with a failed side it becomes failed and all beneath is dropped."
+// "A join with both sides finished goes on as the left thread, at the last part and with the frames kept; with a failed side it becomes failed and all beneath
+// is dropped."
 pub fn fold_join(block: &mut [u8], tree: Tree, i: usize) -> Step
     requires { ⌜ Sight (now block) tree i ⌝ }
     ensures { λ r. ⌜
@@ -82,14 +82,14 @@ pub fn fold_join(block: &mut [u8], tree: Tree, i: usize) -> Step
             tree: tree,
         },
         Fold::GoesOn => {
-            let after = hand::rejoin(tree, i);
+            let after = state::rejoin(tree, i);
             Step {
                 effect: Effect::Moved,
                 tree: after,
             }
         }
         Fold::Fails => {
-            let after = hand::fail(block, tree, i);
+            let after = state::fail(block, tree, i);
             Step {
                 effect: Effect::Moved,
                 tree: after,

@@ -2,11 +2,11 @@
 use crate::Effect;
 use crate::Step;
 use block::Area;
+use environments::Lookup;
 use machine::Value;
-use scopes::Lookup;
 use script::Found;
-use threads::Cell;
-use threads::Tree;
+use tree::Cell;
+use tree::Tree;
 ghost use mathlib.Core.Path.{_≡_};
 ghost use mathlib.Core.List.{List};
 ghost use Prim.Native.Nat.{ℕ, _≤_};
@@ -14,7 +14,7 @@ ghost use lib.ListN.{length};
 ghost use Rattle.words.specs.Word.{bytes};
 ghost use Rattle.limits.specs.Limits.{BLOCK, OBJECTS};
 ghost use Rattle.script.specs.Statements.{WithinLayout};
-ghost use Rattle.typing.specs.Tables.{Starts};
+ghost use Rattle.members.specs.Tables.{Starts};
 ghost use Rattle.machine.specs.declared.Frame.{Frame};
 ghost use Rattle.machine.specs.Config.{Stores, running, codeOf};
 ghost use Rattle.machine.specs.Machine.{scope, find, object, selectTarget};
@@ -22,8 +22,8 @@ ghost use Rattle.block.specs.declared.Area.the-variants.{Objects};
 ghost use Rattle.block.specs.Layout.{counted};
 ghost use Rattle.block.specs.Block.{Parts, laid};
 ghost use Rattle.block.specs.Fits.{Few};
-ghost use Rattle.scopes.specs.Chains.{Chain};
-ghost use Rattle.hand.specs.Hand.{Else, Seen, Sight};
+ghost use Rattle.environments.specs.Chains.{Chain};
+ghost use Rattle.state.specs.Hand.{Else, Seen, Sight};
 ghost use Rattle.moves.specs.Came.{Came, OwnFields, fieldFrom, valueFound};
 
 // The value of field f of object number o, where both are there.
@@ -38,16 +38,16 @@ fn field_value(s: &[u8], starts: &[u16], block: &[u8], o: u16, f: u16) -> Lookup
         ⌝ }
 {
     let i = o as usize;
-    if store::count(block, Area::Objects) <= i {
+    if areas::count(block, Area::Objects) <= i {
         return Lookup::Unbound;
     }
-    let class = store::word(block, Area::Objects, i, 0);
+    let class = areas::word(block, Area::Objects, i, 0);
     let place = members::field_place(s, starts, class, f);
     let Found::At(k) = place else {
         return Lookup::Unbound;
     };
-    let word = store::word(block, Area::Objects, i, 2 + k);
-    Lookup::Bound(store::value_of(word))
+    let word = areas::word(block, Area::Objects, i, 2 + k);
+    Lookup::Bound(areas::value_of(word))
 }
 
 // "a read gives the field"; "null fails the thread."
@@ -69,7 +69,7 @@ pub fn read_field(
         Came (now (block .entry)) tree i rest (selectTarget (codeOf (now (s .entry))) st fs f (find (scope (st .bindings) env) x)) (now (block .exit)) r)
         ⌝ }
 {
-    let found = scopes::variable(block, env, x);
+    let found = environments::variable(block, env, x);
     let Lookup::Bound(target) = found else {
         return Step {
             effect: Effect::Still,
@@ -77,7 +77,7 @@ pub fn read_field(
         };
     };
     let Value::Ref(o) = target else {
-        let after = hand::fail(block, tree, i);
+        let after = state::fail(block, tree, i);
         return Step {
             effect: Effect::Moved,
             tree: after,
@@ -90,7 +90,7 @@ pub fn read_field(
             tree: tree,
         };
     };
-    let after = hand::settle(tree, i, Cell::Returning(v));
+    let after = state::settle(tree, i, Cell::Returning(v));
     Step {
         effect: Effect::Moved,
         tree: after,

@@ -5,8 +5,8 @@ use block::Area;
 use limits::Limits;
 use machine::Store;
 use machine::Value;
-use threads::Cell;
-use threads::Tree;
+use tree::Cell;
+use tree::Tree;
 use typing::Answer;
 ghost use mathlib.Core.Path.{_≡_};
 ghost use mathlib.Core.List.{List, _∷_};
@@ -19,16 +19,16 @@ ghost use Rattle.script.specs.Section.{countOf};
 ghost use Rattle.script.specs.Reading.{programOf, exprAt};
 ghost use Rattle.typing.specs.Published.{WfEnv};
 ghost use Rattle.typing.specs.Typing.{inferred};
-ghost use Rattle.typing.specs.At.{Blank};
+ghost use Rattle.inference.specs.At.{Blank};
 ghost use Rattle.machine.specs.declared.Frame.{Frame};
 ghost use Rattle.machine.specs.Config.{Stores, returning};
 ghost use Rattle.machine.specs.Machine.{context, extend};
 ghost use Rattle.block.specs.declared.Area.the-variants.{Bindings};
 ghost use Rattle.block.specs.Layout.{counted};
 ghost use Rattle.block.specs.Block.{valueWord};
-ghost use Rattle.threads.specs.Entries.{blank};
-ghost use Rattle.scopes.specs.Chains.{Chain, Typed, bindingsIn};
-ghost use Rattle.hand.specs.Hand.{Else, Seen, Sight};
+ghost use Rattle.tree.specs.Entries.{blank};
+ghost use Rattle.environments.specs.Chains.{Chain, Typed, bindingsIn};
+ghost use Rattle.state.specs.Hand.{Else, Seen, Sight};
 ghost use Rattle.moves.specs.Came.{Came};
 
 // The type of node a under the bindings of an environment. The table of zeros is lent for their types, and is zeros again.
@@ -46,9 +46,9 @@ pub fn infer_under(
     ensures { λ r. ⌜ r ≡ inferred (programOf (now (s .entry))) (context (bindingsIn (now (block .entry))) env) (exprAt (now (s .entry)) a) ⌝ }
     ensures { λ r. ⌜ now (table .exit) ≡ now (table .entry) ⌝ }
 {
-    scopes::fill(block, env, table);
-    let r = typing::infer(s, starts, forks, table, a);
-    scopes::empty(block, env, table);
+    environments::fill(block, env, table);
+    let r = inference::infer(s, starts, forks, table, a);
+    environments::empty(block, env, table);
     r
 }
 
@@ -78,7 +78,8 @@ pub fn bind_value(
         tree
         i
         rest
-        (extend st fs x v b env (inferred (programOf (now (s .entry))) (context (st .bindings) env) (exprAt (now (s .entry)) a)) (BINDINGS - counted (now (block .entry)) Bindings))
+        (extend st fs x v b env (inferred (programOf (now (s .entry))) (context (st .bindings) env) (exprAt (now (s .entry)) a))
+        (BINDINGS - counted (now (block .entry)) Bindings))
         (now (block .exit))
         r)
         ⌝ }
@@ -91,15 +92,15 @@ pub fn bind_value(
             tree: tree,
         };
     };
-    let n = store::count(block, Area::Bindings);
+    let n = areas::count(block, Area::Bindings);
     if Limits::BINDINGS <= n {
         return Step {
             effect: Effect::Full(Store::Bindings),
             tree: tree,
         };
     }
-    store::add_binding(block, x, t, v, env);
-    let after = hand::pop(block, tree, i, Cell::Running(b, (n + 1) as u16));
+    areas::add_binding(block, x, t, v, env);
+    let after = state::pop(block, tree, i, Cell::Running(b, (n + 1) as u16));
     Step {
         effect: Effect::Moved,
         tree: after,

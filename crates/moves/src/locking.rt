@@ -2,14 +2,13 @@
 use crate::Effect;
 use crate::Step;
 use block::Area;
+use environments::Lookup;
 use limits::Limits;
 use machine::Frame;
 use machine::Store;
 use machine::Value;
-use scopes::Lookup;
-use threads::Cell;
-use threads::Tree;
-ghost use mathlib.Core.Path.{_≡_};
+use tree::Cell;
+use tree::Tree;
 ghost use mathlib.Core.List.{List, []};
 ghost use Prim.Native.Nat.{ℕ, _-_, _<_};
 ghost use Rattle.limits.specs.Limits.{FRAMES};
@@ -18,9 +17,9 @@ ghost use Rattle.machine.specs.Config.{Stores, running, Config};
 ghost use Rattle.machine.specs.Machine.{scope, find, object, shutAndEnter, lockObject, lockTarget, Path};
 ghost use Rattle.block.specs.declared.Area.the-variants.{Objects, Frames};
 ghost use Rattle.block.specs.Layout.{counted};
-ghost use Rattle.block.specs.Preorder.{framesAbove};
-ghost use Rattle.scopes.specs.Chains.{Chain};
-ghost use Rattle.hand.specs.Hand.{Else, Seen, Sight};
+ghost use Rattle.representation.specs.Preorder.{framesAbove};
+ghost use Rattle.environments.specs.Chains.{Chain};
+ghost use Rattle.state.specs.Hand.{Else, Seen, Sight};
 ghost use Rattle.moves.specs.Came.{Came, Here};
 
 // "open shuts and leaves a lock frame"
@@ -32,14 +31,14 @@ fn shut_object(block: &mut [u8], tree: Tree, i: usize, env: u16, a: u16, o: u16)
         Came (now (block .entry)) tree i x (shutAndEnter st fs a env o (FRAMES - counted (now (block .entry)) Frames)) (now (block .exit)) r)
         ⌝ }
 {
-    if Limits::FRAMES <= store::count(block, Area::Frames) {
+    if Limits::FRAMES <= areas::count(block, Area::Frames) {
         return Step {
             effect: Effect::Full(Store::Frames),
             tree: tree,
         };
     }
-    store::set_shut(block, o as usize, true);
-    let after = hand::push(block, tree, i, Frame::Locks(o), a, env);
+    areas::set_shut(block, o as usize, true);
+    let after = state::push(block, tree, i, Frame::Locks(o), a, env);
     Step {
         effect: Effect::Moved,
         tree: after,
@@ -57,23 +56,23 @@ fn lock_object(block: &mut [u8], tree: Tree, i: usize, env: u16, a: u16, o: u16)
         (now (block .exit)) r)
         ⌝ }
 {
-    if store::count(block, Area::Objects) <= o as usize {
+    if areas::count(block, Area::Objects) <= o as usize {
         return Step {
             effect: Effect::Still,
             tree: tree,
         };
     }
-    let shut = store::word(block, Area::Objects, o as usize, 1);
+    let shut = areas::word(block, Area::Objects, o as usize, 1);
     if shut == 0 {
         return shut_object(block, tree, i, env, a, o);
     }
-    if !hand::holds(block, tree, i, o) {
+    if !state::holds(block, tree, i, o) {
         return Step {
             effect: Effect::Still,
             tree: tree,
         };
     }
-    let after = hand::settle(tree, i, Cell::Running(a, env));
+    let after = state::settle(tree, i, Cell::Running(a, env));
     Step {
         effect: Effect::Moved,
         tree: after,
@@ -91,7 +90,7 @@ pub fn enter_lock(block: &mut [u8], tree: Tree, i: usize, env: u16, x: u16, a: u
         (now (block .exit)) r)
         ⌝ }
 {
-    let found = scopes::variable(block, env, x);
+    let found = environments::variable(block, env, x);
     let Lookup::Bound(target) = found else {
         return Step {
             effect: Effect::Still,
@@ -99,7 +98,7 @@ pub fn enter_lock(block: &mut [u8], tree: Tree, i: usize, env: u16, x: u16, a: u
         };
     };
     let Value::Ref(o) = target else {
-        let after = hand::fail(block, tree, i);
+        let after = state::fail(block, tree, i);
         return Step {
             effect: Effect::Moved,
             tree: after,

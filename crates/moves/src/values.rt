@@ -2,13 +2,12 @@
 use crate::Effect;
 use crate::Step;
 use block::Area;
+use environments::Lookup;
 use limits::Limits;
 use machine::Store;
 use machine::Value;
-use scopes::Lookup;
-use threads::Cell;
-use threads::Tree;
-ghost use mathlib.Core.Path.{_≡_};
+use tree::Cell;
+use tree::Tree;
 ghost use mathlib.Core.List.{List};
 ghost use Prim.Native.Nat.{ℕ, _-_, _<_};
 ghost use Rattle.limits.specs.Limits.{OBJECTS};
@@ -18,9 +17,9 @@ ghost use Rattle.machine.specs.Config.{Stores, running, returning, codeOf};
 ghost use Rattle.machine.specs.Machine.{scope, find, moved, give, make};
 ghost use Rattle.block.specs.declared.Area.the-variants.{Objects};
 ghost use Rattle.block.specs.Layout.{counted};
-ghost use Rattle.threads.specs.Entries.{Tidy};
-ghost use Rattle.scopes.specs.Chains.{Chain};
-ghost use Rattle.hand.specs.Hand.{Else, Seen, Sight};
+ghost use Rattle.tree.specs.Entries.{Tidy};
+ghost use Rattle.environments.specs.Chains.{Chain};
+ghost use Rattle.state.specs.Hand.{Else, Seen, Sight};
 ghost use Rattle.moves.specs.Came.{Came};
 
 // "null becomes a value"
@@ -32,7 +31,7 @@ pub fn become_null(tree: Tree, i: usize) -> Step
         Came b tree i x (moved st (returning nil fs)) b r)
         ⌝ }
 {
-    let after = hand::settle(tree, i, Cell::Returning(Value::Null));
+    let after = state::settle(tree, i, Cell::Returning(Value::Null));
     Step {
         effect: Effect::Moved,
         tree: after,
@@ -48,14 +47,14 @@ pub fn give_value(block: &[u8], tree: Tree, i: usize, env: u16, x: u16) -> Step
         Came (now (block .entry)) tree i rest (give st fs (find (scope (st .bindings) env) x)) (now (block .entry)) r)
         ⌝ }
 {
-    let found = scopes::variable(block, env, x);
+    let found = environments::variable(block, env, x);
     let Lookup::Bound(v) = found else {
         return Step {
             effect: Effect::Still,
             tree: tree,
         };
     };
-    let after = hand::settle(tree, i, Cell::Returning(v));
+    let after = state::settle(tree, i, Cell::Returning(v));
     Step {
         effect: Effect::Moved,
         tree: after,
@@ -71,15 +70,15 @@ pub fn make_object(block: &mut [u8], tree: Tree, i: usize, class: u16) -> Step
         Came (now (block .entry)) tree i x (make (codeOf s) st fs class (OBJECTS - counted (now (block .entry)) Objects)) (now (block .exit)) r)
         ⌝ }
 {
-    let n = store::count(block, Area::Objects);
+    let n = areas::count(block, Area::Objects);
     if Limits::OBJECTS <= n {
         return Step {
             effect: Effect::Full(Store::Objects),
             tree: tree,
         };
     }
-    store::new_object(block, class);
-    let after = hand::settle(tree, i, Cell::Returning(Value::Ref(n as u16)));
+    areas::new_object(block, class);
+    let after = state::settle(tree, i, Cell::Returning(Value::Ref(n as u16)));
     Step {
         effect: Effect::Moved,
         tree: after,

@@ -2,14 +2,14 @@
 use crate::Effect;
 use crate::Step;
 use block::Area;
+use environments::Lookup;
 use limits::Limits;
 use machine::Store;
 use machine::Value;
-use scopes::Lookup;
 use script::Found;
 use script::Section;
-use threads::Cell;
-use threads::Tree;
+use tree::Cell;
+use tree::Tree;
 ghost use mathlib.Core.Path.{_≡_};
 ghost use mathlib.Core.Bool.{false};
 ghost use mathlib.Core.List.{List, _∷_};
@@ -20,19 +20,20 @@ ghost use Rattle.words.specs.Word.{WORD, bytes};
 ghost use Rattle.limits.specs.Limits.{BLOCK, OBJECTS, BINDINGS};
 ghost use Rattle.script.specs.Reading.{programOf};
 ghost use Rattle.script.specs.Statements.{WithinLayout};
-ghost use Rattle.typing.specs.Tables.{Starts};
+ghost use Rattle.members.specs.Tables.{Starts};
 ghost use Rattle.machine.specs.declared.Frame.{Frame};
 ghost use Rattle.machine.specs.declared.Frame.the-variants.{Casts as casts, Locks as locks};
 ghost use Rattle.machine.specs.Config as machine;
 ghost use Rattle.machine.specs.Config.{codeOf, Object, Stores, returning};
-ghost use Rattle.machine.specs.Machine.{scope, find, object, moved, withShut, fieldsOf, setFields, setField, updateTarget, callBindings, callObject, callTarget};
+ghost use Rattle.machine.specs.Machine.{scope, find, object, moved, withShut, setFields, setField, updateTarget, callBindings, callObject, callTarget};
+ghost use Rattle.typing.specs.Members.{fieldsOf};
 ghost use Rattle.block.specs.declared.Area.the-variants.{Objects, Bindings};
 ghost use Rattle.block.specs.Layout.{counted};
 ghost use Rattle.block.specs.Block.{valueWord, Parts, laid};
-ghost use Rattle.threads.specs.declared.Tree as threads;
-ghost use Rattle.threads.specs.Entries.{blank};
-ghost use Rattle.scopes.specs.Chains.{Chain};
-ghost use Rattle.hand.specs.Hand.{Else, Seen, Sight};
+ghost use Rattle.tree.specs.declared.Tree as threads;
+ghost use Rattle.tree.specs.Entries.{blank};
+ghost use Rattle.environments.specs.Chains.{Chain};
+ghost use Rattle.state.specs.Hand.{Else, Seen, Sight};
 ghost use Rattle.moves.specs.Came.{Came, OwnFields};
 
 // "a waiting cast vanishes"
@@ -44,7 +45,7 @@ pub fn drop_cast(block: &mut [u8], tree: Tree, i: usize, v: Value) -> Step
         Came (now (block .entry)) tree i rest (moved st (returning v fs)) (now (block .exit)) r)
         ⌝ }
 {
-    let after = hand::pop(block, tree, i, Cell::Returning(v));
+    let after = state::pop(block, tree, i, Cell::Returning(v));
     Step {
         effect: Effect::Moved,
         tree: after,
@@ -61,10 +62,10 @@ fn open_object(block: &mut [u8], o: u16)
         ⌝ }
 {
     let n = o as usize;
-    if store::count(block, Area::Objects) <= n {
+    if areas::count(block, Area::Objects) <= n {
         return;
     }
-    store::set_shut(block, n, false);
+    areas::set_shut(block, n, false);
 }
 
 // "A value at a lock frame opens the object."
@@ -77,7 +78,7 @@ pub fn open_lock(block: &mut [u8], tree: Tree, i: usize, v: Value, o: u16) -> St
         ⌝ }
 {
     open_object(block, o);
-    let after = hand::pop(block, tree, i, Cell::Returning(v));
+    let after = state::pop(block, tree, i, Cell::Returning(v));
     Step {
         effect: Effect::Moved,
         tree: after,
@@ -100,11 +101,11 @@ fn write_field(s: &[u8], starts: &[u16], block: &mut [u8], o: usize, f: u16, v: 
         u)
         ⌝ }
 {
-    let class = store::word(block, Area::Objects, o, 0);
+    let class = areas::word(block, Area::Objects, o, 0);
     let Found::At(k) = members::field_place(s, starts, class, f) else {
         return;
     };
-    store::put_field(block, o, k, v);
+    areas::put_field(block, o, k, v);
 }
 
 // "a waiting write stores and gives null"; "Targets are tested after the argument; null fails the thread."
@@ -119,7 +120,10 @@ pub fn store_value(
     x: u16,
     f: u16,
 ) -> Step
-    requires { ⌜ WithinLayout (now s) × Starts (now s) (now starts) × Sight (now block) tree i × (0 < getD (tree .entries) i blank .frames) × Chain (now block) env × (valueWord v < WORD) ⌝ }
+    requires { ⌜
+        WithinLayout (now s) × Starts (now s) (now starts) × Sight (now block) tree i × (0 < getD (tree .entries) i blank .frames) ×
+        Chain (now block) env × (valueWord v < WORD)
+        ⌝ }
     ensures { λ r. ⌜
         ((rest : Else) (st : Stores) (g : Frame) (fs : List Frame) →
         Seen (now (block .entry)) tree i rest st (returning v (g ∷ fs)) →
@@ -127,7 +131,7 @@ pub fn store_value(
         Came (now (block .entry)) tree i rest (updateTarget (codeOf (now (s .entry))) st fs f v (find (scope (st .bindings) env) x)) (now (block .exit)) r)
         ⌝ }
 {
-    let found = scopes::variable(block, env, x);
+    let found = environments::variable(block, env, x);
     let Lookup::Bound(target) = found else {
         return Step {
             effect: Effect::Still,
@@ -135,19 +139,19 @@ pub fn store_value(
         };
     };
     let Value::Ref(o) = target else {
-        let after = hand::fail(block, tree, i);
+        let after = state::fail(block, tree, i);
         return Step {
             effect: Effect::Moved,
             tree: after,
         };
     };
-    if store::count(block, Area::Objects) <= o as usize {
+    if areas::count(block, Area::Objects) <= o as usize {
         return Step {
             effect: Effect::Still,
             tree: tree,
         };
     }
-    let after = hand::pop(block, tree, i, Cell::Returning(Value::Null));
+    let after = state::pop(block, tree, i, Cell::Returning(Value::Null));
     write_field(s, starts, block, o as usize, f, v);
     Step {
         effect: Effect::Moved,
@@ -157,15 +161,17 @@ pub fn store_value(
 
 // The two bindings of a call, after n others: `this` with the object's class, and the parameter with its declared type.
 fn add_call(block: &mut [u8], n: usize, class: u16, o: u16, param: u16, v: Value)
-    requires { ⌜ (n ≡ counted (now block) Bindings) × (n + 2 ≤ BINDINGS) × (o < OBJECTS) × (valueWord v < WORD) × ((p : Parts) × (now block ≡ bytes (laid p))) ⌝ }
+    requires { ⌜
+        (n ≡ counted (now block) Bindings) × (n + 2 ≤ BINDINGS) × (o < OBJECTS) × (valueWord v < WORD) × ((p : Parts) × (now block ≡ bytes (laid p)))
+        ⌝ }
     ensures { λ r. ⌜
         ((tree : threads.Tree) (i : ℕ) (rest : Else) (st : Stores) (u : machine.Tree) →
         Seen (now (block .entry)) tree i rest st u →
         Seen (now (block .exit)) tree i rest (record { objects = st .objects; bindings = callBindings class o param v (st .bindings) }) u)
         ⌝ }
 {
-    store::add_binding(block, 0, class, Value::Ref(o), 0);
-    store::add_binding(block, 1, param, v, (n + 1) as u16);
+    areas::add_binding(block, 0, class, Value::Ref(o), 0);
+    areas::add_binding(block, 1, param, v, (n + 1) as u16);
 }
 
 // "a waiting call adds two .. and enters the body with no others", where the object o is there.
@@ -189,24 +195,24 @@ fn call_object(
         (now (block .exit)) r)
         ⌝ }
 {
-    let class = store::word(block, Area::Objects, o as usize, 0);
+    let class = areas::word(block, Area::Objects, o as usize, 0);
     let Found::At(j) = members::method_record(s, starts, class, m) else {
         return Step {
             effect: Effect::Still,
             tree: tree,
         };
     };
-    let n = store::count(block, Area::Bindings);
+    let n = areas::count(block, Area::Bindings);
     if Limits::BINDINGS < n + 2 {
         return Step {
             effect: Effect::Full(Store::Bindings),
             tree: tree,
         };
     }
-    let param = script::record_word(s, Section::Methods, j, 1);
-    let body = script::record_word(s, Section::Methods, j, 3);
+    let param = sections::record_word(s, Section::Methods, j, 1);
+    let body = sections::record_word(s, Section::Methods, j, 3);
     add_call(block, n, class, o, param, v);
-    let after = hand::pop(block, tree, i, Cell::Running(body, (n + 2) as u16));
+    let after = state::pop(block, tree, i, Cell::Running(body, (n + 2) as u16));
     Step {
         effect: Effect::Moved,
         tree: after,
@@ -225,7 +231,10 @@ pub fn enter_method(
     x: u16,
     m: u16,
 ) -> Step
-    requires { ⌜ WithinLayout (now s) × Starts (now s) (now starts) × Sight (now block) tree i × (0 < getD (tree .entries) i blank .frames) × Chain (now block) env × (valueWord v < WORD) ⌝ }
+    requires { ⌜
+        WithinLayout (now s) × Starts (now s) (now starts) × Sight (now block) tree i × (0 < getD (tree .entries) i blank .frames) ×
+        Chain (now block) env × (valueWord v < WORD)
+        ⌝ }
     ensures { λ r. ⌜
         ((rest : Else) (st : Stores) (g : Frame) (fs : List Frame) →
         Seen (now (block .entry)) tree i rest st (returning v (g ∷ fs)) →
@@ -234,7 +243,7 @@ pub fn enter_method(
         (now (block .exit)) r)
         ⌝ }
 {
-    let found = scopes::variable(block, env, x);
+    let found = environments::variable(block, env, x);
     let Lookup::Bound(target) = found else {
         return Step {
             effect: Effect::Still,
@@ -242,13 +251,13 @@ pub fn enter_method(
         };
     };
     let Value::Ref(o) = target else {
-        let after = hand::fail(block, tree, i);
+        let after = state::fail(block, tree, i);
         return Step {
             effect: Effect::Moved,
             tree: after,
         };
     };
-    if store::count(block, Area::Objects) <= o as usize {
+    if areas::count(block, Area::Objects) <= o as usize {
         return Step {
             effect: Effect::Still,
             tree: tree,

@@ -5,9 +5,3 @@ pub mod LayoutLaws
 pub mod Declarations
 pub mod Reading
 pub mod Regular
-pub mod Access
-pub mod CodeLaws
-pub mod Search
-pub mod NameLaws
-pub mod RecordLaws
-pub mod UseLaws

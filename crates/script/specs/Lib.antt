@@ -6,5 +6,3 @@ pub mod Asking
 pub mod Questions
 pub mod Statements
 pub mod Regular
-pub mod Laid
-pub mod Uses

@@ -7,9 +7,11 @@ use lib.ListN.{length}
 use Rattle.limits.specs.Limits.{CONTENTS, FILE, CLASS-FIELDS}
 use Rattle.script.specs.declared.Question.the-variants.{Length, Counts, Places, Interfaces, Owners, Types, Nodes, Names}
 use Rattle.script.specs.Lists.{run, sumBelow, countIn}
-use Rattle.script.specs.Section.{Section, interfaces, signatures, classes, fields, methods, nodes, sections, mostOf, bodyAt, countOf, endOf, recordWord, nodeWord}
+use Rattle.script.specs.Section.{Section, interfaces, signatures, classes, fields, methods, nodes, sections, mostOf, bodyAt, countOf, endOf}
+use Rattle.script.specs.Section.{recordWord, nodeWord}
 use Rattle.script.specs.Syntax.{Point, Node, n-null, n-var, n-select, n-update, n-call, n-bind, n-new, n-cast, n-fork, n-lock, parts}
-use Rattle.script.specs.Reading.{Kind, null-kind, var-kind, select-kind, update-kind, call-kind, bind-kind, new-kind, cast-kind, fork-kind, lock-kind, unknown-kind, kindOf, viewAt, ownSignatures, ownFields, ownMethods}
+use Rattle.script.specs.Reading.{Kind, null-kind, var-kind, select-kind, update-kind, call-kind, bind-kind, new-kind, cast-kind, fork-kind}
+use Rattle.script.specs.Reading.{lock-kind, unknown-kind, kindOf, viewAt, ownSignatures, ownFields, ownMethods}
 use Rattle.script.specs.Asking.{Asked, atZero, lowestOut}
 
 -- 1. "Is the file 24 to 13,592 bytes?"
@@ -86,8 +88,8 @@ typesTest s fields i = typeTest s (recordWord s fields i 1)
 typesTest s methods i = typeTest s (recordWord s methods i 1) && typeTest s (recordWord s methods i 2)
 typesTest s nodes i = operandTest s (viewAt s i)
 
--- 7. "Has each node a known kind, unused words 0, a let variable of 2 or more, parts with larger numbers that exist, and is each node used once, as a part or body, except
--- node 0, never used? (A missing body is the method's fault, any other misuse the node's.)"
+-- 7. "Has each node a known kind, unused words 0, a let variable of 2 or more, parts with larger numbers that exist, and is each node used once, as a part or
+-- body, except node 0, never used? (A missing body is the method's fault, any other misuse the node's.)"
 abbrev pub knownTest : Kind → Bool
 knownTest null-kind = true
 knownTest var-kind = true

@@ -6,7 +6,8 @@ use lib.Dec.{eqb}
 use lib.ListN.{getD}
 use Rattle.script.specs.Lists.{run, sumBelow}
 use Rattle.script.specs.Section.{interfaces, signatures, classes, fields, methods, nodes, countOf, recordWord, nodeWord}
-use Rattle.script.specs.Syntax.{Point, Expr, null, Node, n-null, n-var, n-select, n-update, n-call, n-bind, n-new, n-cast, n-fork, n-lock, build, Slot, Signature, Method, Interface, lists, extends, Class, Program}
+use Rattle.script.specs.Syntax.{Point, Expr, null, Node, n-null, n-var, n-select, n-update, n-call, n-bind, n-new, n-cast, n-fork, n-lock}
+use Rattle.script.specs.Syntax.{build, Slot, Signature, Method, Interface, lists, extends, Class, Program}
 
 -- "Kinds: 0 null; 1 variable a; 2 read field b of variable a; 3 the same field gets the value of c; 4 call method b of variable a with argument c;
 -- 5 let a = b in c; 6 new class a; 7 cast to type a of b; 8 fork, asyncs a and b, then c; 9 lock variable a during b."

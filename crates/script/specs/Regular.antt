@@ -1,10 +1,12 @@
--- What questions 1 to 8 settle of the program that a script is read as. Nothing here is assumed: `proofs/Regular.antt` shows it of every script that gets a yes to them.
+-- What questions 1 to 8 settle of the program that a script is read as. Nothing here is assumed: `proofs/Regular.antt` shows it of every script that gets a yes
+-- to them.
 use Prim.Native.Nat.{ℕ, _+_, _<_, _≤_}
 use mathlib.Core.Path.{_≡_}
 use mathlib.Core.List.{List, [], _∷_}
 use lib.ListN.{length}
 use Rattle.script.specs.Lists.{_∈_}
-use Rattle.script.specs.Syntax.{Expr, null, var, select, update, call, bind, new, cast, fork, lock, Slot, Signature, Method, Interface, lists, extends, Class, Program, declarationAt, an-interface, a-class}
+use Rattle.script.specs.Syntax.{Expr, null, var, select, update, call, bind, new, cast, fork, lock, Slot, Signature, Method, Interface, lists}
+use Rattle.script.specs.Syntax.{extends, Class, Program, declarationAt, an-interface, a-class}
 
 -- A type number of the program, and one of a class.
 abbrev pub IsType : Program → ℕ → Type 0

@@ -87,8 +87,8 @@ TypesAre s fields i = TypeWord s (recordWord s fields i 1)
 TypesAre s methods i = TypeWord s (recordWord s methods i 1) × TypeWord s (recordWord s methods i 2)
 TypesAre s nodes i = OperandIs s (viewAt s i)
 
--- 7. "Has each node a known kind, unused words 0, a let variable of 2 or more, parts with larger numbers that exist, and is each node used once, as a part or body, except
--- node 0, never used? (A missing body is the method's fault, any other misuse the node's.)"
+-- 7. "Has each node a known kind, unused words 0, a let variable of 2 or more, parts with larger numbers that exist, and is each node used once, as a part or
+-- body, except node 0, never used? (A missing body is the method's fault, any other misuse the node's.)"
 abbrev pub BoundIs : Node → Type 0
 BoundIs n-null = Unit {0}
 BoundIs (n-var x) = Unit {0}

@@ -6,7 +6,8 @@ use mathlib.Core.Option.{Option, none, some}
 use lib.Dec.{eqb}
 use Rattle.script.specs.declared.Question.the-variants.{Joins, Classes}
 use Rattle.script.specs.declared.Section.{Section}
-use Rattle.script.specs.declared.Section.the-variants.{Interfaces as interfaces, Signatures as signatures, Classes as classes, Fields as fields, Methods as methods, Nodes as nodes}
+use Rattle.script.specs.declared.Section.the-variants.{Interfaces as interfaces, Signatures as signatures, Classes as classes, Fields as fields}
+use Rattle.script.specs.declared.Section.the-variants.{Methods as methods, Nodes as nodes}
 use Rattle.script.specs.Section.{recordAt}
 use Rattle.script.specs.Syntax.{Signature, Interface, lists, extends, Class, Program}
 use Rattle.script.specs.Reading.{interfaceAt, classAt, programOf}

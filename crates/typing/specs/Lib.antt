@@ -3,10 +3,4 @@ pub mod Typing
 pub mod Check
 pub mod Published
 pub mod Refusals
-pub mod Tables
-pub mod Lookup
-pub mod Cover
-pub mod Free
-pub mod At
-pub mod Stages
 pub mod Ladder

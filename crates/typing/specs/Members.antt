@@ -6,7 +6,8 @@ use mathlib.Core.Option.{Option, none, some, Option·map}
 use lib.Dec.{eqb}
 use lib.ListN.{getD}
 use Rattle.script.specs.Lists.{named}
-use Rattle.script.specs.Syntax.{Slot, Signature, Method, Interface, lists, extends, Class, Program, Declaration, a-unit, an-interface, a-class, no-type, declarationAt}
+use Rattle.script.specs.Syntax.{Slot, Signature, Method, Interface, lists, extends, Class, Program, Declaration, a-unit, an-interface, a-class}
+use Rattle.script.specs.Syntax.{no-type, declarationAt}
 
 -- A value for each interface: `own` gives that of a list of signatures, `join` that of a join from those of its parents; both are handed the type.
 -- The values of the interfaces n, .., 1 are a table that is built from the front, so each is computed once, however often it is a parent.
@@ -71,3 +72,23 @@ fieldFrom f no-type = none
 
 unfoldable pub fieldIn : Program → ℕ → ℕ → Option ℕ
 fieldIn p t f = fieldFrom f (declarationAt p t)
+
+-- fields(C), appendix A.3: the fields that a class declares.
+abbrev pub fieldsFrom : Declaration → List Slot
+fieldsFrom a-unit = []
+fieldsFrom (an-interface i) = []
+fieldsFrom (a-class c) = c .fields
+fieldsFrom no-type = []
+
+abbrev pub fieldsOf : Program → ℕ → List Slot
+fieldsOf p t = fieldsFrom (declarationAt p t)
+
+-- methods(C)(m), appendix A.3: the method of this name that a class defines.
+abbrev pub definedFrom : ℕ → Declaration → Option Method
+definedFrom m a-unit = none
+definedFrom m (an-interface i) = none
+definedFrom m (a-class c) = named (λ (d : Method). d .signature .name) m (c .methods)
+definedFrom m no-type = none
+
+abbrev pub definedIn : Program → ℕ → ℕ → Option Method
+definedIn p t m = definedFrom m (declarationAt p t)

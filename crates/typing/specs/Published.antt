@@ -6,7 +6,8 @@ use mathlib.Core.Bool.{false}
 use mathlib.Core.List.{List, [], _∷_}
 use mathlib.Core.Option.{some}
 use Rattle.script.specs.Lists.{_∈_}
-use Rattle.script.specs.Syntax.{Expr, null, var, select, update, call, bind, new, cast, fork, lock, isNull, Slot, Signature, Method, Interface, lists, extends, Class, Program, an-interface, a-class, declarationAt}
+use Rattle.script.specs.Syntax.{Expr, null, var, select, update, call, bind, new, cast, fork, lock, isNull, Slot, Signature, Method, Interface}
+use Rattle.script.specs.Syntax.{lists, extends, Class, Program, an-interface, a-class, declarationAt}
 use Rattle.typing.specs.Members.{typeIn}
 use Rattle.typing.specs.Typing.{fv, bodyEnv}
 
@@ -48,14 +49,17 @@ Disjoint e₁ e₂ = (x : ℕ) → x ∈ fv e₁ → x ∈ fv e₂ → ⊥
 mutual
   pub data Infer (p : Program) : List Slot → Expr → ℕ → Type 0 where
     BD-INFER-VAR : {Γ : List Slot} {n x t : ℕ} → WfEnv p Γ → typeIn Γ x ≡ some t → Infer p Γ (var n x) t
-    BD-INFER-LET : {Γ : List Slot} {n x t₁ t : ℕ} {e₁ e₂ : Expr} → Infer p Γ e₁ t₁ → Infer p (record { name = x; type = t₁ } ∷ Γ) e₂ t → Infer p Γ (bind n x e₁ e₂) t
-    BD-INFER-CALL : {Γ : List Slot} {n x m t₁ t₂ t : ℕ} {e : Expr} → Infer p Γ (var n x) t₁ → Check p Γ e t₂ → MsigIn p t₁ (record { name = m; param = t₂; result = t }) → Infer p Γ (call n x m e) t
+    BD-INFER-LET : {Γ : List Slot} {n x t₁ t : ℕ} {e₁ e₂ : Expr} → Infer p Γ e₁ t₁ → Infer p (record { name = x; type = t₁ } ∷ Γ) e₂ t
+        → Infer p Γ (bind n x e₁ e₂) t
+    BD-INFER-CALL : {Γ : List Slot} {n x m t₁ t₂ t : ℕ} {e : Expr} → Infer p Γ (var n x) t₁ → Check p Γ e t₂
+        → MsigIn p t₁ (record { name = m; param = t₂; result = t }) → Infer p Γ (call n x m e) t
     BD-INFER-CAST : {Γ : List Slot} {n t : ℕ} {e : Expr} → Check p Γ e t → Infer p Γ (cast n t e) t
     BD-INFER-SELECT : {Γ : List Slot} {n x f c t : ℕ} → Infer p Γ (var n x) c → FieldIn p c f t → Infer p Γ (select n x f) t
     BD-INFER-UPDATE : {Γ : List Slot} {n x f c t : ℕ} {e : Expr} → Infer p Γ (var n x) c → Check p Γ e t → FieldIn p c f t → Infer p Γ (update n x f e) 0
     BD-INFER-NEW : {Γ : List Slot} {n t : ℕ} {c : Class} → WfEnv p Γ → declarationAt p t ≡ a-class c → Infer p Γ (new n t) t
     BD-INFER-LOCK : {Γ : List Slot} {n x t₂ t : ℕ} {e : Expr} → Infer p Γ (var n x) t₂ → Infer p Γ e t → Infer p Γ (lock n x e) t
-    BD-INFER-FJ : {Γ : List Slot} {n t₁ t₂ t : ℕ} {e₁ e₂ e : Expr} → Disjoint e₁ e₂ → Infer p Γ e₁ t₁ → Infer p Γ e₂ t₂ → Infer p Γ e t → Infer p Γ (fork n e₁ e₂ e) t
+    BD-INFER-FJ : {Γ : List Slot} {n t₁ t₂ t : ℕ} {e₁ e₂ e : Expr} → Disjoint e₁ e₂ → Infer p Γ e₁ t₁ → Infer p Γ e₂ t₂ → Infer p Γ e t
+        → Infer p Γ (fork n e₁ e₂ e) t
 
   pub data Check (p : Program) : List Slot → Expr → ℕ → Type 0 where
     BD-CHECK-NULL : {Γ : List Slot} {n t : ℕ} → WfEnv p Γ → WfType p t → Check p Γ (null n) t

@@ -5,12 +5,15 @@ use mathlib.Core.Bool.{false}
 use mathlib.Core.List.{List, [], _∷_}
 use mathlib.Core.Option.{none, some}
 use Rattle.script.specs.declared.Question.{Question}
-use Rattle.script.specs.declared.Question.the-variants.{Length, Counts, Places, Interfaces, Owners, Types, Nodes, Names, Joins, Classes, Variables, Nulls, Members, Fits, Sharing}
+use Rattle.script.specs.declared.Question.the-variants.{Length, Counts, Places, Interfaces, Owners, Types, Nodes, Names, Joins, Classes, Variables}
+use Rattle.script.specs.declared.Question.the-variants.{Nulls, Members, Fits, Sharing}
 use Rattle.script.specs.Lists.{_∈_}
 use Rattle.script.specs.declared.Section.{Section}
-use Rattle.script.specs.declared.Section.the-variants.{Interfaces as interfaces, Signatures as signatures, Classes as classes, Fields as fields, Methods as methods, Nodes as nodes}
+use Rattle.script.specs.declared.Section.the-variants.{Interfaces as interfaces, Signatures as signatures, Classes as classes, Fields as fields}
+use Rattle.script.specs.declared.Section.the-variants.{Methods as methods, Nodes as nodes}
 use Rattle.script.specs.Section.{recordAt}
-use Rattle.script.specs.Syntax.{Point, Expr, null, var, select, update, call, bind, cast, fork, lock, pointOf, isNull, Slot, Signature, Interface, lists, extends, Class, Program}
+use Rattle.script.specs.Syntax.{Point, Expr, null, var, select, update, call, bind, cast, fork, lock, pointOf, isNull, Slot, Signature, Interface}
+use Rattle.script.specs.Syntax.{lists, extends, Class, Program}
 use Rattle.script.specs.Reading.{interfaceAt, classAt, programOf}
 use Rattle.script.specs.Asking.{numberOf, FaultAt, Each}
 use Rattle.script.specs.Statements.{LengthIs, CountsAre, PlacesAre, InterfacesAre, OwnersAre, TypesAre, NodesAre, NamesAre}
@@ -58,19 +61,25 @@ mutual
     -- 13. "Has the target's type the field or method?"
     select-missing : {Γ : List Slot} {n x f t : ℕ} → typeIn Γ x ≡ some t → ((u : ℕ) → FieldIn p t f u → ⊥) → InferNo p Γ (select n x f) Members n
     update-missing : {Γ : List Slot} {n x f t : ℕ} {e : Expr} → typeIn Γ x ≡ some t → ((u : ℕ) → FieldIn p t f u → ⊥) → InferNo p Γ (update n x f e) Members n
-    call-missing : {Γ : List Slot} {n x m t : ℕ} {e : Expr} → typeIn Γ x ≡ some t → ((g : Signature) → MsigIn p t g → g .name ≡ m → ⊥) → InferNo p Γ (call n x m e) Members n
+    call-missing : {Γ : List Slot} {n x m t : ℕ} {e : Expr} → typeIn Γ x ≡ some t → ((g : Signature) → MsigIn p t g → g .name ≡ m → ⊥)
+        → InferNo p Γ (call n x m e) Members n
     -- 15. "Do the asyncs share no variable?"
     fork-shares : {Γ : List Slot} {n x : ℕ} {e₁ e₂ e : Expr} → x ∈ fv e₁ → x ∈ fv e₂ → InferNo p Γ (fork n e₁ e₂ e) Sharing n
     -- "parts in running order"
-    update-part : {Γ : List Slot} {n x f t u k : ℕ} {e : Expr} {q : Question} → typeIn Γ x ≡ some t → FieldIn p t f u → CheckNo p Γ e u q k → InferNo p Γ (update n x f e) q k
-    call-part : {Γ : List Slot} {n x m t k : ℕ} {g : Signature} {e : Expr} {q : Question} → typeIn Γ x ≡ some t → MsigIn p t g → g .name ≡ m → CheckNo p Γ e (g .param) q k → InferNo p Γ (call n x m e) q k
+    update-part : {Γ : List Slot} {n x f t u k : ℕ} {e : Expr} {q : Question} → typeIn Γ x ≡ some t → FieldIn p t f u → CheckNo p Γ e u q k
+        → InferNo p Γ (update n x f e) q k
+    call-part : {Γ : List Slot} {n x m t k : ℕ} {g : Signature} {e : Expr} {q : Question} → typeIn Γ x ≡ some t → MsigIn p t g → g .name ≡ m
+        → CheckNo p Γ e (g .param) q k → InferNo p Γ (call n x m e) q k
     cast-part : {Γ : List Slot} {n t k : ℕ} {e : Expr} {q : Question} → CheckNo p Γ e t q k → InferNo p Γ (cast n t e) q k
     lock-part : {Γ : List Slot} {n x t k : ℕ} {e : Expr} {q : Question} → typeIn Γ x ≡ some t → InferNo p Γ e q k → InferNo p Γ (lock n x e) q k
     let-first : {Γ : List Slot} {n x k : ℕ} {e₁ e₂ : Expr} {q : Question} → InferNo p Γ e₁ q k → InferNo p Γ (bind n x e₁ e₂) q k
-    let-last : {Γ : List Slot} {n x t k : ℕ} {e₁ e₂ : Expr} {q : Question} → Infer p Γ e₁ t → InferNo p (record { name = x; type = t } ∷ Γ) e₂ q k → InferNo p Γ (bind n x e₁ e₂) q k
+    let-last : {Γ : List Slot} {n x t k : ℕ} {e₁ e₂ : Expr} {q : Question} → Infer p Γ e₁ t → InferNo p (record { name = x; type = t } ∷ Γ) e₂ q k
+        → InferNo p Γ (bind n x e₁ e₂) q k
     fork-left : {Γ : List Slot} {n k : ℕ} {e₁ e₂ e : Expr} {q : Question} → Disjoint e₁ e₂ → InferNo p Γ e₁ q k → InferNo p Γ (fork n e₁ e₂ e) q k
-    fork-right : {Γ : List Slot} {n t k : ℕ} {e₁ e₂ e : Expr} {q : Question} → Disjoint e₁ e₂ → Infer p Γ e₁ t → InferNo p Γ e₂ q k → InferNo p Γ (fork n e₁ e₂ e) q k
-    fork-last : {Γ : List Slot} {n t u k : ℕ} {e₁ e₂ e : Expr} {q : Question} → Disjoint e₁ e₂ → Infer p Γ e₁ t → Infer p Γ e₂ u → InferNo p Γ e q k → InferNo p Γ (fork n e₁ e₂ e) q k
+    fork-right : {Γ : List Slot} {n t k : ℕ} {e₁ e₂ e : Expr} {q : Question} → Disjoint e₁ e₂ → Infer p Γ e₁ t → InferNo p Γ e₂ q k
+        → InferNo p Γ (fork n e₁ e₂ e) q k
+    fork-last : {Γ : List Slot} {n t u k : ℕ} {e₁ e₂ e : Expr} {q : Question} → Disjoint e₁ e₂ → Infer p Γ e₁ t → Infer p Γ e₂ u → InferNo p Γ e q k
+        → InferNo p Γ (fork n e₁ e₂ e) q k
 
   pub data CheckNo (p : Program) : List Slot → Expr → ℕ → Question → Point → Type 0 where
     not-inferred : {Γ : List Slot} {e : Expr} {t k : ℕ} {q : Question} → isNull e ≡ false → InferNo p Γ e q k → CheckNo p Γ e t q k
@@ -86,8 +95,10 @@ mutual
 -- "Questions 11 to 15 go through bodies in method order, then the start."
 pub data WalkNo (p : Program) : List Body → Question → Point → Type 0 where
   in-start : {q : Question} {k : Point} → InferNo p [] (p .start) q k → WalkNo p [] q k
-  in-body : {b : Body} {l : List Body} {q : Question} {k : Point} → CheckNo p (bodyEnv (b .class) (b .method .signature)) (b .method .body) (b .method .signature .result) q k → WalkNo p (b ∷ l) q k
-  after-body : {b : Body} {l : List Body} {q : Question} {k : Point} → Check p (bodyEnv (b .class) (b .method .signature)) (b .method .body) (b .method .signature .result) → WalkNo p l q k → WalkNo p (b ∷ l) q k
+  in-body : {b : Body} {l : List Body} {q : Question} {k : Point}
+      → CheckNo p (bodyEnv (b .class) (b .method .signature)) (b .method .body) (b .method .signature .result) q k → WalkNo p (b ∷ l) q k
+  after-body : {b : Body} {l : List Body} {q : Question} {k : Point}
+      → Check p (bodyEnv (b .class) (b .method .signature)) (b .method .body) (b .method .signature .result) → WalkNo p l q k → WalkNo p (b ∷ l) q k
 
 -- What each question asks, as a plain statement: of the script as a whole, of each of its records, or on the walk.
 pub data Statement : Type 1 where

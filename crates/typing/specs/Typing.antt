@@ -1,4 +1,5 @@
--- Questions 11 to 15: one walk over the bodies in method order, then the start. "At a node: fork sharing, target variable, field or method, parts in running order, fitting; the first no counts, at that node."
+-- Questions 11 to 15: one walk over the bodies in method order, then the start. "At a node: fork sharing, target variable, field or method, parts in running
+-- order, fitting; the first no counts, at that node."
 use Prim.Native.Nat.{ℕ, _+_}
 use mathlib.Core.Bool.{Bool, true, false, cond, _||_}
 use mathlib.Core.List.{List, [], _∷_, _++_, map}
@@ -7,7 +8,8 @@ use lib.Dec.{eqb}
 use lib.ListN.{length}
 use Rattle.script.specs.declared.Question.{Question}
 use Rattle.script.specs.declared.Question.the-variants.{Variables, Nulls, Members, Fits, Sharing}
-use Rattle.script.specs.Syntax.{Point, Expr, null, var, select, update, call, bind, new, cast, fork, lock, pointOf, isNull, Slot, Signature, Method, Class, Program}
+use Rattle.script.specs.Syntax.{Point, Expr, null, var, select, update, call, bind, new, cast, fork, lock, pointOf, isNull, Slot, Signature, Method}
+use Rattle.script.specs.Syntax.{Class, Program}
 use Rattle.typing.specs.declared.Answer.{Answer}
 use Rattle.typing.specs.declared.Answer.the-variants.{Typed, Faulty}
 use Rattle.typing.specs.Members.{below, typeIn, fieldIn, methodIn}
@@ -73,7 +75,8 @@ inferred p Γ (update n x f e) =
     orFaulty Variables n (typeIn Γ x) (λ t. orFaulty Members n (fieldIn p t f) (λ u. andThen (judge p (isNull e) (pointOf e) r u) (λ v. Typed 0)))
 inferred p Γ (call n x m e) =
     let r = inferred p Γ e in
-    orFaulty Variables n (typeIn Γ x) (λ t. orFaulty Members n (methodIn p t m) (λ g. andThen (judge p (isNull e) (pointOf e) r (g .param)) (λ v. Typed (g .result))))
+    orFaulty Variables n (typeIn Γ x)
+    (λ t. orFaulty Members n (methodIn p t m) (λ g. andThen (judge p (isNull e) (pointOf e) r (g .param)) (λ v. Typed (g .result))))
 inferred p Γ (bind n x e₁ e₂) = andThen (inferred p Γ e₁) (λ t. inferred p (record { name = x; type = t } ∷ Γ) e₂)
 inferred p Γ (new n c) = Typed c
 inferred p Γ (cast n t e) = let r = inferred p Γ e in judge p (isNull e) (pointOf e) r t

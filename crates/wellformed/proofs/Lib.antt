@@ -1,12 +1,1 @@
-pub mod ReadLaws
-pub mod StoreLaws
-pub mod BindingLaws
-pub mod MarkLaws
-pub mod LockLaws
-pub mod FrameLaws
-pub mod PositionLaws
-pub mod ReadyLaws
-pub mod StepLaws
-pub mod StoresPassed
-pub mod TreeLaws
-pub mod TurnLaws
+pub mod FormLaws

@@ -1,7 +1,7 @@
 -- Words in lists of bytes. Document 01: "All words are unsigned 16-bit, low byte first".
 use Prim.Native.Nat.{ℕ, _+_, _*_, _/_, _%_}
 use mathlib.Core.List.{List, [], _∷_}
-use lib.ListN.{getD, set}
+use lib.ListN.{getD}
 
 -- The first number that is no word.
 abbrev pub WORD : ℕ
@@ -10,10 +10,6 @@ WORD = 65536
 -- The word at byte `at`. Past the end of the list every byte counts as 0.
 unfoldable pub wordAt : List ℕ → ℕ → ℕ
 wordAt s at = getD s at 0 + getD s (at + 1) 0 * 256
-
--- The bytes with the word `v` at byte `at`.
-unfoldable pub putWord : List ℕ → ℕ → ℕ → List ℕ
-putWord s at v = set (set s at (v % 256)) (at + 1) (v / 256)
 
 -- The bytes of a list of words.
 unfoldable pub bytes : List ℕ → List ℕ

@@ -4,29 +4,11 @@ use Rattle.engine.proofs.RunReplies as laws
 use Rattle.engine.proofs.run.oolong_run.Statement.{statement}
 use Rattle.engine.proofs.run.oolong_run.Tie as tie
 
-oolong-check-requires : tie.Need-oolong-check-requires
-oolong-check-requires c κs = search needs
-
-refusal-requires : tie.Need-refusal-requires
-refusal-requires c κs = search needs
-
 returns : tie.Need-returns
 returns c = laws.run-script-refused _ _ _ _ _ _ (c .refusal .ensures) (c .before .before .before .oolong-check .ensures .0) (c .before .before .before .oolong-check .ensures .1 .0) (c .before .if1 .taken)
 
-lent-number-requires : tie.Need-lent-number-requires
-lent-number-requires c κs = search needs
-
-refusal-requires-2 : tie.Need-refusal-requires-2
-refusal-requires-2 c κs = search needs
-
 returns-2 : tie.Need-returns-2
 returns-2 c = laws.run-block-refused _ _ _ _ (laws.type-is _ _ _ (c .before .before .before .before .before .oolong-check .ensures .0) (c .before .before .before .if1 .left) (c .before .before .before .before .before .oolong-check .ensures .1 .1)) _ _ (c .refusal2 .ensures) (c .before .before .if2 .taken) (c .before .lent-number .ensures)
-
-lent-number-requires-2 : tie.Need-lent-number-requires-2
-lent-number-requires-2 c κs = search needs
-
-refusal-requires-3 : tie.Need-refusal-requires-3
-refusal-requires-3 c κs = search needs
 
 returns-3 : tie.Need-returns-3
 returns-3 c = laws.run-choices-refused _ _ _ _ (laws.type-is _ _ _ (c .before .before .before .before .before .before .oolong-check .ensures .0) (c .before .before .before .before .if1 .left) (c .before .before .before .before .before .before .oolong-check .ensures .1 .1)) (c .before .before .before .if2 .left) _ _ (c .refusal3 .ensures) (c .before .before .if3 .taken) (c .before .lent-number2 .ensures)
@@ -34,20 +16,8 @@ returns-3 c = laws.run-choices-refused _ _ _ _ (laws.type-is _ _ _ (c .before .b
 run-requires : tie.Need-run-requires
 run-requires c κs = ((laws.within _ _ (laws.type-is _ _ _ (c .before .before .before .before .before .oolong-check .ensures .0) (c .before .before .before .if1 .left) (c .before .before .before .before .before .oolong-check .ensures .1 .1)), laws.type-is _ _ _ (c .before .before .before .before .before .oolong-check .ensures .0) (c .before .before .before .if1 .left) (c .before .before .before .before .before .oolong-check .ensures .1 .1)), (c .before .before .if2 .left, omega arith))
 
-lent-number-requires-3 : tie.Need-lent-number-requires-3
-lent-number-requires-3 c κs = search needs
-
-refusal-requires-4 : tie.Need-refusal-requires-4
-refusal-requires-4 c κs = search needs
-
-same-length : tie.Need-same-length
-same-length c = search needs
-
 returns-4 : tie.Need-returns-4
 returns-4 c = laws.run-form-refused _ _ _ _ (laws.type-is _ _ _ (c .before .before .before .before .before .before .before .before .before .before .before .before .oolong-check .ensures .0) (c .before .before .before .before .before .before .before .before .before .before .if1 .left) (c .before .before .before .before .before .before .before .before .before .before .before .before .oolong-check .ensures .1 .1)) (c .before .before .before .before .before .before .before .before .before .if2 .left) (omega arith) _ (c .before .before .before .before .before .before .run .ensures) _ _ (c .refusal4 .ensures) (c .before .before .if4 .taken) (c .before .lent-number3 .ensures)
-
-same-length-2 : tie.Need-same-length-2
-same-length-2 c = search needs
 
 returns-5 : tie.Need-returns-5
 returns-5 c = laws.run-done _ _ _ _ (laws.type-is _ _ _ (c .before .before .before .before .before .before .before .before .before .before .oolong-check .ensures .0) (c .before .before .before .before .before .before .before .before .if1 .left) (c .before .before .before .before .before .before .before .before .before .before .oolong-check .ensures .1 .1)) (c .before .before .before .before .before .before .before .if2 .left) (omega arith) _ (c .before .before .before .before .run .ensures) (c .if4 .left)
@@ -56,19 +26,19 @@ pub oolong-run-spec : {M : Type 1} → statement M
 oolong-run-spec =
     tie.close
     (tie.spec
-    oolong-check-requires
-    refusal-requires
+    (λ c κs. search needs)
+    (λ c κs. search needs)
     returns
-    lent-number-requires
-    refusal-requires-2
+    (λ c κs. search needs)
+    (λ c κs. search needs)
     returns-2
-    lent-number-requires-2
-    refusal-requires-3
+    (λ c κs. search needs)
+    (λ c κs. search needs)
     returns-3
     run-requires
-    lent-number-requires-3
-    refusal-requires-4
-    same-length
+    (λ c κs. search needs)
+    (λ c κs. search needs)
+    (λ c. search needs)
     returns-4
-    same-length-2
+    (λ c. search needs)
     returns-5)

@@ -3,28 +3,16 @@ use Rattle.engine.proofs.Replies.{script-refused, block-refused, starte
 use Rattle.engine.proofs.start.oolong_start.Statement.{statement}
 use Rattle.engine.proofs.start.oolong_start.Tie as tie
 
-oolong-check-requires : tie.Need-oolong-check-requires
-oolong-check-requires c κs = search needs
-
 returns : tie.Need-returns
 returns c =
     let s = c .before .before .before .before .before in
     let check = c .before .before .oolong-check in
     script-refused (s .args .script .now) (s .args .block .now) _ _ (check .ensures .0) (check .ensures .1 .0) (c .if1 .taken)
 
-lent-number-requires : tie.Need-lent-number-requires
-lent-number-requires c κs = search needs
-
 returns-2 : tie.Need-returns-2
 returns-2 c =
     let s = c .before .before .before .before .before .before .before in
     block-refused (s .args .script .now) (s .args .block .now) _ _ (c .before .before .before .before .oolong-check .ensures .0) (c .before .before .if1 .left) (c .before .if2 .taken) (c .lent-number .ensures)
-
-start-requires : tie.Need-start-requires
-start-requires c κs = search needs
-
-same-length : tie.Need-same-length
-same-length c = search needs
 
 returns-3 : tie.Need-returns-3
 returns-3 c =
@@ -35,10 +23,10 @@ pub oolong-start-spec : {M : Type 1} → statement M
 oolong-start-spec =
     tie.close
     (tie.spec
-    oolong-check-requires
+    (λ c κs. search needs)
     returns
-    lent-number-requires
+    (λ c κs. search needs)
     returns-2
-    start-requires
-    same-length
+    (λ c κs. search needs)
+    (λ c. search needs)
     returns-3)

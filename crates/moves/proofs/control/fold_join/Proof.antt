@@ -3,32 +3,14 @@ use Rattle.moves.proofs.Laws as laws
 use Rattle.moves.proofs.control.fold_join.Statement.{statement}
 use Rattle.moves.proofs.control.fold_join.Tie as tie
 
-fold-requires : tie.Need-fold-requires
-fold-requires c κs = search needs
-
-enum-told : tie.Need-enum-told
-enum-told c = search needs
-
-enum-told-2 : tie.Need-enum-told-2
-enum-told-2 c = search needs
-
 rejoin-requires : tie.Need-rejoin-requires
 rejoin-requires c κs = (c .before .before .before .before .pre .seen .tidy, laws.inside (c .before .before .before .before .pre))
-
-enum-told-3 : tie.Need-enum-told-3
-enum-told-3 c = search needs
-
-fail-requires : tie.Need-fail-requires
-fail-requires c κs = search needs
 
 returns : tie.Need-returns
 returns c = λ x st fs a e left right s. laws.stays-joined st fs a e left right _ (c .before .before .fold .ensures) (c .enum-told .given .1) s
 
 returns-2 : tie.Need-returns-2
 returns-2 c = λ x st fs a e left right s. laws.goes st fs a e left right _ (c .before .before .before .fold .ensures) (c .before .enum-told2 .given .1) s (λ l r. c .rejoin .ensures _ x st fs a e left right l r s)
-
-same-length : tie.Need-same-length
-same-length c = search needs
 
 returns-3 : tie.Need-returns-3
 returns-3 c = λ x st fs a e left right s. laws.breaks st fs a e left right _ (c .before .before .before .before .before .before .fold .ensures) (c .before .before .before .before .enum-told3 .given .1) s (c .before .before .fail .ensures x st _ s)
@@ -37,13 +19,13 @@ pub fold-join-spec : {M : Type 1} → statement M
 fold-join-spec =
     tie.close
     (tie.spec
-    fold-requires
-    enum-told
-    enum-told-2
+    (λ c κs. search needs)
+    (λ c. search needs)
+    (λ c. search needs)
     rejoin-requires
-    enum-told-3
-    fail-requires
+    (λ c. search needs)
+    (λ c κs. search needs)
     returns
     returns-2
-    same-length
+    (λ c. search needs)
     returns-3)

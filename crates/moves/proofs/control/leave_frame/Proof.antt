@@ -1,6 +1,6 @@
 use native.Mathlib.Omega.{arith}
 use borrow.Author.Needs.{needs}
-use Rattle.hand.proofs.Seeing.{seen-length}
+use Rattle.state.proofs.Seeing.{seen-length}
 use Rattle.moves.proofs.Laws as laws
 use Rattle.moves.proofs.control.leave_frame.Statement.{statement}
 use Rattle.moves.proofs.control.leave_frame.Tie as tie
@@ -8,21 +8,12 @@ use Rattle.moves.proofs.control.leave_frame.Tie as tie
 count-requires : tie.Need-count-requires
 count-requires c κs = seen-length (c .before .before .pre .seen)
 
-same-length : tie.Need-same-length
-same-length c = search needs
-
 returns : tie.Need-returns
 returns c = λ x st a₀ fs s. laws.leaves-not st fs _ _ _ _ (c .before .count .ensures .0) (c .if1 .taken)
-
-push-requires : tie.Need-push-requires
-push-requires c κs = search needs
-
-same-length-2 : tie.Need-same-length-2
-same-length-2 c = search needs
 
 returns-2 : tie.Need-returns-2
 returns-2 c = λ x st a₀ fs s. laws.leaves st fs _ _ _ _ (c .before .before .before .before .before .count .ensures .0) (omega arith) (c .before .before .push .ensures x st a₀ _ fs s)
 
 pub leave-frame-spec : {M : Type 1} → statement M
 leave-frame-spec =
-    tie.close (tie.spec count-requires same-length returns push-requires same-length-2 returns-2)
+    tie.close (tie.spec count-requires (λ c. search needs) returns (λ c κs. search needs) (λ c. search needs) returns-2)

@@ -4,23 +4,8 @@ use Rattle.moves.proofs.ReadLaws as laws
 use Rattle.moves.proofs.fields.field_value.Statement.{statement}
 use Rattle.moves.proofs.fields.field_value.Tie as tie
 
-count-requires : tie.Need-count-requires
-count-requires c κs = search needs
-
 returns : tie.Need-returns
 returns c = λ p is few own. laws.field-absent p is _ _ _ _ (c .before .count .ensures .0) (c .if1 .taken)
-
-word-requires : tie.Need-word-requires
-word-requires c κs = search needs
-
-field-place-requires : tie.Need-field-place-requires
-field-place-requires c κs = search needs
-
-enum-known-place : tie.Need-enum-known-place
-enum-known-place c = search needs
-
-enum-told : tie.Need-enum-told
-enum-told c = search needs
 
 returns-2 : tie.Need-returns-2
 returns-2 c = λ p is few own. laws.field-missing p is _ _ _ few _ _ (c .before .before .before .before .before .count .ensures .0) (omega arith) (c .before .before .before .word .ensures .0) _ (c .before .before .field-place .ensures .0) (c .enum-told .given .1)
@@ -31,9 +16,6 @@ add-word c = omega (arith, c .before .before .before .field-place .ensures .1 _ 
 word-requires-2 : tie.Need-word-requires-2
 word-requires-2 c κs = (c .before .before .before .before .before .before .before .before .before .before .pre .2, omega (arith, c .before .before .before .before .before .before .count .ensures .0, c .before .before .before .before .before .before .before .before .before .before .pre .3), omega (arith, c .before .before .before .field-place .ensures .1 _ (c .before .place .given .1)))
 
-value-of-requires : tie.Need-value-of-requires
-value-of-requires c κs = search needs
-
 returns-3 : tie.Need-returns-3
 returns-3 c = λ p is few own. laws.field-found p is _ _ _ few _ _ (c .before .before .before .before .before .before .before .before .count .ensures .0) (omega arith) (c .before .before .before .before .before .before .word .ensures .0) _ _ _ _ (c .before .before .before .before .before .field-place .ensures .0) (c .before .before .before .place .given .1) (c .before .before .before .before .before .field-place .ensures .1 _ (c .before .before .before .place .given .1)) (c .before .word2 .ensures .0) (c .value-of .ensures) own
 
@@ -41,14 +23,14 @@ pub field-value-spec : {M : Type 1} → statement M
 field-value-spec =
     tie.close
     (tie.spec
-    count-requires
+    (λ c κs. search needs)
     returns
-    word-requires
-    field-place-requires
-    enum-known-place
-    enum-told
+    (λ c κs. search needs)
+    (λ c κs. search needs)
+    (λ c. search needs)
+    (λ c. search needs)
     returns-2
     add-word
     word-requires-2
-    value-of-requires
+    (λ c κs. search needs)
     returns-3)

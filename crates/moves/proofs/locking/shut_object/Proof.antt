@@ -2,16 +2,13 @@ use native.Mathlib.Omega.{arith}
 use borrow.Author.Needs.{needs}
 use mathlib.Core.Bool.{true}
 use Rattle.block.specs.declared.Area.the-variants.{Objects}
-use Rattle.hand.proofs.Seeing.{seen-length, seen-few, sighted}
+use Rattle.state.proofs.Seeing.{seen-length, seen-few, sighted}
 use Rattle.moves.proofs.LockLaws as laws
 use Rattle.moves.proofs.locking.shut_object.Statement.{statement}
 use Rattle.moves.proofs.locking.shut_object.Tie as tie
 
 count-requires : tie.Need-count-requires
 count-requires c κs = seen-length (c .before .before .pre .0 .seen)
-
-same-length : tie.Need-same-length
-same-length c = search needs
 
 returns : tie.Need-returns
 returns c = λ x st a₀ fs s. laws.shuts-not st fs _ _ _ _ (c .before .count .ensures .0) (c .if1 .taken)
@@ -22,9 +19,6 @@ set-shut-requires c κs = (seen-length (c .before .before .before .before .befor
 push-requires : tie.Need-push-requires
 push-requires c κs = (sighted (laws.shut-changes _ true (c .before .before .before .before .before .before .before .before .before .pre .0 .seen) (c .before .before .before .before .before .before .before .before .before .pre .1) (c .before .before .before .set-shut .ensures)), omega (arith, laws.frames-kept (c .before .before .before .before .before .before .before .before .before .pre .0 .seen) (laws.shut-changes _ true (c .before .before .before .before .before .before .before .before .before .pre .0 .seen) (c .before .before .before .before .before .before .before .before .before .pre .1) (c .before .before .before .set-shut .ensures)), c .before .before .before .before .before .before .count .ensures .0))
 
-same-length-2 : tie.Need-same-length-2
-same-length-2 c = search needs
-
 returns-2 : tie.Need-returns-2
 returns-2 c = λ x st a₀ fs s. laws.shuts st fs _ _ _ _ (c .before .before .before .before .before .before .before .before .before .count .ensures .0) (omega arith) (c .before .before .push .ensures x _ a₀ _ fs (laws.shut-changes _ true s (c .before .before .before .before .before .before .before .before .before .before .before .before .pre .1) (c .before .before .before .before .before .before .set-shut .ensures)))
 
@@ -33,9 +27,9 @@ shut-object-spec =
     tie.close
     (tie.spec
     count-requires
-    same-length
+    (λ c. search needs)
     returns
     set-shut-requires
     push-requires
-    same-length-2
+    (λ c. search needs)
     returns-2)

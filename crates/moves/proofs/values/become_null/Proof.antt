@@ -6,11 +6,8 @@ use Rattle.moves.specs.Came.{came-moved}
 use Rattle.moves.proofs.values.become_null.Statement.{statement}
 use Rattle.moves.proofs.values.become_null.Tie as tie
 
-settle-requires : tie.Need-settle-requires
-settle-requires c κs = search needs
-
 returns : tie.Need-returns
 returns c = λ b x st a e fs s. came-moved (c .settle .ensures b x st (running a e fs) (returning nil fs) refl refl refl refl s)
 
 pub become-null-spec : {M : Type 1} → statement M
-become-null-spec = tie.close (tie.spec settle-requires returns)
+become-null-spec = tie.close (tie.spec (λ c κs. search needs) returns)

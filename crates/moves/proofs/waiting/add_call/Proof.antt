@@ -1,6 +1,6 @@
 use native.Mathlib.Omega.{arith}
 use borrow.Author.Needs.{needs}
-use Rattle.scopes.proofs.LaidLaws.{long}
+use Rattle.environments.proofs.LaidLaws.{long}
 use Rattle.moves.proofs.WaitingLaws.{one-more, adds-call}
 use Rattle.moves.proofs.waiting.add_call.Statement.{statement}
 use Rattle.moves.proofs.waiting.add_call.Tie as tie
@@ -8,28 +8,21 @@ use Rattle.moves.proofs.waiting.add_call.Tie as tie
 add-binding-requires : tie.Need-add-binding-requires
 add-binding-requires c κs = (long (c .before .before .pre .4 .0) (c .before .before .pre .4 .1), omega (arith, c .before .before .pre .0, c .before .before .pre .1), omega (arith, c .before .before .pre .2))
 
-add-add-binding : tie.Need-add-add-binding
-add-add-binding c = search needs
-
-cast-add-binding : tie.Need-cast-add-binding
-cast-add-binding c = search needs
-
 add-binding-requires-2 : tie.Need-add-binding-requires-2
 add-binding-requires-2 c κs = (omega (arith, long (c .before .before .before .before .before .before .pre .4 .0) (c .before .before .before .before .before .before .pre .4 .1)), omega (arith, one-more (c .before .before .before .before .before .before .pre .4 .0) _ (c .before .before .before .before .before .before .pre .4 .1) (c .before .before .before .add-binding .ensures), c .before .before .before .before .before .before .pre .0, c .before .before .before .before .before .before .pre .1), c .before .before .before .before .before .before .pre .3)
 
-same-length : tie.Need-same-length
-same-length c = search needs
-
 returns : tie.Need-returns
-returns c = λ tree i rest st u s. adds-call s _ _ _ _ _ (c .before .before .before .before .before .before .before .before .before .pre .0) (c .before .before .before .before .before .before .before .before .before .pre .1) (c .before .before .before .before .before .before .add-binding .ensures) (c .before .before .add-binding2 .ensures)
+returns c =
+    let back = c .before .before .before .before .before .before in
+    λ tree i rest st u s. adds-call s _ _ _ _ _ (back .before .before .before .pre .0) (back .before .before .before .pre .1) (back .add-binding .ensures) (c .before .before .add-binding2 .ensures)
 
 pub add-call-spec : {M : Type 1} → statement M
 add-call-spec =
     tie.close
     (tie.spec
     add-binding-requires
-    add-add-binding
-    cast-add-binding
+    (λ c. search needs)
+    (λ c. search needs)
     add-binding-requires-2
-    same-length
+    (λ c. search needs)
     returns)

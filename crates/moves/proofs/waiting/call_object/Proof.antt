@@ -4,9 +4,9 @@ use mathlib.Core.Path.{refl}
 use Rattle.machine.specs.Config.{running}
 use Rattle.block.specs.declared.Area.the-variants.{Objects}
 use Rattle.block.specs.Block.{framesOf}
-use Rattle.typing.proofs.LookupLaws.{laid}
+use Rattle.members.proofs.LookupLaws.{laid}
 use Rattle.members.proofs.MethodLaws.{defined-at}
-use Rattle.hand.proofs.Seeing.{lying, sighted, seen-length, seen-few}
+use Rattle.state.proofs.Seeing.{lying, sighted, seen-length, seen-few}
 use Rattle.moves.proofs.WaitingLaws.{enters-none, enters-full, enters}
 use Rattle.moves.proofs.waiting.call_object.Statement.{statement}
 use Rattle.moves.proofs.waiting.call_object.Tie as tie
@@ -14,32 +14,16 @@ use Rattle.moves.proofs.waiting.call_object.Tie as tie
 word-requires : tie.Need-word-requires
 word-requires c κs = (seen-length (c .before .before .before .before .pre .2 .seen), omega (arith, c .before .before .before .before .pre .4, seen-few (c .before .before .before .before .pre .2 .seen) Objects), omega arith)
 
-method-record-requires : tie.Need-method-record-requires
-method-record-requires c κs = search needs
-
-enum-known-j : tie.Need-enum-known-j
-enum-known-j c = search needs
-
-enum-told : tie.Need-enum-told
-enum-told c = search needs
-
-same-length : tie.Need-same-length
-same-length c = search needs
-
 returns : tie.Need-returns
 returns c = λ rest st g fs s. enters-none s _ fs _ _ _ _ (c .before .before .before .before .before .before .before .before .pre .4) (c .before .before .before .word .ensures .0) _ (c .before .before .method-record .ensures) (c .enum-told .given .1)
 
 count-requires : tie.Need-count-requires
 count-requires c κs = seen-length (c .before .before .before .before .before .before .before .before .before .before .pre .2 .seen)
 
-add-if1 : tie.Need-add-if1
-add-if1 c = search needs
-
-same-length-2 : tie.Need-same-length-2
-same-length-2 c = search needs
-
 returns-2 : tie.Need-returns-2
-returns-2 c = λ rest st g fs s. enters-full s _ fs _ _ _ _ (c .before .before .before .before .before .before .before .before .before .before .before .before .pre .4) (c .before .before .before .before .before .before .before .word .ensures .0) _ (c .before .before .before .before .before .before .method-record .ensures) _ _ (c .before .before .before .before .j .given .1) (c .before .count .ensures .0) (c .if1 .taken)
+returns-2 c =
+    let back = c .before .before .before .before .before .before in
+    λ rest st g fs s. enters-full s _ fs _ _ _ _ (back .before .before .before .before .before .before .pre .4) (back .before .word .ensures .0) _ (back .method-record .ensures) _ _ (c .before .before .before .before .j .given .1) (c .before .count .ensures .0) (c .if1 .taken)
 
 record-word-requires : tie.Need-record-word-requires
 record-word-requires c κs = (laid (c .before .before .before .before .before .before .before .before .before .before .before .before .pre .0), defined-at (c .before .before .before .before .before .before .method-record .ensures) (c .before .before .before .before .j .given .1) .0, omega arith)
@@ -50,17 +34,10 @@ record-word-requires-2 c κs = (laid (c .before .before .before .before .before 
 add-call-requires : tie.Need-add-call-requires
 add-call-requires c κs = (c .before .before .before .before .count .ensures .0, omega (arith, c .before .before .before .if1 .left), omega (arith, c .before .before .before .before .before .before .before .before .before .before .before .before .before .before .before .pre .4, seen-few (c .before .before .before .before .before .before .before .before .before .before .before .before .before .before .before .pre .2 .seen) Objects), c .before .before .before .before .before .before .before .before .before .before .before .before .before .before .before .pre .5, (lying (c .before .before .before .before .before .before .before .before .before .before .before .before .before .before .before .pre .2 .rest) (c .before .before .before .before .before .before .before .before .before .before .before .before .before .before .before .pre .2 .stores) (framesOf (c .before .before .before .before .before .before .before .before .before .before .before .before .before .before .before .pre .2 .part)), c .before .before .before .before .before .before .before .before .before .before .before .before .before .before .before .pre .2 .seen .block))
 
-add-t18 : tie.Need-add-t18
-add-t18 c = search needs
-
-cast-t32 : tie.Need-cast-t32
-cast-t32 c = search needs
-
 pop-requires : tie.Need-pop-requires
-pop-requires c κs = (sighted (c .before .before .before .add-call .ensures _ _ _ _ _ (c .before .before .before .before .before .before .before .before .before .before .before .before .before .before .before .before .before .before .before .pre .2 .seen)), c .before .before .before .before .before .before .before .before .before .before .before .before .before .before .before .before .before .before .before .pre .3)
-
-same-length-3 : tie.Need-same-length-3
-same-length-3 c = search needs
+pop-requires c κs =
+    let pre = c .before .before .before .before .before .before .before .before .before .before .before .before .before .before .before .before .before .before .before .pre in
+    (sighted (c .before .before .before .add-call .ensures _ _ _ _ _ (pre .2 .seen)), pre .3)
 
 returns-3 : tie.Need-returns-3
 returns-3 c = λ rest st g fs s. enters s _ fs _ _ _ _ (c .before .before .before .before .before .before .before .before .before .before .before .before .before .before .before .before .before .before .before .before .before .before .pre .4) (c .before .before .before .before .before .before .before .before .before .before .before .before .before .before .before .before .before .word .ensures .0) _ (c .before .before .before .before .before .before .before .before .before .before .before .before .before .before .before .before .method-record .ensures) _ _ (c .before .before .before .before .before .before .before .before .before .before .before .before .before .before .j .given .1) (c .before .before .before .before .before .before .before .before .before .before .before .count .ensures .0) _ _ (c .before .before .before .before .before .before .before .before .before .before .before .before .before .before .before .before .before .before .before .before .before .before .pre .0) (omega (arith, c .before .before .before .before .before .before .before .before .before .before .if1 .left)) (c .before .before .before .before .before .before .before .before .before .record-word .ensures .0) (c .before .before .before .before .before .before .before .before .record-word2 .ensures .0) (c .before .before .pop .ensures rest _ _ _ fs (running _ _ fs) refl refl refl (c .before .before .before .before .before .before .add-call .ensures _ _ _ _ _ s))
@@ -70,20 +47,20 @@ call-object-spec =
     tie.close
     (tie.spec
     word-requires
-    method-record-requires
-    enum-known-j
-    enum-told
-    same-length
+    (λ c κs. search needs)
+    (λ c. search needs)
+    (λ c. search needs)
+    (λ c. search needs)
     returns
     count-requires
-    add-if1
-    same-length-2
+    (λ c. search needs)
+    (λ c. search needs)
     returns-2
     record-word-requires
     record-word-requires-2
     add-call-requires
-    add-t18
-    cast-t32
+    (λ c. search needs)
+    (λ c. search needs)
     pop-requires
-    same-length-3
+    (λ c. search needs)
     returns-3)

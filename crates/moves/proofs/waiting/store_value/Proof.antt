@@ -4,64 +4,22 @@ use mathlib.Core.Path.{refl}
 use Rattle.machine.specs.declared.Value.the-variants.{Null as nil}
 use Rattle.machine.specs.Config.{returning}
 use Rattle.block.specs.declared.Area.the-variants.{Objects}
-use Rattle.hand.proofs.Seeing.{seen-few}
+use Rattle.state.proofs.Seeing.{seen-few}
 use Rattle.moves.proofs.WaitingLaws.{stores-unbound, stores-null, stores-absent, stores}
 use Rattle.moves.proofs.waiting.store_value.Statement.{statement}
 use Rattle.moves.proofs.waiting.store_value.Tie as tie
 
-variable-requires : tie.Need-variable-requires
-variable-requires c κs = search needs
-
-enum-known-found : tie.Need-enum-known-found
-enum-known-found c = search needs
-
-enum-told : tie.Need-enum-told
-enum-told c = search needs
-
-same-length : tie.Need-same-length
-same-length c = search needs
-
 returns : tie.Need-returns
 returns c = λ rest st g fs s own. stores-unbound s _ _ _ (c .before .before .variable .ensures) _ fs _ _ (c .enum-told .given .1)
-
-enum-known-target : tie.Need-enum-known-target
-enum-known-target c = search needs
-
-enum-told-2 : tie.Need-enum-told-2
-enum-told-2 c = search needs
-
-fail-requires : tie.Need-fail-requires
-fail-requires c κs = search needs
-
-same-length-2 : tie.Need-same-length-2
-same-length-2 c = search needs
 
 returns-2 : tie.Need-returns-2
 returns-2 c = λ rest st g fs s own. stores-null s _ _ _ (c .before .before .before .before .before .before .before .before .before .variable .ensures) _ fs _ _ _ (c .before .before .before .before .before .before .before .found .given .1) (c .before .before .before .before .enum-told2 .given .1) (c .before .before .fail .ensures rest st _ s)
 
-count-requires : tie.Need-count-requires
-count-requires c κs = search needs
-
-cast-if1 : tie.Need-cast-if1
-cast-if1 c = search needs
-
-same-length-3 : tie.Need-same-length-3
-same-length-3 c = search needs
-
 returns-3 : tie.Need-returns-3
 returns-3 c = λ rest st g fs s own. stores-absent s _ _ _ (c .before .before .before .before .before .before .before .before .before .variable .ensures) _ fs _ _ _ _ _ (c .before .before .before .before .before .before .before .found .given .1) (c .before .before .before .before .target .given .1) (c .before .count .ensures .0) (c .if1 .taken)
 
-pop-requires : tie.Need-pop-requires
-pop-requires c κs = search needs
-
-cast-write-field : tie.Need-cast-write-field
-cast-write-field c = search needs
-
 write-field-requires : tie.Need-write-field-requires
 write-field-requires c κs = (c .before .before .before .before .before .before .before .before .before .before .before .before .before .before .before .before .before .before .before .pre .0, c .before .before .before .before .before .before .before .before .before .before .before .before .before .before .before .before .before .before .before .pre .1, search needs, omega (arith, c .before .before .before .before .before .if1 .left, c .before .before .before .before .before .before .count .ensures .0, seen-few (c .before .before .before .before .before .before .before .before .before .before .before .before .before .before .before .before .before .before .before .pre .2 .seen) Objects), c .before .before .before .before .before .before .before .before .before .before .before .before .before .before .before .before .before .before .before .pre .5)
-
-same-length-4 : tie.Need-same-length-4
-same-length-4 c = search needs
 
 returns-4 : tie.Need-returns-4
 returns-4 c = λ rest st g fs s own. stores s _ _ _ (c .before .before .before .before .before .before .before .before .before .before .before .before .before .before .before .before .before .variable .ensures) _ fs _ _ _ _ _ (c .before .before .before .before .before .before .before .before .before .before .before .before .before .before .before .found .given .1) (c .before .before .before .before .before .before .before .before .before .before .before .before .target .given .1) (c .before .before .before .before .before .before .before .before .before .count .ensures .0) (omega (arith, c .before .before .before .before .before .before .before .before .if1 .left)) (λ y h. c .before .before .write-field .ensures _ _ rest st _ y (c .before .before .before .before .before .before .pop .ensures rest st _ _ fs (returning nil fs) refl refl refl s) own h)
@@ -70,22 +28,22 @@ pub store-value-spec : {M : Type 1} → statement M
 store-value-spec =
     tie.close
     (tie.spec
-    variable-requires
-    enum-known-found
-    enum-told
-    same-length
+    (λ c κs. search needs)
+    (λ c. search needs)
+    (λ c. search needs)
+    (λ c. search needs)
     returns
-    enum-known-target
-    enum-told-2
-    fail-requires
-    same-length-2
+    (λ c. search needs)
+    (λ c. search needs)
+    (λ c κs. search needs)
+    (λ c. search needs)
     returns-2
-    count-requires
-    cast-if1
-    same-length-3
+    (λ c κs. search needs)
+    (λ c. search needs)
+    (λ c. search needs)
     returns-3
-    pop-requires
-    cast-write-field
+    (λ c κs. search needs)
+    (λ c. search needs)
     write-field-requires
-    same-length-4
+    (λ c. search needs)
     returns-4)

@@ -1,0 +1,287 @@
+-- What the code's proofs need of the block's laws: the callees' contracts are premises, and the code's locals variables.
+use mathlib.Core.Path.{_≡_, refl, sym, ap, _∙_}
+use mathlib.Core.Bool.{Bool, false}
+use mathlib.Core.List.{List, [], _∷_, _++_}
+use Prim.Native.Nat.{ℕ, zero, suc, _+_, _*_, _-_, _<_, _≤_}
+use native.Mathlib.Omega.{arith}
+use borrow.Author.Tests.{ne-eqb}
+use lib.ListN.{length, getD, set, take, drop, replicate, length-append, length-map, length-replicate}
+use lib.Seq.{length-take-le, take-all, take-take}
+use Rattle.slices.specs.Put.{putWord}
+use Rattle.words.specs.Word.{bytes}
+use Rattle.limits.specs.Limits.{BLOCK, OBJECTS, BINDINGS, FRAMES, CLASS-FIELDS}
+use Rattle.machine.specs.declared.Value.{Value}
+use Rattle.machine.specs.declared.Value.the-variants.{Null as nil, Ref as ref}
+use Rattle.machine.specs.declared.Frame.{Frame}
+use Rattle.machine.specs.declared.Frame.the-variants.{Awaits as awaits, Casts as casts, Locks as locks}
+use Rattle.machine.specs.Config.{Object, Binding}
+use Rattle.machine.specs.Machine.{initial}
+use Rattle.block.specs.declared.Area.{Area}
+use Rattle.block.specs.declared.Area.the-variants.{Objects, Bindings, Positions, Frames}
+use Rattle.representation.specs.Changed.{putWords, withObjects, withBindings, withFrames, withShut, withField}
+use Rattle.block.specs.Layout.{width, most, begins, END, countByte, wordByte, counted, wordIn, RUNNING, AWAITS, CASTS}
+use Rattle.block.specs.Block.{valueWord, shutWord, objectWords, bindingWords, frameWords, Parts, laid, encode}
+use Rattle.block.specs.Decode.{valueOf, frameOf}
+use Rattle.block.proofs.Rows.{row-at}
+use Rattle.block.proofs.Words.{within, area-ends, count-is, word-is}
+use Rattle.block.proofs.Decode.{frame-back}
+use Rattle.representation.proofs.Changes.{put-shut, put-field, put-fresh-object, put-new-binding, put-frame, put-new-frame, put-last-frame}
+use Rattle.representation.proofs.Start.{start-block}
+use Rattle.areas.specs.Shifts.{raised, lowered}
+use Rattle.areas.proofs.Shifting.{raised-none, raised-length, raised-read, raised-step, lowered-none, lowered-length, lowered-read, lowered-step, inserted, removed}
+
+-- a word of a record lies within the areas
+pub inside : (a : Area) (at wide i j : ℕ) → at ≡ begins a → wide ≡ width a → i < most a → j < width a → at + (wide * i + j) < END
+inside a at wide i j e w h hj = rw (e, w) (omega (arith, within a i j h hj, area-ends a))
+
+pub width-small : (a : Area) → width a ≤ 10
+width-small Objects = omega arith
+width-small Bindings = omega arith
+width-small Positions = omega arith
+width-small Frames = omega arith
+
+-- values and their words
+pub word-value : (n : ℕ) → (n ≡ 0 → ⊥) → ref (n - 1) ≡ valueOf n
+word-value zero h = absurd (h refl)
+word-value (suc n) h = let e : suc n - 1 ≡ n = omega arith in rw e
+
+pub value-word : (v : Value) (o : ℕ) → v ≡ ref o → o + 1 ≡ valueWord v
+value-word v o e = rw e (omega arith)
+
+-- frames and their words
+pub awaits-said : (k x y : ℕ) → k ≡ AWAITS → awaits x y ≡ frameOf (k ∷ x ∷ y ∷ [])
+awaits-said k x y e = rw e
+
+pub casts-said : (k x y : ℕ) → k ≡ CASTS → casts x ≡ frameOf (k ∷ x ∷ y ∷ [])
+casts-said k x y e = rw e
+
+pub locks-said : (k x y : ℕ) → (k ≡ AWAITS → ⊥) → (k ≡ CASTS → ⊥) → locks x ≡ frameOf (k ∷ x ∷ y ∷ [])
+locks-said k x y a b = rw (ne-eqb k AWAITS a, ne-eqb k CASTS b)
+
+zeros : (n i : ℕ) → _≡_ {A = ℕ} (getD (replicate n 0) i 0) 0
+zeros zero i = refl
+zeros (suc n) zero = refl
+zeros (suc n) (suc i) = zeros n i
+
+-- the start written over bytes that were made 0
+pub started : (e z : List ℕ) → length e ≡ BLOCK → z ≡ replicate (length e) 0 → putWord (putWord z (wordByte Positions 0 0) RUNNING) (countByte Positions) 1 ≡ encode initial
+started e z long is = start-block z (ap length is ∙ length-replicate (length e) 0 ∙ long) (λ i. rw is (zeros (length e) i))
+
+-- words put one after the other
+pub pair-put :
+    (b : List ℕ) (a : Area) (i j v w : ℕ) → putWord (putWord b (wordByte a i j) v) (wordByte a i (j + 1)) w ≡ putWords b (wordByte a i j) (v ∷ w ∷ [])
+pair-put b a i j v w =
+    let e : wordByte a i (j + 1) ≡ wordByte a i j + 2 = omega arith in
+    ap (λ (at : ℕ). putWord (putWord b (wordByte a i j) v) at w) e
+
+pub row-put :
+    (b : List ℕ) (i k x y : ℕ) → putWord (putWords b (wordByte Frames i 0) (k ∷ x ∷ [])) (wordByte Frames i 2) y ≡ putWords b (wordByte Frames i 0) (k ∷ x ∷ y ∷ [])
+row-put b i k x y =
+    let at = wordByte Frames i 0 in
+    let e : wordByte Frames i 2 ≡ at + 2 + 2 = omega arith in
+    ap (λ (m : ℕ). putWord (putWord (putWord b at k) (at + 2) x) m y) e
+
+-- the words of a frame
+pub frame-row : (f : Frame) (k x y : ℕ) → k ≡ getD (frameWords f) 0 0 → x ≡ getD (frameWords f) 1 0 → y ≡ getD (frameWords f) 2 0 → k ∷ x ∷ y ∷ [] ≡ frameWords f
+frame-row (awaits n e) k x y a b c = cc
+frame-row (casts n) k x y a b c = cc
+frame-row (locks o) k x y a b c = cc
+
+module _ (b : List ℕ) (p : Parts) (is : b ≡ bytes (laid p)) where
+  pub frames-counted : counted b Frames ≡ length (p .frames)
+  frames-counted = rw is (count-is p Frames ∙ length-map (p .frames) frameWords)
+
+  frame-word : (i j : ℕ) → i < FRAMES → i < length (p .frames) → j < width Frames → wordIn b Frames i j ≡ getD (frameWords (getD (p .frames) i (awaits 0 0))) j 0
+  frame-word i j h l hj = rw is (word-is p Frames i j h hj ∙ ap (λ (r : List ℕ). getD r j 0) (row-at frameWords (p .frames) i (awaits 0 0) l))
+
+  -- frame i read
+  pub frame-read :
+      (i k x y : ℕ)
+      → i < FRAMES
+      → i < length (p .frames)
+      → k ≡ wordIn b Frames i 0
+      → x ≡ wordIn b Frames i 1
+      → y ≡ wordIn b Frames i 2
+      → frameOf (k ∷ x ∷ y ∷ []) ≡ getD (p .frames) i (awaits 0 0)
+  frame-read i k x y h l e f g =
+      let r =
+      frame-row (getD (p .frames) i (awaits 0 0)) k x y (e ∙ frame-word i 0 h l (omega arith)) (f ∙ frame-word i 1 h l (omega arith)) (g ∙ frame-word i 2 h l (omega arith))
+      in
+      ap frameOf r ∙ frame-back (getD (p .frames) i (awaits 0 0))
+
+  -- frame i written
+  pub frame-put :
+      (c : List ℕ) (i : ℕ) (f : Frame)
+      → i < FRAMES
+      → i < length (p .frames)
+      → c ≡ putWords b (wordByte Frames i 0) (frameWords f)
+      → c ≡ bytes (laid (withFrames p (set (p .frames) i f)))
+  frame-put c i f h l e = e ∙ rw is (put-frame p i f h l)
+
+  -- one frame more
+  pub frame-added :
+      (b₁ c : List ℕ) (n : ℕ) (f : Frame)
+      → n ≡ counted b Frames
+      → n < FRAMES
+      → b₁ ≡ putWords b (wordByte Frames n 0) (frameWords f)
+      → c ≡ putWord b₁ (countByte Frames) (n + 1)
+      → c ≡ bytes (laid (withFrames p (p .frames ++ f ∷ [])))
+  frame-added b₁ c n f m h d e =
+      let l : n ≡ length (p .frames) = m ∙ frames-counted in
+      let s : n + 1 ≡ suc n = omega arith in
+      e ∙ rw (d, s, l, is) (put-new-frame p f (omega arith))
+
+  -- the last frame taken away
+  pub frame-dropped :
+      (b₁ c : List ℕ) (n : ℕ)
+      → n < FRAMES
+      → length (p .frames) ≡ suc n
+      → b₁ ≡ putWords b (wordByte Frames n 0) (0 ∷ 0 ∷ 0 ∷ [])
+      → c ≡ putWord b₁ (countByte Frames) n
+      → c ≡ bytes (laid (withFrames p (take n (p .frames))))
+  frame-dropped b₁ c n h l d e = e ∙ rw (d, is) (put-last-frame p n h l)
+
+  -- one object more, and one changed
+  pub object-added :
+      (b₁ c : List ℕ) (n class m : ℕ)
+      → n ≡ counted b Objects
+      → n < OBJECTS
+      → b₁ ≡ putWord b (wordByte Objects n 0) class
+      → c ≡ putWord b₁ (countByte Objects) (n + 1)
+      → c ≡ bytes (laid (withObjects p (p .objects ++ record { class = class; shut = false; fields = replicate m nil } ∷ [])))
+  object-added b₁ c n class m k h d e =
+      let l : n ≡ length (p .objects) = k ∙ rw is (count-is p Objects ∙ length-map (p .objects) objectWords) in
+      let s : n + 1 ≡ suc n = omega arith in
+      e ∙ rw (d, s, l, is) (put-fresh-object p class m (omega arith))
+
+  module _ (c : List ℕ) (o : ℕ) (d : Object) (room : o < OBJECTS) (h : o < length (p .objects)) (w : ℕ) where
+    pub object-shut :
+        (s : Bool) → w ≡ shutWord s → c ≡ putWord b (wordByte Objects o 1) w → c ≡ bytes (laid (withObjects p (set (p .objects) o (withShut (getD (p .objects) o d) s))))
+    object-shut s v e = e ∙ rw (v, is) (put-shut p o d room h s)
+
+    pub object-field :
+        (k : ℕ) (v : Value)
+        → w ≡ valueWord v
+        → k < CLASS-FIELDS
+        → k < length (getD (p .objects) o d .fields)
+        → c ≡ putWord b (wordByte Objects o (2 + k)) w
+        → c ≡ bytes (laid (withObjects p (set (p .objects) o (withField (getD (p .objects) o d) k v))))
+    object-field k v u g l e = e ∙ rw (u, is) (put-field p o d room h k v l g)
+
+  -- one binding more
+  pub binding-added :
+      (b₁ b₂ c : List ℕ) (n w : ℕ) (x : Binding)
+      → n ≡ counted b Bindings
+      → n < BINDINGS
+      → w ≡ valueWord (x .value)
+      → b₁ ≡ putWords b (wordByte Bindings n 0) (x .name ∷ x .type ∷ [])
+      → b₂ ≡ putWords b₁ (wordByte Bindings n 2) (w ∷ x .link ∷ [])
+      → c ≡ putWord b₂ (countByte Bindings) (n + 1)
+      → c ≡ bytes (laid (withBindings p (p .bindings ++ x ∷ [])))
+  binding-added b₁ b₂ c n w x k h v d₁ d₂ e =
+      let l : n ≡ length (p .bindings) = k ∙ rw is (count-is p Bindings ∙ length-map (p .bindings) bindingWords) in
+      let s : n + 1 ≡ suc n = omega arith in
+      let at : wordByte Bindings n 2 ≡ wordByte Bindings n 0 + 2 + 2 = omega arith in
+      e ∙ rw (d₂, d₁, at, s, v) (rw (l, is) (put-new-binding p x (omega arith)))
+
+  -- where the loops begin
+  pub cut-none : (n : ℕ) → length (p .frames) ≡ n → b ≡ bytes (laid (withFrames p (take n (p .frames))))
+  cut-none n e = is ∙ ap (λ (fs : List Frame). bytes (laid (withFrames p fs))) (sym (take-all n (p .frames) (omega arith)))
+
+  pub up-none : (n : ℕ) → length (p .frames) ≡ suc n → b ≡ bytes (laid (withFrames p (raised n n (p .frames))))
+  up-none n e = is ∙ ap (λ (fs : List Frame). bytes (laid (withFrames p fs))) (sym (raised-none (awaits 0 0) (p .frames) n e))
+
+  pub down-none : (at k : ℕ) → b ≡ bytes (laid (withFrames p (lowered at k at (p .frames))))
+  down-none at k = is ∙ ap (λ (fs : List Frame). bytes (laid (withFrames p fs))) (sym (lowered-none (awaits 0 0) (p .frames) at k))
+
+-- what frame and put_frame ensure, of the bytes b before and c after
+abbrev pub Reads : List ℕ → ℕ → Frame → Type 0
+Reads b i f = (q : Parts) → b ≡ bytes (laid q) → i < length (q .frames) → f ≡ getD (q .frames) i (awaits 0 0)
+
+abbrev pub Puts : List ℕ → List ℕ → ℕ → Frame → Type 0
+Puts b c i f = (q : Parts) → b ≡ bytes (laid q) → i < length (q .frames) → c ≡ bytes (laid (withFrames q (set (q .frames) i f)))
+
+module _ (p : Parts) (b c : List ℕ) where
+  -- one turn of each loop
+  pub cut-step :
+      (n k : ℕ)
+      → length (p .frames) ≡ n
+      → 0 < k
+      → k ≤ n
+      → b ≡ bytes (laid (withFrames p (take k (p .frames))))
+      → ((q : Parts) → b ≡ bytes (laid q) → length (q .frames) ≡ suc (k - 1) → c ≡ bytes (laid (withFrames q (take (k - 1) (q .frames)))))
+      → c ≡ bytes (laid (withFrames p (take (k - 1) (p .frames))))
+  cut-step n k l h m e drops =
+      let long : length (take k (p .frames)) ≡ suc (k - 1) = length-take-le k (p .frames) (omega arith) ∙ omega arith in
+      drops (withFrames p (take k (p .frames))) e long
+      ∙ ap (λ (fs : List Frame). bytes (laid (withFrames p fs))) (take-take (k - 1) k (p .frames) (omega arith))
+
+  pub up-step :
+      (n k : ℕ) (f : Frame)
+      → length (p .frames) ≡ suc n
+      → 0 < k
+      → k ≤ n
+      → b ≡ bytes (laid (withFrames p (raised k n (p .frames))))
+      → Reads b (k - 1) f
+      → Puts b c k f
+      → c ≡ bytes (laid (withFrames p (raised (k - 1) n (p .frames))))
+  up-step n zero f l h m e reads puts = absurd (omega arith)
+  up-step n (suc k) f l h m e reads puts =
+      let fs = p .frames in
+      let q = withFrames p (raised (suc k) n fs) in
+      let z : suc k - 1 ≡ k = omega arith in
+      let long = raised-length (awaits 0 0) fs n l (suc k) m in
+      let got : f ≡ getD fs k (awaits 0 0) = rw z at (reads q e (omega (arith, long))) ∙ raised-read (awaits 0 0) fs n l k m in
+      rw z
+      (puts q e (omega (arith, long))
+      ∙ ap (λ (gs : List Frame). bytes (laid (withFrames p gs))) (rw got (raised-step (awaits 0 0) fs n l k m)))
+
+  pub down-step :
+      (at k n i : ℕ) (f : Frame)
+      → length (p .frames) ≡ n
+      → at ≤ i
+      → i + k < n
+      → b ≡ bytes (laid (withFrames p (lowered at k i (p .frames))))
+      → Reads b (i + k) f
+      → Puts b c i f
+      → c ≡ bytes (laid (withFrames p (lowered at k (i + 1) (p .frames))))
+  down-step at k n i f l h m e reads puts =
+      let fs = p .frames in
+      let q = withFrames p (lowered at k i fs) in
+      let long = lowered-length (awaits 0 0) fs at k i h (omega arith) in
+      let got : f ≡ getD fs (i + k) (awaits 0 0) = reads q e (omega (arith, long)) ∙ lowered-read (awaits 0 0) fs at k i h (omega arith) in
+      puts q e (omega (arith, long))
+      ∙ ap (λ (gs : List Frame). bytes (laid (withFrames p gs))) (rw got (lowered-step (awaits 0 0) fs at k i h (omega arith)))
+
+module _ (p : Parts) (b₀ b₁ b₂ : List ℕ) (is : b₀ ≡ bytes (laid p)) (n : ℕ) (many : n ≡ counted b₀ Frames) where
+  -- a frame put in: added at the end, the later ones moved up, and written
+  pub frame-inserted :
+      (b₃ : List ℕ) (at : ℕ) (f : Frame)
+      → at ≤ n
+      → ((q : Parts) → b₀ ≡ bytes (laid q) → b₁ ≡ bytes (laid (withFrames q (q .frames ++ f ∷ []))))
+      → ((q : Parts) → b₁ ≡ bytes (laid q) → length (q .frames) ≡ suc n → b₂ ≡ bytes (laid (withFrames q (raised at n (q .frames)))))
+      → Puts b₂ b₃ at f
+      → b₃ ≡ bytes (laid (withFrames p (take at (p .frames) ++ f ∷ drop at (p .frames))))
+  frame-inserted b₃ at f h adds shifts puts =
+      let fs = p .frames in
+      let l : n ≡ length fs = many ∙ frames-counted b₀ p is in
+      let more : List Frame = fs ++ f ∷ [] in
+      let long : length more ≡ suc n = length-append fs (f ∷ []) ∙ omega arith in
+      let shifted = shifts (withFrames p more) (adds p is) long in
+      let there : at < length (raised at n more) = omega (arith, raised-length f more n long at h) in
+      puts (withFrames p (raised at n more)) shifted there
+      ∙ ap (λ (gs : List Frame). bytes (laid (withFrames p gs))) (rw l (inserted f fs f at (omega arith)))
+
+  -- frames taken out: the later ones moved down, and the end cut off
+  pub frames-removed :
+      (at k : ℕ)
+      → at + k ≤ n
+      → ((q : Parts) → b₀ ≡ bytes (laid q) → length (q .frames) ≡ n → b₁ ≡ bytes (laid (withFrames q (lowered at k (n - k) (q .frames)))))
+      → ((q : Parts) → b₁ ≡ bytes (laid q) → length (q .frames) ≡ n → b₂ ≡ bytes (laid (withFrames q (take (n - k) (q .frames)))))
+      → b₂ ≡ bytes (laid (withFrames p (take at (p .frames) ++ drop (at + k) (p .frames))))
+  frames-removed at k h shifts cuts =
+      let fs = p .frames in
+      let l : length fs ≡ n = sym (many ∙ frames-counted b₀ p is) in
+      let long : length (lowered at k (n - k) fs) ≡ n = lowered-length (awaits 0 0) fs at k (n - k) (omega arith) (omega arith) ∙ l in
+      cuts (withFrames p (lowered at k (n - k) fs)) (shifts p is l) long
+      ∙ ap (λ (gs : List Frame). bytes (laid (withFrames p gs))) (removed (awaits 0 0) fs at k n l h)

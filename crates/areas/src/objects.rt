@@ -1,0 +1,90 @@
+// The objects and bindings of a block: one more of each, and changes to an object. "Objects and bindings are never freed."
+use crate::areas::count;
+use crate::areas::put;
+use crate::areas::put_count;
+use crate::areas::put_pair;
+use crate::values::word_of;
+use block::Area;
+use machine::Value;
+ghost use mathlib.Core.Path.{_≡_};
+ghost use mathlib.Core.Bool.{false};
+ghost use mathlib.Core.List.{[], _∷_, _++_};
+ghost use Prim.Native.Nat.{ℕ, _<_};
+ghost use lib.ListN.{length, getD, set, replicate};
+ghost use Rattle.words.specs.Word.{WORD, bytes};
+ghost use Rattle.limits.specs.Limits.{BLOCK, OBJECTS, BINDINGS, CLASS-FIELDS};
+ghost use Rattle.machine.specs.declared.Value.the-variants.{Null as nil};
+ghost use Rattle.machine.specs.Config.{Object};
+ghost use Rattle.block.specs.declared.Area.the-variants.{Objects, Bindings};
+ghost use Rattle.block.specs.Layout.{counted};
+ghost use Rattle.block.specs.Block.{valueWord, shutWord, Parts, laid};
+ghost use Rattle.representation.specs.Changed.{withObjects, withBindings, withShut, withField};
+
+// "new makes an open object with null fields", whatever number m of them: null is 0, as is all past the last object.
+pub fn new_object(block: &mut [u8], class: u16)
+    requires { ⌜ (length (now block) ≡ BLOCK) × (counted (now block) Objects < OBJECTS) ⌝ }
+    ensures { λ r. ⌜
+        ((p : Parts) (m : ℕ) →
+        now (block .entry) ≡ bytes (laid p) →
+        now (block .exit) ≡ bytes (laid (withObjects p (p .objects ++ record { class = class; shut = false; fields = replicate m nil } ∷ []))))
+        ⌝ }
+{
+    let n = count(block, Area::Objects);
+    put(block, Area::Objects, n, 0, class);
+    put_count(block, Area::Objects, (n + 1) as u16);
+}
+
+// 1 for shut, 0 for open.
+fn shut_word(shut: bool) -> u16
+    ensures { λ r. ⌜ r ≡ shutWord shut ⌝ }
+{
+    if shut {
+        return 1;
+    }
+    0
+}
+
+// Object o opened or shut.
+pub fn set_shut(block: &mut [u8], o: usize, shut: bool)
+    requires { ⌜ (length (now block) ≡ BLOCK) × (o < OBJECTS) ⌝ }
+    ensures { λ r. ⌜
+        ((p : Parts) (d : Object) →
+        now (block .entry) ≡ bytes (laid p) →
+        o < length (p .objects) →
+        now (block .exit) ≡ bytes (laid (withObjects p (set (p .objects) o (withShut (getD (p .objects) o d) shut)))))
+        ⌝ }
+{
+    let w = shut_word(shut);
+    put(block, Area::Objects, o, 1, w);
+}
+
+// v in field k of object o.
+pub fn put_field(block: &mut [u8], o: usize, k: usize, v: Value)
+    requires { ⌜ (length (now block) ≡ BLOCK) × (o < OBJECTS) × (k < CLASS-FIELDS) × (valueWord v < WORD) ⌝ }
+    ensures { λ r. ⌜
+        ((p : Parts) (d : Object) →
+        now (block .entry) ≡ bytes (laid p) →
+        o < length (p .objects) →
+        k < length (getD (p .objects) o d .fields) →
+        now (block .exit) ≡ bytes (laid (withObjects p (set (p .objects) o (withField (getD (p .objects) o d) k v)))))
+        ⌝ }
+{
+    let w = word_of(v);
+    put(block, Area::Objects, o, 2 + k, w);
+}
+
+// One binding more.
+pub fn add_binding(block: &mut [u8], name: u16, t: u16, value: Value, link: u16)
+    requires { ⌜ (length (now block) ≡ BLOCK) × (counted (now block) Bindings < BINDINGS) × (valueWord value < WORD) ⌝ }
+    ensures { λ r. ⌜
+        ((p : Parts) →
+        now (block .entry) ≡ bytes (laid p) →
+        now (block .exit) ≡ bytes (laid (withBindings p (p .bindings ++ record { name = name; type = t; value = value; link = link } ∷ []))))
+        ⌝ }
+{
+    let n = count(block, Area::Bindings);
+    let w = word_of(value);
+    put_pair(block, Area::Bindings, n, 0, name, t);
+    put_pair(block, Area::Bindings, n, 2, w, link);
+    put_count(block, Area::Bindings, (n + 1) as u16);
+}

@@ -1,0 +1,52 @@
+use borrow.Author.Needs.{needs}
+use Rattle.script.specs.Asking.{holds}
+use Rattle.machine.specs.Machine.{fieldCount}
+use Rattle.block.specs.declared.Area.the-variants.{Objects, Bindings, Positions, Frames}
+use Rattle.canonical.proofs.EachLaws as laws
+use Rattle.canonical.proofs.records.record_fits.Statement.{statement}
+use Rattle.canonical.proofs.records.record_fits.Tie as tie
+
+object-fits-requires : tie.Need-object-fits-requires
+object-fits-requires c κs = (c .before .before .before .before .pre .0, c .before .before .before .before .pre .1, laws.place-there _ Objects _ (c .enum-told .given .1) (c .before .before .before .before .pre .2))
+
+position-fits-requires : tie.Need-position-fits-requires
+position-fits-requires c κs = (c .before .before .before .before .pre .1, laws.place-there _ Positions _ (c .enum-told3 .given .1) (c .before .before .before .before .pre .2))
+
+frame-fits-requires : tie.Need-frame-fits-requires
+frame-fits-requires c κs = (c .before .before .before .before .pre .1, laws.place-there _ Frames _ (c .enum-told4 .given .1) (c .before .before .before .before .pre .2))
+
+returns : tie.Need-returns
+returns c =
+    let args = c .before .before .before .before .before .args in
+    laws.record-there (fieldCount (args .s .now)) (args .block .now) (args .a) Objects (args .i) (c .before .enum-told .given .1) (c .object-fits .ensures)
+
+returns-2 : tie.Need-returns-2
+returns-2 c =
+    let args = c .before .before .before .before .args in
+    laws.record-there (fieldCount (args .s .now)) (args .block .now) (args .a) Bindings (args .i) (c .enum-told2 .given .1) (holds tt)
+
+returns-3 : tie.Need-returns-3
+returns-3 c =
+    let args = c .before .before .before .before .before .args in
+    laws.record-there (fieldCount (args .s .now)) (args .block .now) (args .a) Positions (args .i) (c .before .enum-told3 .given .1) (c .position-fits .ensures)
+
+returns-4 : tie.Need-returns-4
+returns-4 c =
+    let args = c .before .before .before .before .before .args in
+    laws.record-there (fieldCount (args .s .now)) (args .block .now) (args .a) Frames (args .i) (c .before .enum-told4 .given .1) (c .frame-fits .ensures)
+
+pub record-fits-spec : {M : Type 1} → statement M
+record-fits-spec =
+    tie.close
+    (tie.spec
+    (λ c. search needs)
+    object-fits-requires
+    (λ c. search needs)
+    (λ c. search needs)
+    position-fits-requires
+    (λ c. search needs)
+    frame-fits-requires
+    returns
+    returns-2
+    returns-3
+    returns-4)

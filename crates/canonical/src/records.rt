@@ -1,0 +1,116 @@
+// The records of a block: is each in order by itself?
+use crate::zeros::unused;
+use areas::count;
+use areas::word;
+use block::Area;
+use limits::Limits;
+use members::Declared;
+use members::declared_as;
+use script::Section;
+use sections::own_count;
+ghost use mathlib.Core.Path.{_≡_};
+ghost use Prim.Native.Nat.{_<_, _≤_};
+ghost use lib.ListN.{length};
+ghost use Rattle.limits.specs.Limits.{BLOCK, CLASS-FIELDS, OBJECTS, POSITIONS, FRAMES};
+ghost use Rattle.script.specs.Asking.{Decides};
+ghost use Rattle.script.specs.Statements.{WithinLayout};
+ghost use Rattle.machine.specs.Machine.{fieldCount};
+ghost use Rattle.block.specs.declared.Area.the-variants.{Objects, Positions, Frames};
+ghost use Rattle.block.specs.Layout.{most, counted, wordIn};
+ghost use Rattle.representation.specs.InOrder.{ObjectOk, PositionOk, FrameOk};
+ghost use Rattle.canonical.specs.Parts.{RecordOk, RecordsOk};
+
+// How many fields a class type has. Question 8 was answered: at most 8.
+fn field_count(s: &[u8], t: u16) -> usize
+    requires { ⌜ WithinLayout (now s) ⌝ }
+    ensures { λ r. ⌜ (r ≡ fieldCount (now (s .entry)) t) × (r ≤ CLASS-FIELDS) ⌝ }
+{
+    let d = declared_as(s, t);
+    match d {
+        Declared::Interface(_) => 0,
+        Declared::Class(c) => own_count(s, Section::Fields, c),
+        Declared::Neither => 0,
+    }
+}
+
+// Is object i open or shut, with 0 for each field that its class does not have?
+fn object_fits(s: &[u8], block: &[u8], i: usize) -> bool
+    requires { ⌜ WithinLayout (now s) × (length (now block) ≡ BLOCK) × (i < OBJECTS) ⌝ }
+    ensures { λ r. ⌜ Decides (ObjectOk (fieldCount (now (s .entry))) (wordIn (now (block .entry)) Objects i)) r ⌝ }
+{
+    let shut = word(block, Area::Objects, i, 1);
+    if 1 < shut {
+        return false;
+    }
+    let class = word(block, Area::Objects, i, 0);
+    let n = field_count(s, class);
+    unused(block, Area::Objects, i, 2 + n, 2 + Limits::CLASS_FIELDS)
+}
+
+// Is position i of a known kind, with 0 for each word without a meaning for that kind?
+fn position_fits(block: &[u8], i: usize) -> bool
+    requires { ⌜ (length (now block) ≡ BLOCK) × (i < POSITIONS) ⌝ }
+    ensures { λ r. ⌜ Decides (PositionOk (wordIn (now (block .entry)) Positions i)) r ⌝ }
+{
+    let kind = word(block, Area::Positions, i, 0);
+    if kind == 1 {
+        return unused(block, Area::Positions, i, 3, 4);
+    }
+    if kind == 2 {
+        return unused(block, Area::Positions, i, 1, 3);
+    }
+    if kind == 3 {
+        return unused(block, Area::Positions, i, 1, 5);
+    }
+    if kind == 4 {
+        return unused(block, Area::Positions, i, 3, 4);
+    }
+    false
+}
+
+// Is frame i of a known kind, with 0 for the last word where it has no meaning?
+fn frame_fits(block: &[u8], i: usize) -> bool
+    requires { ⌜ (length (now block) ≡ BLOCK) × (i < FRAMES) ⌝ }
+    ensures { λ r. ⌜ Decides (FrameOk (wordIn (now (block .entry)) Frames i)) r ⌝ }
+{
+    let kind = word(block, Area::Frames, i, 0);
+    if kind == 1 {
+        return true;
+    }
+    if kind == 2 {
+        return unused(block, Area::Frames, i, 2, 3);
+    }
+    if kind == 3 {
+        return unused(block, Area::Frames, i, 2, 3);
+    }
+    false
+}
+
+// Is record i of an area in order?
+fn record_fits(s: &[u8], block: &[u8], a: Area, i: usize) -> bool
+    requires { ⌜ WithinLayout (now s) × (length (now block) ≡ BLOCK) × (i < most a) ⌝ }
+    ensures { λ r. ⌜ Decides (RecordOk (fieldCount (now (s .entry))) (now (block .entry)) a i) r ⌝ }
+{
+    match a {
+        Area::Objects => object_fits(s, block, i),
+        Area::Bindings => true,
+        Area::Positions => position_fits(block, i),
+        Area::Frames => frame_fits(block, i),
+    }
+}
+
+// Is each record of an area in order?
+pub fn records_fit(s: &[u8], block: &[u8], a: Area) -> bool
+    requires { ⌜ WithinLayout (now s) × (length (now block) ≡ BLOCK) × (counted (now block) a ≤ most a) ⌝ }
+    ensures { λ r. ⌜ Decides (RecordsOk (fieldCount (now (s .entry))) (now (block .entry)) a (counted (now (block .entry)) a)) r ⌝ }
+{
+    let n = count(block, a);
+    let mut i = 0;
+    while i < n {
+        if !record_fits(s, block, a, i) {
+            return false;
+        }
+        i += 1;
+    }
+    true
+}

@@ -1,0 +1,3 @@
+pub mod NodeLaws
+pub mod WakeLaws
+pub mod ChoiceLaws

@@ -1,0 +1,7 @@
+pub mod FrameLaws
+pub mod PositionLaws
+pub mod ReadyLaws
+pub mod StepLaws
+pub mod StoresPassed
+pub mod TreeLaws
+pub mod TurnLaws

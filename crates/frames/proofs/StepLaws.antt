@@ -1,0 +1,156 @@
+-- What is expected above a frame, and of a node, as the code goes: one law for each answer.
+use mathlib.Core.Path.{_≡_, refl, sym, ap, _∙_}
+use mathlib.Core.Bool.{Bool, true, false, and-false}
+use mathlib.Core.List.{List}
+use mathlib.Core.Option.{Option, none, some}
+use Prim.Native.Nat.{ℕ, zero, suc, _<_, _≤_}
+use native.Mathlib.Omega.{arith}
+use borrow.Author.Tests.{lt-ltb, le-ltb, le-leb, lt-leb}
+use lib.Dec.{leb}
+use lib.ListN.{length}
+use Rattle.script.specs.declared.Question.{Question}
+use Rattle.script.specs.declared.Section.the-variants.{Nodes as nodes}
+use Rattle.script.specs.Section.{countOf, nodeWord}
+use Rattle.script.specs.Syntax.{Point, Expr, isNull, build}
+use Rattle.script.specs.Reading.{unknown-kind, kindOf, nodeOf, viewAt, exprAt, programOf}
+use Rattle.script.specs.Statements.{WithinLayout}
+use Rattle.script.proofs.Reading.{expr-at}
+use Rattle.typing.specs.declared.Answer.{Answer}
+use Rattle.typing.specs.declared.Answer.the-variants.{Typed, Faulty}
+use Rattle.typing.specs.Typing.{inferred}
+use Rattle.inference.proofs.InferLaws.{nodeBy}
+use Rattle.machine.specs.declared.Want.{Want}
+use Rattle.machine.specs.declared.Want.the-variants.{Upto as upto}
+use Rattle.machine.specs.Config.{codeOf}
+use Rattle.machine.specs.Machine.{context}
+use Rattle.machine.specs.Decide as decide
+use Rattle.machine.specs.Decide.{given, only, meetsTest, answerTest, turn, castType}
+use Rattle.environments.specs.Chains.{bindingCount, bindingsIn}
+use Rattle.frames.specs.declared.turns.Turn.{Turn}
+use Rattle.frames.specs.declared.turns.Turn.the-variants.{Nothing, Turns}
+use Rattle.frames.specs.declared.frames.Expects.the-variants.{No, Wants}
+use Rattle.frames.specs.Expecting.{turnOf, expectsOf, awaitsStep, castsStep, nodeTest}
+use Rattle.frames.proofs.ReadyLaws.{bindings-length}
+use Rattle.frames.proofs.TurnLaws.{view-by}
+
+-- an environment of the block, and none of it
+module _ (b : List ℕ) (e : ℕ) where
+  env-there : e ≤ bindingCount b → leb e (length (bindingsIn b)) ≡ true
+  env-there h = le-leb e (length (bindingsIn b)) (omega (arith, bindings-length b))
+
+  env-not : bindingCount b < e → leb e (length (bindingsIn b)) ≡ false
+  env-not h = lt-leb e (length (bindingsIn b)) (omega (arith, bindings-length b))
+
+-- what comes of a node's turn
+after-turn : (m : decide.Turn → Bool) (o : Option decide.Turn) (r : Turn) → r ≡ turnOf o → r ≡ Nothing → expectsOf (given o (λ k. only (m k) (some (upto (k .wanted))))) ≡ No
+after-turn m none r e f = refl
+after-turn m (some k) r e f = absurd (let z : _≡_ {A = ℕ} 0 1 = cc in omega arith)
+
+turn-is : (o : Option decide.Turn) (r : Turn) (t u : ℕ) → r ≡ turnOf o → r ≡ Turns t u → o ≡ some (record { wanted = t; gives = u })
+turn-is none r t u e f = absurd (let z : _≡_ {A = ℕ} 0 1 = cc in omega arith)
+turn-is (some k) r t u e f = let y : k .wanted ≡ t = cc in let z : k .gives ≡ u = cc in rw (← y, ← z)
+
+-- a frame that awaits a value
+module _ (s b : List ℕ) (n : Point) (e : ℕ) (v : Want) where
+  pub awaits-outside : countOf s nodes ≤ n → No ≡ expectsOf (awaitsStep (codeOf s) (bindingsIn b) n e v)
+  awaits-outside h = rw (le-ltb n (countOf s nodes) h)
+
+  module _ (h : n < countOf s nodes) where
+    pub awaits-unbound : bindingCount b < e → No ≡ expectsOf (awaitsStep (codeOf s) (bindingsIn b) n e v)
+    awaits-unbound l = rw (lt-ltb n (countOf s nodes) h, env-not b e l)
+
+    module _ (l : e ≤ bindingCount b) (r : Turn) (k : r ≡ turnOf (turn (codeOf s) (context (bindingsIn b) e) (viewAt s n))) where
+      pub awaits-nothing : r ≡ Nothing → No ≡ expectsOf (awaitsStep (codeOf s) (bindingsIn b) n e v)
+      awaits-nothing f =
+          rw (lt-ltb n (countOf s nodes) h, env-there b e l)
+          (sym (after-turn (λ x. meetsTest (codeOf s) (x .gives) v) (turn (codeOf s) (context (bindingsIn b) e) (viewAt s n)) r k f))
+
+      module _ (t u : ℕ) (f : r ≡ Turns t u) (m : Bool) (em : m ≡ meetsTest (codeOf s) u v) where
+        step : awaitsStep (codeOf s) (bindingsIn b) n e v ≡ only m (some (upto t))
+        step =
+            rw (lt-ltb n (countOf s nodes) h, env-there b e l, turn-is (turn (codeOf s) (context (bindingsIn b) e) (viewAt s n)) r t u k f, em)
+
+        pub awaits-unmet : m ≡ false → No ≡ expectsOf (awaitsStep (codeOf s) (bindingsIn b) n e v)
+        awaits-unmet g = rw (step, g)
+
+        pub awaits-met : m ≡ true → Wants (upto t) ≡ expectsOf (awaitsStep (codeOf s) (bindingsIn b) n e v)
+        awaits-met g = rw (step, g)
+
+-- only a cast has a cast's type
+no-cast : (k a b c : ℕ) → (k ≡ 7 → ⊥) → castType (nodeOf (kindOf k) a b c) ≡ none
+unfolding kindOf
+no-cast zero a b c h = refl
+no-cast (suc zero) a b c h = refl
+no-cast (suc (suc zero)) a b c h = refl
+no-cast (suc (suc (suc zero))) a b c h = refl
+no-cast (suc (suc (suc (suc zero)))) a b c h = refl
+no-cast (suc (suc (suc (suc (suc zero))))) a b c h = refl
+no-cast (suc (suc (suc (suc (suc (suc zero)))))) a b c h = refl
+no-cast (suc (suc (suc (suc (suc (suc (suc zero))))))) a b c h = absurd (h refl)
+no-cast (suc (suc (suc (suc (suc (suc (suc (suc zero)))))))) a b c h = refl
+no-cast (suc (suc (suc (suc (suc (suc (suc (suc (suc zero))))))))) a b c h = refl
+no-cast (suc (suc (suc (suc (suc (suc (suc (suc (suc (suc k)))))))))) a b c h = refl
+
+module _ (s : List ℕ) (n : Point) (v : Want) where
+  pub casts-outside : countOf s nodes ≤ n → No ≡ expectsOf (castsStep (codeOf s) n v)
+  casts-outside h = rw (le-ltb n (countOf s nodes) h)
+
+  module _ (h : n < countOf s nodes) (k : ℕ) (ek : k ≡ nodeWord s n 0) where
+    pub casts-other : (k ≡ 7 → ⊥) → No ≡ expectsOf (castsStep (codeOf s) n v)
+    casts-other f = rw (lt-ltb n (countOf s nodes) h, view-by s n k (sym ek), no-cast k (nodeWord s n 1) (nodeWord s n 2) (nodeWord s n 3) f)
+
+    module _ (f : k ≡ 7) (t : ℕ) (et : t ≡ nodeWord s n 1) (m : Bool) (em : m ≡ meetsTest (codeOf s) t v) where
+      cast-step : castsStep (codeOf s) n v ≡ only m (some (upto t))
+      unfolding kindOf
+      cast-step = rw (lt-ltb n (countOf s nodes) h, view-by s n 7 (sym ek ∙ f), ← et, em)
+
+      pub casts-unmet : m ≡ false → No ≡ expectsOf (castsStep (codeOf s) n v)
+      casts-unmet g = rw (cast-step, g)
+
+      pub casts-met : m ≡ true → Wants (upto t) ≡ expectsOf (castsStep (codeOf s) n v)
+      casts-met g = rw (cast-step, g)
+
+-- a node is a null just if its kind is 0
+solid : (n : Point) (f : Point → Expr) (k a b c : ℕ) → (k ≡ 0 → ⊥) → (kindOf k ≡ unknown-kind → ⊥) → isNull (build n f (nodeOf (kindOf k) a b c)) ≡ false
+unfolding kindOf
+solid n f zero a b c h u = absurd (h refl)
+solid n f (suc zero) a b c h u = refl
+solid n f (suc (suc zero)) a b c h u = refl
+solid n f (suc (suc (suc zero))) a b c h u = refl
+solid n f (suc (suc (suc (suc zero)))) a b c h u = refl
+solid n f (suc (suc (suc (suc (suc zero))))) a b c h u = refl
+solid n f (suc (suc (suc (suc (suc (suc zero)))))) a b c h u = refl
+solid n f (suc (suc (suc (suc (suc (suc (suc zero))))))) a b c h u = refl
+solid n f (suc (suc (suc (suc (suc (suc (suc (suc zero)))))))) a b c h u = refl
+solid n f (suc (suc (suc (suc (suc (suc (suc (suc (suc zero))))))))) a b c h u = refl
+solid n f (suc (suc (suc (suc (suc (suc (suc (suc (suc (suc k)))))))))) a b c h u = absurd (u refl)
+
+-- a node that runs
+module _ (s b : List ℕ) (n : Point) (e : ℕ) (v : Want) where
+  pub node-outside : countOf s nodes ≤ n → false ≡ nodeTest (codeOf s) (bindingsIn b) n e v
+  node-outside h = rw (le-ltb n (countOf s nodes) h, and-false (leb e (length (bindingsIn b))))
+
+  pub node-unbound : bindingCount b < e → false ≡ nodeTest (codeOf s) (bindingsIn b) n e v
+  node-unbound l = rw (env-not b e l)
+
+  module _ (w : WithinLayout s) (h : n < countOf s nodes) (l : e ≤ bindingCount b) (k : ℕ) (ek : k ≡ nodeWord s n 0) where
+    expr-is : exprAt s n ≡ build n (exprAt s) (nodeBy s n k)
+    expr-is = expr-at s n h (w .nodes-are nodes n h .in-order) ∙ ap (build n (exprAt s)) (view-by s n k (sym ek))
+
+    pub node-null : k ≡ 0 → true ≡ nodeTest (codeOf s) (bindingsIn b) n e v
+    unfolding kindOf
+    node-null z = rw (env-there b e l, lt-ltb n (countOf s nodes) h, expr-is, z)
+
+    module _ (z : k ≡ 0 → ⊥) (r : Answer) (er : r ≡ inferred (programOf s) (context (bindingsIn b) e) (exprAt s n)) where
+      test-is : nodeTest (codeOf s) (bindingsIn b) n e v ≡ answerTest (codeOf s) r v
+      test-is =
+          let full : isNull (exprAt s n) ≡ false =
+          ap isNull expr-is ∙ solid n (exprAt s) k (nodeWord s n 1) (nodeWord s n 2) (nodeWord s n 3) z (rw ek (w .nodes-are nodes n h .known))
+          in
+          rw (env-there b e l, lt-ltb n (countOf s nodes) h, full, er)
+
+      pub node-faulty : (q : Question) (m : Point) → r ≡ Faulty q m → false ≡ nodeTest (codeOf s) (bindingsIn b) n e v
+      node-faulty q m f = rw (test-is, f)
+
+      pub node-typed : (t : ℕ) (m : Bool) → r ≡ Typed t → m ≡ meetsTest (codeOf s) t v → m ≡ nodeTest (codeOf s) (bindingsIn b) n e v
+      node-typed t m f em = rw (test-is, f) em

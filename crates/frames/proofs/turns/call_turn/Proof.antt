@@ -1,0 +1,34 @@
+use borrow.Author.Needs.{needs}
+use Rattle.frames.proofs.TurnLaws as laws
+use Rattle.frames.proofs.turns.call_turn.Statement.{statement}
+use Rattle.frames.proofs.turns.call_turn.Tie as tie
+
+returns : tie.Need-returns
+returns c = laws.call-unbound (c .before .before .before .before .before .before .pre .0) _ (c .before .before .node-word .ensures .0) (c .before .before .before .before .before .before .pre .2) (c .if1 .taken)
+
+returns-2 : tie.Need-returns-2
+returns-2 c =
+    let back = c .before .before .before .before .before .before in
+    laws.call-missing (back .before .before .before .before .pre .0) _ (back .node-word .ensures .0) (back .before .before .before .before .pre .2) (c .before .before .before .before .if1 .left) _ _ (c .before .before .before .node-word2 .ensures .0) (c .before .before .method-of .ensures) (c .enum-told .given .1)
+
+returns-3 : tie.Need-returns-3
+returns-3 c =
+    let back = c .before .before .before .before in
+    laws.call-turns (back .before .before .before .before .before .before .before .pre .0) _ (back .before .before .before .node-word .ensures .0) (back .before .before .before .before .before .before .before .pre .2) (back .before .if1 .left) _ _ (back .node-word2 .ensures .0) (c .before .before .before .method-of .ensures) _ _ (c .before .param .given .1)
+
+pub call-turn-spec : {M : Type 1} → statement M
+call-turn-spec =
+    tie.close
+    (tie.spec
+    (λ c κs. search needs)
+    (λ c. search needs)
+    (λ c. search needs)
+    (λ c. search needs)
+    returns
+    (λ c κs. search needs)
+    (λ c. search needs)
+    (λ c κs. search needs)
+    (λ c. search needs)
+    (λ c. search needs)
+    returns-2
+    returns-3)

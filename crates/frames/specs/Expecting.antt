@@ -1,0 +1,107 @@
+-- What question 21 asks of the frames and threads of a block in order, position by position and frame by frame. "what a let frame waits for fits the type
+-- inferred for the let's first part"
+use Prim.Native.Nat.{ℕ, zero, suc, _<_, _≤_}
+use mathlib.Core.Path.{_≡_}
+use mathlib.Core.Bool.{Bool, true, _&&_}
+use mathlib.Core.List.{List, reverse}
+use mathlib.Core.Option.{Option, none, some}
+use lib.Dec.{leb, ltb}
+use lib.ListN.{length, getD, take, drop}
+use Rattle.script.specs.Lists.{sumBelow}
+use Rattle.script.specs.Syntax.{Point, Slot}
+use Rattle.script.specs.Reading.{viewAt, programOf}
+use Rattle.script.specs.Statements.{WithinLayout}
+use Rattle.script.specs.Regular.{IsType}
+use Rattle.members.specs.Tables.{Starts}
+use Rattle.sharing.specs.Tables.{Forks}
+use Rattle.inference.specs.Tables.{EnvIs, Named}
+use Rattle.machine.specs.declared.Frame.{Frame}
+use Rattle.machine.specs.declared.Frame.the-variants.{Awaits as awaits, Casts as casts, Locks as locks}
+use Rattle.machine.specs.declared.Want.{Want}
+use Rattle.machine.specs.declared.Want.the-variants.{Any as any, Upto as upto}
+use Rattle.machine.specs.Config.{Code, codeOf, Binding, Stores, Tree, running, returning, failed, join, Config}
+use Rattle.machine.specs.Machine.{fieldCount, context}
+use Rattle.machine.specs.Decide as decide
+use Rattle.machine.specs.Decide.{given, only, meetsTest, valueFitsTest, atTest, turn, castType, expects, wantTest}
+use Rattle.block.specs.declared.Area.the-variants.{Bindings, Positions}
+use Rattle.block.specs.Layout.{wordIn}
+use Rattle.block.specs.Block.{preorder, framesOf}
+use Rattle.block.specs.Decode.{configIn}
+use Rattle.representation.specs.InOrder.{InOrder}
+use Rattle.environments.specs.Chains.{bindingCount, Zeros}
+use Rattle.frames.specs.declared.turns.Turn.{Turn}
+use Rattle.frames.specs.declared.turns.Turn.the-variants.{Nothing, Turns}
+use Rattle.frames.specs.declared.frames.Expects.{Expects}
+use Rattle.frames.specs.declared.frames.Expects.the-variants.{No, Wants}
+
+-- What a node waits for and gives, and what is expected, as the code says it.
+abbrev pub turnOf : Option decide.Turn → Turn
+turnOf none = Nothing
+turnOf (some k) = Turns (k .wanted) (k .gives)
+
+abbrev pub expectsOf : Option Want → Expects
+expectsOf none = No
+expectsOf (some w) = Wants w
+
+-- The answer for node n in every environment that the table is of.
+abbrev pub TurnIs : List ℕ → List ℕ → Point → Turn → Type 0
+TurnIs s env n r = (Γ : List Slot) → EnvIs (programOf s) env Γ → r ≡ turnOf (turn (codeOf s) Γ (viewAt s n))
+
+-- The configuration that is read from the block b.
+abbrev pub configOf : List ℕ → List ℕ → Config
+configOf s b = configIn (fieldCount s) b
+
+-- What the code is lent: the script's tables, a table of zeros for an environment, and a block in order whose bindings link to earlier ones and have types.
+pub record Ready (s starts forks table b : List ℕ) : Type 0 where
+  pub within : WithinLayout s
+  pub runs : Starts s starts
+  pub sharing : Forks s forks
+  pub names : Named s (length table)
+  pub zeros : Zeros table
+  pub in-order : InOrder (fieldCount s) b
+  pub links : (i : ℕ) → i < bindingCount b → wordIn b Bindings i 3 ≤ i
+  pub types : (i : ℕ) → i < bindingCount b → IsType (programOf s) (wordIn b Bindings i 1)
+
+-- What is expected of the value that goes on above a frame, where v is expected beneath it: one step of `expects`.
+abbrev pub awaitsStep : Code → List Binding → Point → ℕ → Want → Option Want
+awaitsStep s bs n e v =
+    only (ltb n (s .size))
+    (only (leb e (length bs))
+    (given (turn s (context bs e) (s .view n)) (λ k. only (meetsTest s (k .gives) v) (some (upto (k .wanted))))))
+
+abbrev pub castsStep : Code → Point → Want → Option Want
+castsStep s n v = only (ltb n (s .size)) (given (castType (s .view n)) (λ t. only (meetsTest s t v) (some (upto t))))
+
+abbrev pub frameStep : Code → List Binding → Frame → Want → Option Want
+frameStep s bs (awaits n e) v = awaitsStep s bs n e v
+frameStep s bs (casts n) v = castsStep s n v
+frameStep s bs (locks o) v = some v
+
+-- The frames of all positions, in the order in which they lie, and n of them from number `from` on, innermost first.
+abbrev pub framesIn : List ℕ → List ℕ → List Frame
+framesIn s b = framesOf (configOf s b .tree)
+
+abbrev pub framesFrom : List ℕ → List ℕ → ℕ → ℕ → List Frame
+framesFrom s b from n = reverse (take n (drop from (framesIn s b)))
+
+-- Position i, as the tree that begins there, and how many frames the positions before it have.
+abbrev pub placeAt : List ℕ → List ℕ → ℕ → Tree
+placeAt s b i = getD (preorder (configOf s b .tree)) i failed
+
+abbrev pub framesBefore : List ℕ → ℕ → ℕ
+framesBefore b i = sumBelow (λ k. wordIn b Positions k 4) i
+
+-- A position by itself, without the sides of a join: its frames, and its node or value.
+abbrev pub nodeTest : Code → List Binding → Point → ℕ → Want → Bool
+nodeTest s bs a e v = leb e (length bs) && atTest s (context bs e) a v
+
+abbrev pub positionTest : Code → Stores → Want → Tree → Bool
+positionTest s st w (running a e fs) = wantTest (expects s (st .bindings) w fs) (λ v. nodeTest s (st .bindings) a e v)
+positionTest s st w (returning x fs) = wantTest (expects s (st .bindings) w fs) (λ v. valueFitsTest s (st .objects) x v)
+positionTest s st w failed = true
+positionTest s st w (join fs a e l r) = wantTest (expects s (st .bindings) w fs) (λ v. nodeTest s (st .bindings) a e v)
+
+-- "to any type at an async": only the root has an expectation of its own.
+abbrev pub wantAt : Want → ℕ → Want
+wantAt w zero = w
+wantAt w (suc i) = any

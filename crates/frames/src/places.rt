@@ -1,0 +1,82 @@
+// Whether all positions of the thread tree are typed.
+use crate::frames::Expects;
+use crate::frames::frames_want;
+use crate::frames::node_fits;
+use block::Area;
+use machine::Want;
+use values::value_fits;
+ghost use mathlib.Core.Path.{_≡_};
+ghost use Prim.Native.Nat.{_<_};
+ghost use Rattle.machine.specs.declared.Want.the-variants.{Upto as upto};
+ghost use Rattle.machine.specs.Config.{codeOf};
+ghost use Rattle.machine.specs.Decide.{treeTest};
+ghost use Rattle.block.specs.declared.Area.the-variants.{Positions};
+ghost use Rattle.block.specs.Layout.{counted};
+ghost use Rattle.frames.specs.Expecting.{configOf, Ready, framesBefore, placeAt, positionTest};
+
+// Are the frames of position i typed, and does its node or value meet what they expect? A failed thread always fits. `from` is the number of its first frame.
+fn position_fits(
+    s: &[u8],
+    starts: &[u16],
+    forks: &[u8],
+    table: &mut [u16],
+    block: &[u8],
+    i: usize,
+    from: usize,
+    want: Want,
+) -> bool
+    requires { ⌜ Ready (now s) (now starts) (now forks) (now table) (now block) × (i < counted (now block) Positions) × (from ≡ framesBefore (now block) i) ⌝ }
+    ensures { λ r. ⌜
+        r ≡ positionTest (codeOf (now (s .entry))) (configOf (now (s .entry)) (now (block .entry)) .stores) want
+        (placeAt (now (s .entry)) (now (block .entry)) i)
+        ⌝ }
+    ensures { λ r. ⌜ now (table .exit) ≡ now (table .entry) ⌝ }
+{
+    let kind = areas::word(block, Area::Positions, i, 0);
+    if kind == 3 {
+        return true;
+    }
+    let n = areas::word(block, Area::Positions, i, 4) as usize;
+    let Expects::Wants(v) = frames_want(s, starts, forks, table, block, from, n, want) else {
+        return false;
+    };
+    if kind == 2 {
+        let word = areas::word(block, Area::Positions, i, 3);
+        return value_fits(s, block, word, v);
+    }
+    let a = areas::word(block, Area::Positions, i, 1);
+    let e = areas::word(block, Area::Positions, i, 2);
+    node_fits(s, starts, forks, table, block, a, e, v)
+}
+
+// Are all positions typed, "up to the start's type or below at the root and to any type at an async"? The table is lent as zeros, and is zeros again
+// afterwards.
+pub fn tree_fits(
+    s: &[u8],
+    starts: &[u16],
+    forks: &[u8],
+    table: &mut [u16],
+    block: &[u8],
+    t: u16,
+) -> bool
+    requires { ⌜ Ready (now s) (now starts) (now forks) (now table) (now block) ⌝ }
+    ensures { λ r. ⌜
+        r ≡ treeTest (codeOf (now (s .entry))) (configOf (now (s .entry)) (now (block .entry)) .stores) (upto t)
+        (configOf (now (s .entry)) (now (block .entry)) .tree)
+        ⌝ }
+    ensures { λ r. ⌜ now (table .exit) ≡ now (table .entry) ⌝ }
+{
+    let count = areas::count(block, Area::Positions);
+    let mut want = Want::Upto(t);
+    let mut from: usize = 0;
+    let mut i: usize = 0;
+    while i < count {
+        if !position_fits(s, starts, forks, table, block, i, from, want) {
+            return false;
+        }
+        want = Want::Any;
+        from += areas::word(block, Area::Positions, i, 4) as usize;
+        i += 1;
+    }
+    true
+}

@@ -1,0 +1,441 @@
+-- How the walk answers at a node, as the code goes: one law for each answer, with what was read and answered on the way.
+use mathlib.Core.Path.{_≡_, refl, sym, ap, _∙_}
+use mathlib.Core.Bool.{Bool, true, false}
+use mathlib.Core.List.{List, _∷_}
+use mathlib.Core.Option.{Option, none, some}
+use Prim.Native.Nat.{ℕ, zero, suc, _+_, _-_, _<_, _≤_}
+use native.Mathlib.Omega.{arith}
+use lib.Dec.{eqb}
+use lib.ListN.{length, getD, set, length-set}
+use lib.Seq.{getD-set-same, getD-set-other, set-getD, set-set}
+use borrow.Author.Tests.{eqb-true, eqb-false}
+use Rattle.limits.specs.Limits.{INTERFACES, CLASSES}
+use Rattle.script.specs.declared.Question.{Question}
+use Rattle.script.specs.declared.Question.the-variants.{Variables, Nulls, Members, Fits, Sharing}
+use Rattle.script.specs.declared.Found.{Found}
+use Rattle.script.specs.declared.Found.the-variants.{At as Is, Nothing}
+use Rattle.script.specs.declared.Section.the-variants.{Interfaces as interfaces, Classes as classes, Nodes as nodes}
+use Rattle.script.specs.Lists.{_∈_, named}
+use Rattle.script.specs.Section.{countOf, nodeWord}
+use Rattle.script.specs.Syntax.{Point, Expr, var, select, update, call, lock, pointOf, isNull, Node, n-null, n-var, n-select, n-update, n-call, n-bind, n-new, n-cast, n-fork, n-lock, parts, build, Slot, Signature, Program}
+use Rattle.script.specs.Reading.{kindOf, nodeOf, unknown-kind, viewAt, exprAt, programOf}
+use Rattle.script.specs.Statements.{Part, WithinLayout}
+use Rattle.sections.specs.Laid.{foundOf}
+use Rattle.script.specs.Regular.{IsType}
+use Rattle.script.proofs.Declarations.{length-interfaces, length-classes}
+use Rattle.script.proofs.Reading.{first, expr-at}
+use Rattle.script.proofs.Regular.{formed, regular}
+use Rattle.typing.specs.declared.Answer.{Answer}
+use Rattle.typing.specs.declared.Answer.the-variants.{Typed, Faulty}
+use Rattle.members.specs.declared.Member.{Member}
+use Rattle.members.specs.declared.Member.the-variants.{Types, Missing}
+use Rattle.typing.specs.Members.{below, typeIn, fieldIn, methodIn}
+use Rattle.typing.specs.Typing.{fv, shares, andThen, orFaulty, unlessShared, inferred, checked}
+use Rattle.sharing.specs.Tables.{flagOf}
+use Rattle.members.specs.Tables.{memberOf}
+use Rattle.inference.specs.Tables.{boundWord, EnvIs, NamesBelow}
+use Rattle.inference.specs.At.{Target, At, Inferred, Checked}
+use Rattle.typing.proofs.Members.{field-in, field-type}
+use Rattle.typing.proofs.Rules.{Judged, types, refuses, env-more, judged}
+
+-- What is found is gone on with as its type would be.
+found-then : (q : Question) (n : Point) (o : Option ℕ) (k : ℕ → Answer) → orFaulty q n o k ≡ andThen (orFaulty q n o (λ t. Typed t)) k
+found-then q n none k = refl
+found-then q n (some t) k = refl
+
+-- What a node is inferred as, by what is inferred first: its target variable, or the field that it names.
+module _ (p : Program) (Γ : List Slot) (n x : ℕ) where
+  select-is : (f : ℕ) → inferred p Γ (select n x f) ≡ andThen (inferred p Γ (var n x)) (λ t. orFaulty Members n (fieldIn p t f) (λ u. Typed u))
+  unfolding inferred
+  select-is f = found-then Variables n (typeIn Γ x) _
+
+  update-is : (f : ℕ) (e : Expr) → inferred p Γ (update n x f e) ≡ andThen (inferred p Γ (select n x f)) (λ u. andThen (checked p Γ e u) (λ v. Typed 0))
+  unfolding inferred checked
+  update-is f e = go (typeIn Γ x) _
+    where
+      go :
+          (o : Option ℕ) (k : ℕ → Answer)
+          → orFaulty Variables n o (λ t. orFaulty Members n (fieldIn p t f) k) ≡ andThen (orFaulty Variables n o (λ t. orFaulty Members n (fieldIn p t f) (λ u. Typed u))) k
+      go none k = refl
+      go (some t) k = found-then Members n (fieldIn p t f) k
+
+  call-is :
+      (m : ℕ) (e : Expr)
+      → inferred p Γ (call n x m e) ≡ andThen (inferred p Γ (var n x)) (λ t. orFaulty Members n (methodIn p t m) (λ g. andThen (checked p Γ e (g .param)) (λ v. Typed (g .result))))
+  unfolding inferred checked
+  call-is m e = found-then Variables n (typeIn Γ x) _
+
+  lock-is : (e : Expr) → inferred p Γ (lock n x e) ≡ andThen (inferred p Γ (var n x)) (λ t. inferred p Γ e)
+  unfolding inferred
+  lock-is e = found-then Variables n (typeIn Γ x) _
+
+-- The table of an environment: a variable's word, and one more variable.
+module _ {p : Program} {env : List ℕ} {Γ : List Slot} (g : EnvIs p env Γ) where
+  -- a word of 0 says that the variable has no type, and any other is the type and 1 more
+  pub unbound : (n x y : ℕ) → x ≡ y → y < length env → getD env x 0 ≡ 0 → Faulty Variables n ≡ inferred p Γ (var n y)
+  unfolding inferred
+  unbound n x y e h z = go (typeIn Γ y) (sym (g .holds y h) ∙ (rw e at z))
+    where
+      go : (o : Option ℕ) → boundWord o ≡ 0 → Faulty Variables n ≡ orFaulty Variables n o (λ t. Typed t)
+      go none k = refl
+      go (some t) k = absurd (omega arith)
+
+  pub bound : (n x y : ℕ) → x ≡ y → y < length env → (getD env x 0 ≡ 0 → ⊥) → Typed (getD env x 0 - 1) ≡ inferred p Γ (var n y)
+  unfolding inferred
+  bound n x y e h z = go (typeIn Γ y) (rw e (g .holds y h))
+    where
+      go : (o : Option ℕ) → getD env x 0 ≡ boundWord o → Typed (getD env x 0 - 1) ≡ orFaulty Variables n o (λ t. Typed t)
+      go none k = absurd (z k)
+      go (some t) k = ap Typed (omega arith)
+
+  pub env-bind : (x t : ℕ) → x < length env → IsType p t → EnvIs p (set env x (t + 1)) (record { name = x; type = t } ∷ Γ)
+  unfolding typeIn named
+  env-bind x t h i = record { types = env-more p Γ x t (g .types) i; holds = λ y k. at y (eqb x y) refl (rw length-set at k) }
+    where
+      at : (y : ℕ) (b : Bool) → eqb x y ≡ b → y < length env → getD (set env x (t + 1)) y 0 ≡ boundWord (typeIn (record { name = x; type = t } ∷ Γ) y)
+      at y true e k = let q : x ≡ y = eqb-true x y e in rw (e, ← q, getD-set-same env x (t + 1) 0 h) (omega arith)
+      at y false e k = rw (e, getD-set-other env x y (t + 1) 0 (λ q. eqb-false x y e (sym q))) (g .holds y k)
+
+-- A variable's word is stored over, and put back after a walk that left the table as it was.
+pub word-there : {x : ℕ} {env env₁ : List ℕ} → env₁ ≡ env → x < length env → x < length env₁
+word-there e₁ h = rw e₁ h
+
+pub word-still : (x v : ℕ) {env env₁ env₂ : List ℕ} → env₁ ≡ env → x < length env → env₂ ≡ set env₁ x v → x < length env₂
+word-still x v {env₁ = env₁} e₁ h e₂ = rw (e₂, length-set env₁ x v, e₁) h
+
+pub word-back : (x v : ℕ) {env env₁ env₂ : List ℕ} → env₁ ≡ env → env₂ ≡ set env₁ x v → set env₂ x (getD env₁ x 0) ≡ env
+word-back x v {env₁ = env₁} e₁ e₂ = rw (e₂, set-set env₁ x v (getD env₁ x 0), set-getD env₁ x 0) e₁
+
+-- The node n, read as one of kind k.
+abbrev pub nodeBy : List ℕ → Point → ℕ → Node
+nodeBy s n k = nodeOf (kindOf k) (nodeWord s n 1) (nodeWord s n 2) (nodeWord s n 3)
+
+module _ {s : List ℕ} (w : WithinLayout s) where
+  -- Type numbers are far below the largest word.
+  pub type-small : (t : ℕ) → IsType (programOf s) t → t ≤ INTERFACES + CLASSES
+  type-small t h = omega (arith, rw (length-interfaces s, length-classes s) at h, w .counts-are .within interfaces, w .counts-are .within classes)
+
+  -- The type of a field is a type.
+  pub field-small : (t f u : ℕ) (r : Found) → r ≡ foundOf (fieldIn (programOf s) t f) → r ≡ Is u → u ≤ INTERFACES + CLASSES
+  field-small t f u r e k = go (fieldIn (programOf s) t f) refl (sym e ∙ k)
+    where
+      go : (o : Option ℕ) → fieldIn (programOf s) t f ≡ o → foundOf o ≡ Is u → u ≤ INTERFACES + CLASSES
+      go none q z = absurd (let y : _≡_ {A = ℕ} 0 1 = cc in omega arith)
+      go (some v) q z = let y : v ≡ u = cc in type-small u (field-type (programOf s) (regular s w) (field-in (programOf s) (regular s w) t f u .0 (q ∙ ap some y)))
+
+  module _ (n : Point) (h : n < countOf s nodes) (k : ℕ) (e : nodeWord s n 0 ≡ k) where
+    -- A node of kind k, its expression, and its parts.
+    view-kind : viewAt s n ≡ nodeBy s n k
+    unfolding viewAt
+    view-kind = rw e
+
+    expr-kind : exprAt s n ≡ build n (exprAt s) (nodeBy s n k)
+    expr-kind = expr-at s n h (w .nodes-are nodes n h .in-order) ∙ ap (build n (exprAt s)) view-kind
+
+    part-kind : (q : Point) → q ∈ parts (nodeBy s n k) → Part s n q
+    part-kind q m = w .nodes-are nodes n h .in-order q (rw view-kind m)
+
+  -- What is inferred for a node is a type.
+  inferred-type : (n : Point) → n < countOf s nodes → (env : List ℕ) (Γ : List Slot) → EnvIs (programOf s) env Γ → (t : ℕ) → inferred (programOf s) Γ (exprAt s n) ≡ Typed t → IsType (programOf s) t
+  inferred-type n h env Γ g t = go (judged (programOf s) (regular s w) Γ (exprAt s n) (g .types) (formed s w n h))
+    where
+      go : {r : Answer} → Judged (programOf s) Γ (exprAt s n) r → r ≡ Typed t → IsType (programOf s) t
+      go (types {t = u} k i) e = let y : u ≡ t = cc in rw y at i
+      go (refuses k) e = absurd (let y : _≡_ {A = ℕ} 0 1 = cc in omega arith)
+
+-- What a look-up found, and did not find.
+module _ (n : Point) where
+  found-at : (o : Option ℕ) (r : Found) (u : ℕ) (k : ℕ → Answer) → r ≡ foundOf o → r ≡ Is u → orFaulty Members n o k ≡ k u
+  found-at none r u k e f = absurd (let y : _≡_ {A = ℕ} 0 1 = cc in omega arith)
+  found-at (some v) r u k e f = let y : v ≡ u = cc in rw y
+
+  found-nothing : (o : Option ℕ) (r : Found) (k : ℕ → Answer) → r ≡ foundOf o → r ≡ Nothing → orFaulty Members n o k ≡ Faulty Members n
+  found-nothing none r k e f = refl
+  found-nothing (some v) r k e f = absurd (let y : _≡_ {A = ℕ} 0 1 = cc in omega arith)
+
+  member-types : (o : Option Signature) (r : Member) (t u : ℕ) (k : ℕ → ℕ → Answer) → r ≡ memberOf o → r ≡ Types t u → orFaulty Members n o (λ g. k (g .param) (g .result)) ≡ k t u
+  member-types none r t u k e f = absurd (let y : _≡_ {A = ℕ} 0 1 = cc in omega arith)
+  member-types (some g) r t u k e f = let y : g .param ≡ t = cc in let z : g .result ≡ u = cc in rw (y, z)
+
+  member-missing : (o : Option Signature) (r : Member) (k : Signature → Answer) → r ≡ memberOf o → r ≡ Missing → orFaulty Members n o k ≡ Faulty Members n
+  member-missing none r k e f = refl
+  member-missing (some g) r k e f = absurd (let y : _≡_ {A = ℕ} 0 1 = cc in omega arith)
+
+  shared-is : (b : Bool) (r : Answer) → flagOf b ≡ 1 → Faulty Sharing n ≡ unlessShared b n r
+  shared-is true r e = refl
+  shared-is false r e = absurd (omega arith)
+
+  apart-is : (b : Bool) (r : Answer) → (flagOf b ≡ 1 → ⊥) → unlessShared b n r ≡ r
+  apart-is true r e = absurd (e refl)
+  apart-is false r e = refl
+
+-- A field that is read or written.
+module _ (s env : List ℕ) (n : Point) (x f : ℕ) (v : Answer) (ev : Inferred s env (var n x) v) where
+  pub select-unbound : (q : Question) (m : Point) → v ≡ Faulty q m → Inferred s env (select n x f) v
+  select-unbound q m k Γ g = rw (select-is (programOf s) Γ n x f, ← ev Γ g, k)
+
+  pub select-missing : (t f′ : ℕ) (r : Found) → v ≡ Typed t → f′ ≡ f → r ≡ foundOf (fieldIn (programOf s) t f′) → r ≡ Nothing → Inferred s env (select n x f) (Faulty Members n)
+  select-missing t f′ r k ef e m Γ g = rw (select-is (programOf s) Γ n x f, ← ev Γ g, k, ← ef, found-nothing n (fieldIn (programOf s) t f′) r _ e m)
+
+  pub select-found : (t f′ u : ℕ) (r : Found) → v ≡ Typed t → f′ ≡ f → r ≡ foundOf (fieldIn (programOf s) t f′) → r ≡ Is u → Inferred s env (select n x f) (Typed u)
+  select-found t f′ u r k ef e m Γ g = rw (select-is (programOf s) Γ n x f, ← ev Γ g, k, ← ef, found-at n (fieldIn (programOf s) t f′) r u _ e m)
+
+-- kinds 1 to 9 are not null, and every other one is read as null
+only-null : (k a b c : ℕ) → (k ≡ 1 → ⊥) → (k ≡ 2 → ⊥) → (k ≡ 3 → ⊥) → (k ≡ 4 → ⊥) → (k ≡ 5 → ⊥) → (k ≡ 6 → ⊥) → (k ≡ 7 → ⊥) → (k ≡ 8 → ⊥) → (k ≡ 9 → ⊥) → nodeOf (kindOf k) a b c ≡ n-null
+unfolding kindOf
+only-null zero a b c h1 h2 h3 h4 h5 h6 h7 h8 h9 = refl
+only-null (suc zero) a b c h1 h2 h3 h4 h5 h6 h7 h8 h9 = absurd (h1 refl)
+only-null (suc (suc zero)) a b c h1 h2 h3 h4 h5 h6 h7 h8 h9 = absurd (h2 refl)
+only-null (suc (suc (suc zero))) a b c h1 h2 h3 h4 h5 h6 h7 h8 h9 = absurd (h3 refl)
+only-null (suc (suc (suc (suc zero)))) a b c h1 h2 h3 h4 h5 h6 h7 h8 h9 = absurd (h4 refl)
+only-null (suc (suc (suc (suc (suc zero))))) a b c h1 h2 h3 h4 h5 h6 h7 h8 h9 = absurd (h5 refl)
+only-null (suc (suc (suc (suc (suc (suc zero)))))) a b c h1 h2 h3 h4 h5 h6 h7 h8 h9 = absurd (h6 refl)
+only-null (suc (suc (suc (suc (suc (suc (suc zero))))))) a b c h1 h2 h3 h4 h5 h6 h7 h8 h9 = absurd (h7 refl)
+only-null (suc (suc (suc (suc (suc (suc (suc (suc zero)))))))) a b c h1 h2 h3 h4 h5 h6 h7 h8 h9 = absurd (h8 refl)
+only-null (suc (suc (suc (suc (suc (suc (suc (suc (suc zero))))))))) a b c h1 h2 h3 h4 h5 h6 h7 h8 h9 = absurd (h9 refl)
+only-null (suc (suc (suc (suc (suc (suc (suc (suc (suc (suc k)))))))))) a b c h1 h2 h3 h4 h5 h6 h7 h8 h9 = refl
+
+-- A node of a known kind that is not 0 is not null, and the place of its expression is its number.
+module _ (n : Point) (f : Point → Expr) where
+  not-null : (k a b c : ℕ) → (k ≡ 0 → ⊥) → (kindOf k ≡ unknown-kind → ⊥) → isNull (build n f (nodeOf (kindOf k) a b c)) ≡ false
+  unfolding kindOf
+  not-null zero a b c h u = absurd (h refl)
+  not-null (suc zero) a b c h u = refl
+  not-null (suc (suc zero)) a b c h u = refl
+  not-null (suc (suc (suc zero))) a b c h u = refl
+  not-null (suc (suc (suc (suc zero)))) a b c h u = refl
+  not-null (suc (suc (suc (suc (suc zero))))) a b c h u = refl
+  not-null (suc (suc (suc (suc (suc (suc zero)))))) a b c h u = refl
+  not-null (suc (suc (suc (suc (suc (suc (suc zero))))))) a b c h u = refl
+  not-null (suc (suc (suc (suc (suc (suc (suc (suc zero)))))))) a b c h u = refl
+  not-null (suc (suc (suc (suc (suc (suc (suc (suc (suc zero))))))))) a b c h u = refl
+  not-null (suc (suc (suc (suc (suc (suc (suc (suc (suc (suc k)))))))))) a b c h u = absurd (u refl)
+
+  point-of : (v : Node) → pointOf (build n f v) ≡ n
+  point-of n-null = refl
+  point-of (n-var x) = refl
+  point-of (n-select x g) = refl
+  point-of (n-update x g p) = refl
+  point-of (n-call x m p) = refl
+  point-of (n-bind x p q) = refl
+  point-of (n-new c) = refl
+  point-of (n-cast t p) = refl
+  point-of (n-fork p q r) = refl
+  point-of (n-lock x p) = refl
+
+-- The same answer, where the table is as it was.
+pub same-env : (s : List ℕ) {env env′ : List ℕ} (e : Expr) {r : Answer} → env′ ≡ env → Inferred s env′ e r → Inferred s env e r
+same-env s e k h Γ g = h Γ (rw k g)
+
+module _ {s starts forks env : List ℕ} {n : Point} (a : At s starts forks env n) where
+  -- A part of the node, and what a call there asks.
+  pub part : (k q′ q : ℕ) → nodeWord s n 0 ≡ k → q′ ≡ q → q ∈ parts (nodeBy s n k) → Part s n q′
+  part k q′ q e eq m = rw eq (part-kind (a .within) n (a .there) k e q m)
+
+  pub down : (q : Point) (env′ : List ℕ) → Part s n q → env′ ≡ env → At s starts forks env′ q
+  down q env′ h e =
+      record {
+        within = a .within;
+        runs = a .runs;
+        sharing = a .sharing;
+        names = rw e (a .names);
+        there = h .there;
+        variables = a .variables;
+        environment = rw e (a .environment);
+      }
+
+  -- The variable that the node names has a word in the table.
+  named-by : (k : ℕ) → nodeWord s n 0 ≡ k → NamesBelow (length env) (nodeBy s n k)
+  named-by k e = rw (view-kind (a .within) n (a .there) k e) at (a .names .names n (a .there))
+
+  target : nodeWord s n 1 < length env → Target s env n
+  target h = record { within = a .within; there = a .there; named = h }
+
+  pub var-target : nodeWord s n 0 ≡ 1 → Target s env n
+  unfolding kindOf
+  var-target e = target (named-by 1 e)
+
+  pub select-target : nodeWord s n 0 ≡ 2 → Target s env n
+  unfolding kindOf
+  select-target e = target (named-by 2 e)
+
+  pub update-target : nodeWord s n 0 ≡ 3 → Target s env n
+  unfolding kindOf
+  update-target e = target (named-by 3 e)
+
+  pub call-target : nodeWord s n 0 ≡ 4 → Target s env n
+  unfolding kindOf
+  call-target e = target (named-by 4 e)
+
+  pub let-named : {x : ℕ} → nodeWord s n 0 ≡ 5 → x ≡ nodeWord s n 1 → x < length env
+  unfolding kindOf
+  let-named e ex = rw ex (named-by 5 e)
+
+  pub lock-target : nodeWord s n 0 ≡ 9 → Target s env n
+  unfolding kindOf
+  lock-target e = target (named-by 9 e)
+
+  -- The expression at the node.
+  expr-by : (k : ℕ) → nodeWord s n 0 ≡ k → exprAt s n ≡ build n (exprAt s) (nodeBy s n k)
+  expr-by k e = expr-kind (a .within) n (a .there) k e
+
+  -- A variable, a read, a new object and a null.
+  pub at-var : (r : Answer) → nodeWord s n 0 ≡ 1 → Inferred s env (var n (nodeWord s n 1)) r → Inferred s env (exprAt s n) r
+  unfolding kindOf
+  at-var r e h Γ g = rw (expr-by 1 e) (h Γ g)
+
+  pub at-select : (r : Answer) → nodeWord s n 0 ≡ 2 → Inferred s env (select n (nodeWord s n 1) (nodeWord s n 2)) r → Inferred s env (exprAt s n) r
+  unfolding kindOf
+  at-select r e h Γ g = rw (expr-by 2 e) (h Γ g)
+
+  pub at-new : (c : ℕ) → nodeWord s n 0 ≡ 6 → c ≡ nodeWord s n 1 → Inferred s env (exprAt s n) (Typed c)
+  unfolding kindOf inferred
+  at-new c e ec Γ g = rw (expr-by 6 e, ec)
+
+  pub at-null :
+      (k : ℕ) → k ≡ nodeWord s n 0
+      → (k ≡ 1 → ⊥) → (k ≡ 2 → ⊥) → (k ≡ 3 → ⊥) → (k ≡ 4 → ⊥) → (k ≡ 5 → ⊥) → (k ≡ 6 → ⊥) → (k ≡ 7 → ⊥) → (k ≡ 8 → ⊥) → (k ≡ 9 → ⊥)
+      → Inferred s env (exprAt s n) (Faulty Nulls n)
+  unfolding inferred
+  at-null k e h1 h2 h3 h4 h5 h6 h7 h8 h9 Γ g =
+      rw (expr-by k (sym e), only-null k (nodeWord s n 1) (nodeWord s n 2) (nodeWord s n 3) h1 h2 h3 h4 h5 h6 h7 h8 h9)
+
+  -- A write: its field, and its value.
+  module _ (e : nodeWord s n 0 ≡ 3) (v : Answer) (ev : Inferred s env (select n (nodeWord s n 1) (nodeWord s n 2)) v) where
+    pub update-field : (q : Question) (m : Point) → v ≡ Faulty q m → Inferred s env (exprAt s n) v
+    unfolding kindOf
+    update-field q m k Γ g = rw (expr-by 3 e, update-is (programOf s) Γ n (nodeWord s n 1) (nodeWord s n 2) (exprAt s (nodeWord s n 3)), ← ev Γ g, k)
+
+    module _ (t b : ℕ) (r : Answer) (k : v ≡ Typed t) (eb : b ≡ nodeWord s n 3) (er : Checked s env (exprAt s b) t r) where
+      updated : (Γ : List Slot) → EnvIs (programOf s) env Γ → inferred (programOf s) Γ (exprAt s n) ≡ andThen r (λ u. Typed 0)
+      unfolding kindOf
+      updated Γ g = rw (expr-by 3 e, update-is (programOf s) Γ n (nodeWord s n 1) (nodeWord s n 2) (exprAt s (nodeWord s n 3)), ← ev Γ g, k, ← eb, er Γ g)
+
+      pub update-value : (q : Question) (m : Point) → r ≡ Faulty q m → Inferred s env (exprAt s n) r
+      update-value q m f Γ g = rw (updated Γ g, f)
+
+      pub update-done : (u : ℕ) → r ≡ Typed u → Inferred s env (exprAt s n) (Typed 0)
+      update-done u f Γ g = rw (updated Γ g, f)
+
+  -- A call: its target, its method, and its argument.
+  module _ (e : nodeWord s n 0 ≡ 4) (v : Answer) (ev : Inferred s env (var n (nodeWord s n 1)) v) where
+    pub call-unbound : (q : Question) (m : Point) → v ≡ Faulty q m → Inferred s env (exprAt s n) v
+    unfolding kindOf
+    call-unbound q m k Γ g = rw (expr-by 4 e, call-is (programOf s) Γ n (nodeWord s n 1) (nodeWord s n 2) (exprAt s (nodeWord s n 3)), ← ev Γ g, k)
+
+    module _ (t m : ℕ) (z : Member) (k : v ≡ Typed t) (em : m ≡ nodeWord s n 2) (ez : z ≡ memberOf (methodIn (programOf s) t m)) where
+      pub call-missing : z ≡ Missing → Inferred s env (exprAt s n) (Faulty Members n)
+      unfolding kindOf
+      call-missing f Γ g =
+          rw (expr-by 4 e, call-is (programOf s) Γ n (nodeWord s n 1) (nodeWord s n 2) (exprAt s (nodeWord s n 3)), ← ev Γ g, k, ← em, member-missing n (methodIn (programOf s) t m) z _ ez f)
+
+      module _ (param result b : ℕ) (r : Answer) (f : z ≡ Types param result) (eb : b ≡ nodeWord s n 3) (er : Checked s env (exprAt s b) param r) where
+        called : (Γ : List Slot) → EnvIs (programOf s) env Γ → inferred (programOf s) Γ (exprAt s n) ≡ andThen r (λ u. Typed result)
+        unfolding kindOf
+        called Γ g =
+            rw
+            (expr-by 4 e, call-is (programOf s) Γ n (nodeWord s n 1) (nodeWord s n 2) (exprAt s (nodeWord s n 3)), ← ev Γ g, k, ← em, ← eb, er Γ g)
+            (member-types n (methodIn (programOf s) t m) z param result (λ x y. andThen (checked (programOf s) Γ (exprAt s b) x) (λ u. Typed y)) ez f)
+
+        pub call-argument : (q : Question) (o : Point) → r ≡ Faulty q o → Inferred s env (exprAt s n) r
+        call-argument q o y Γ g = rw (called Γ g, y)
+
+        pub call-done : (u : ℕ) → r ≡ Typed u → Inferred s env (exprAt s n) (Typed result)
+        call-done u y Γ g = rw (called Γ g, y)
+
+  -- A let: its value, whose type fits a word with 1 more, and its body, under one more variable.
+  module _ (b : ℕ) (r : Answer) (e : nodeWord s n 0 ≡ 5) (eb : b ≡ nodeWord s n 2) (er : Inferred s env (exprAt s b) r) where
+    pub let-first : (q : Question) (m : Point) → r ≡ Faulty q m → Inferred s env (exprAt s n) r
+    unfolding kindOf inferred
+    let-first q m k Γ g = rw (expr-by 5 e, ← eb, ← er Γ g, k)
+
+    module _ (t : ℕ) (k : r ≡ Typed t) where
+      value-type : (Γ : List Slot) → EnvIs (programOf s) env Γ → IsType (programOf s) t
+      unfolding kindOf
+      value-type Γ g = inferred-type (a .within) b (part 5 b (nodeWord s n 2) e eb first .there) env Γ g t (sym (er Γ g) ∙ k)
+
+      pub let-small : t ≤ INTERFACES + CLASSES
+      let-small = type-small (a .within) t (value-type (a .variables) (a .environment))
+
+      module _ (x : ℕ) (env₁ : List ℕ) (ex : x ≡ nodeWord s n 1) (e₁ : env₁ ≡ env) where
+        pub let-under : (c : Point) → Part s n c → At s starts forks (set env₁ x (t + 1)) c
+        let-under c h =
+            record {
+              within = a .within;
+              runs = a .runs;
+              sharing = a .sharing;
+              names = rw (length-set env₁ x (t + 1), e₁) (a .names);
+              there = h .there;
+              variables = record { name = x; type = t } ∷ a .variables;
+              environment = rw e₁ (env-bind (a .environment) x t (let-named e ex) (value-type (a .variables) (a .environment)));
+            }
+
+        pub let-last : (c : Point) (o : Answer) → c ≡ nodeWord s n 3 → Inferred s (set env₁ x (t + 1)) (exprAt s c) o → Inferred s env (exprAt s n) o
+        unfolding kindOf inferred
+        let-last c o ec eo Γ g =
+            rw (expr-by 5 e, ← eb, ← ex, ← ec, ← er Γ g, k)
+            (eo (record { name = x; type = t } ∷ Γ) (rw e₁ (env-bind g x t (let-named e ex) (value-type Γ g))))
+
+  -- A cast is its operand, checked.
+  pub at-cast : (t b : ℕ) (r : Answer) → nodeWord s n 0 ≡ 7 → t ≡ nodeWord s n 1 → b ≡ nodeWord s n 2 → Checked s env (exprAt s b) t r → Inferred s env (exprAt s n) r
+  unfolding kindOf inferred checked
+  at-cast t b r e et eb er Γ g = rw (expr-by 7 e, ← et, ← eb) (er Γ g)
+
+  -- A fork: the flag of its node, and its three parts.
+  module _ (e : nodeWord s n 0 ≡ 8) where
+    flag : getD forks n 0 ≡ flagOf (shares (fv (exprAt s (nodeWord s n 1))) (fv (exprAt s (nodeWord s n 2))))
+    unfolding kindOf
+    flag = a .sharing .flags n (nodeWord s n 1) (nodeWord s n 2) (nodeWord s n 3) (a .there) (view-kind (a .within) n (a .there) 8 e)
+
+    pub fork-shared : getD forks n 0 ≡ 1 → Inferred s env (exprAt s n) (Faulty Sharing n)
+    unfolding kindOf inferred
+    fork-shared k Γ g = rw (expr-by 8 e) (shared-is n (shares (fv (exprAt s (nodeWord s n 1))) (fv (exprAt s (nodeWord s n 2)))) _ (sym flag ∙ k))
+
+    module _ (k : getD forks n 0 ≡ 1 → ⊥) (b : ℕ) (r : Answer) (eb : b ≡ nodeWord s n 1) (er : Inferred s env (exprAt s b) r) where
+      forked : (Γ : List Slot) → EnvIs (programOf s) env Γ → inferred (programOf s) Γ (exprAt s n) ≡ andThen r (λ t. andThen (inferred (programOf s) Γ (exprAt s (nodeWord s n 2))) (λ u. inferred (programOf s) Γ (exprAt s (nodeWord s n 3))))
+      unfolding kindOf inferred
+      forked Γ g = rw (expr-by 8 e, er Γ g, eb) (apart-is n (shares (fv (exprAt s (nodeWord s n 1))) (fv (exprAt s (nodeWord s n 2)))) _ (λ z. k (flag ∙ z)))
+
+      pub fork-left : (q : Question) (m : Point) → r ≡ Faulty q m → Inferred s env (exprAt s n) r
+      fork-left q m f Γ g = rw (forked Γ g, f)
+
+      module _ (t : ℕ) (f : r ≡ Typed t) (c : ℕ) (o : Answer) (ec : c ≡ nodeWord s n 2) (eo : Inferred s env (exprAt s c) o) where
+        pub fork-right : (q : Question) (m : Point) → o ≡ Faulty q m → Inferred s env (exprAt s n) o
+        fork-right q m y Γ g = rw (forked Γ g, f, ← ec, ← eo Γ g, y)
+
+        pub fork-last : (u d : ℕ) (l : Answer) → o ≡ Typed u → d ≡ nodeWord s n 3 → Inferred s env (exprAt s d) l → Inferred s env (exprAt s n) l
+        fork-last u d l y ed el Γ g = rw (forked Γ g, f, ← ec, ← eo Γ g, y, ← ed) (el Γ g)
+
+  -- A lock: its target, and its part.
+  module _ (e : nodeWord s n 0 ≡ 9) (v : Answer) (ev : Inferred s env (var n (nodeWord s n 1)) v) where
+    pub lock-unbound : (q : Question) (m : Point) → v ≡ Faulty q m → Inferred s env (exprAt s n) v
+    unfolding kindOf
+    lock-unbound q m k Γ g = rw (expr-by 9 e, lock-is (programOf s) Γ n (nodeWord s n 1) (exprAt s (nodeWord s n 2)), ← ev Γ g, k)
+
+    pub lock-part : (t b : ℕ) (r : Answer) → v ≡ Typed t → b ≡ nodeWord s n 2 → Inferred s env (exprAt s b) r → Inferred s env (exprAt s n) r
+    unfolding kindOf
+    lock-part t b r k eb er Γ g = rw (expr-by 9 e, lock-is (programOf s) Γ n (nodeWord s n 1) (exprAt s (nodeWord s n 2)), ← ev Γ g, k, ← eb) (er Γ g)
+
+  -- A check: of a null, and of what is inferred.
+  pub check-null : (t : ℕ) → nodeWord s n 0 ≡ 0 → Checked s env (exprAt s n) t (Typed t)
+  unfolding kindOf checked
+  check-null t e Γ g = rw (expr-by 0 e)
+
+  module _ (k t : ℕ) (r : Answer) (e : k ≡ nodeWord s n 0) (z : k ≡ 0 → ⊥) (er : Inferred s env (exprAt s n) r) where
+    solid : isNull (exprAt s n) ≡ false
+    solid = rw (expr-by k (sym e)) (not-null n (exprAt s) k (nodeWord s n 1) (nodeWord s n 2) (nodeWord s n 3) z (rw e (a .within .nodes-are nodes n (a .there) .known)))
+
+    place : pointOf (exprAt s n) ≡ n
+    place = rw (expr-by k (sym e)) (point-of n (exprAt s) (nodeBy s n k))
+
+    pub check-fault : (q : Question) (m : Point) → r ≡ Faulty q m → Checked s env (exprAt s n) t r
+    unfolding checked
+    check-fault q m f Γ g = rw (solid, ← er Γ g, f)
+
+    pub check-no : (u : ℕ) → r ≡ Typed u → below (programOf s) u t ≡ false → Checked s env (exprAt s n) t (Faulty Fits n)
+    unfolding checked
+    check-no u f y Γ g = rw (solid, place, ← er Γ g, f, y)
+
+    pub check-yes : (u : ℕ) → r ≡ Typed u → below (programOf s) u t ≡ true → Checked s env (exprAt s n) t (Typed t)
+    unfolding checked
+    check-yes u f y Γ g = rw (solid, ← er Γ g, f, y)

@@ -1,0 +1,205 @@
+// The walk over an expression: its type, or the question that gets a no and the node.
+use members::Member;
+use members::field_type;
+use members::is_below;
+use members::method_of;
+use script::Found;
+use script::Question;
+use script::Section;
+use sections::record_word;
+use typing::Answer;
+ghost use mathlib.Core.Path.{_≡_};
+ghost use Prim.Native.Nat.{_<_};
+ghost use Rattle.script.specs.declared.Section.the-variants.{Nodes as nodes};
+ghost use Rattle.script.specs.Section.{countOf, nodeWord};
+ghost use Rattle.script.specs.Syntax.{var, select};
+ghost use Rattle.script.specs.Reading.{exprAt};
+ghost use Rattle.script.specs.Statements.{WithinLayout};
+ghost use Rattle.members.specs.Tables.{Starts};
+ghost use Rattle.inference.specs.At.{Target, At, Inferred, Checked};
+
+// Word j of node n.
+fn node_word(s: &[u8], n: u16, j: usize) -> u16
+    requires { ⌜ WithinLayout (now s) × (n < countOf (now s) nodes) × (j < 4) ⌝ }
+    ensures { λ r. ⌜ (r ≡ nodeWord (now (s .entry)) n j) × (r < 65536) ⌝ }
+{
+    record_word(s, Section::Nodes, n as usize, j)
+}
+
+// The type of the variable that node n names first.
+fn infer_var(s: &[u8], env: &[u16], n: u16) -> Answer
+    requires { ⌜ Target (now s) (now env) n ⌝ }
+    ensures { λ r. ⌜ Inferred (now (s .entry)) (now (env .entry)) (var n (nodeWord (now (s .entry)) n 1)) r ⌝ }
+{
+    let x = node_word(s, n, 1);
+    let word = env[x as usize];
+    if word == 0 {
+        return Answer::Faulty(Question::Variables, n);
+    }
+    Answer::Typed(word - 1)
+}
+
+// The type of the field that node n reads or writes.
+fn infer_select(s: &[u8], starts: &[u16], env: &[u16], n: u16) -> Answer
+    requires { ⌜ Target (now s) (now env) n × Starts (now s) (now starts) ⌝ }
+    ensures { λ r. ⌜ Inferred (now (s .entry)) (now (env .entry)) (select n (nodeWord (now (s .entry)) n 1) (nodeWord (now (s .entry)) n 2)) r ⌝ }
+{
+    let target = infer_var(s, env, n);
+    let Answer::Typed(t) = target else {
+        return target;
+    };
+    let f = node_word(s, n, 2);
+    let Found::At(u) = field_type(s, starts, t, f) else {
+        return Answer::Faulty(Question::Members, n);
+    };
+    Answer::Typed(u as u16)
+}
+
+// A write has type Unit, after its value is checked against the field's type.
+fn infer_update(s: &[u8], starts: &[u16], forks: &[u8], env: &mut [u16], n: u16) -> Answer
+    requires { ⌜ At (now s) (now starts) (now forks) (now env) n × (nodeWord (now s) n 0 ≡ 3) ⌝ }
+    ensures { λ r. ⌜ Inferred (now (s .entry)) (now (env .entry)) (exprAt (now (s .entry)) n) r ⌝ }
+    ensures { λ r. ⌜ now (env .exit) ≡ now (env .entry) ⌝ }
+{
+    let field = infer_select(s, starts, env, n);
+    let Answer::Typed(t) = field else {
+        return field;
+    };
+    let value = node_word(s, n, 3);
+    let r = check(s, starts, forks, env, value, t);
+    let Answer::Typed(_) = r else {
+        return r;
+    };
+    Answer::Typed(0)
+}
+
+// A call has the method's result type, after its argument is checked against the parameter's type.
+fn infer_call(s: &[u8], starts: &[u16], forks: &[u8], env: &mut [u16], n: u16) -> Answer
+    requires { ⌜ At (now s) (now starts) (now forks) (now env) n × (nodeWord (now s) n 0 ≡ 4) ⌝ }
+    ensures { λ r. ⌜ Inferred (now (s .entry)) (now (env .entry)) (exprAt (now (s .entry)) n) r ⌝ }
+    ensures { λ r. ⌜ now (env .exit) ≡ now (env .entry) ⌝ }
+{
+    let target = infer_var(s, env, n);
+    let Answer::Typed(t) = target else {
+        return target;
+    };
+    let m = node_word(s, n, 2);
+    let Member::Types(param, result) = method_of(s, starts, t, m) else {
+        return Answer::Faulty(Question::Members, n);
+    };
+    let argument = node_word(s, n, 3);
+    let r = check(s, starts, forks, env, argument, param);
+    let Answer::Typed(_) = r else {
+        return r;
+    };
+    Answer::Typed(result)
+}
+
+// A let has the type of its last part, in which its variable has the type of the first; the variable's old word is put back.
+fn infer_let(s: &[u8], starts: &[u16], forks: &[u8], env: &mut [u16], n: u16) -> Answer
+    requires { ⌜ At (now s) (now starts) (now forks) (now env) n × (nodeWord (now s) n 0 ≡ 5) ⌝ }
+    ensures { λ r. ⌜ Inferred (now (s .entry)) (now (env .entry)) (exprAt (now (s .entry)) n) r ⌝ }
+    ensures { λ r. ⌜ now (env .exit) ≡ now (env .entry) ⌝ }
+{
+    let value = node_word(s, n, 2);
+    let first = infer(s, starts, forks, env, value);
+    let Answer::Typed(t) = first else {
+        return first;
+    };
+    let x = node_word(s, n, 1) as usize;
+    let outer = env[x];
+    env[x] = t + 1;
+    let body = node_word(s, n, 3);
+    let last = infer(s, starts, forks, env, body);
+    env[x] = outer;
+    last
+}
+
+// A cast has its type, after its operand is checked against it.
+fn infer_cast(s: &[u8], starts: &[u16], forks: &[u8], env: &mut [u16], n: u16) -> Answer
+    requires { ⌜ At (now s) (now starts) (now forks) (now env) n × (nodeWord (now s) n 0 ≡ 7) ⌝ }
+    ensures { λ r. ⌜ Inferred (now (s .entry)) (now (env .entry)) (exprAt (now (s .entry)) n) r ⌝ }
+    ensures { λ r. ⌜ now (env .exit) ≡ now (env .entry) ⌝ }
+{
+    let t = node_word(s, n, 1);
+    let operand = node_word(s, n, 2);
+    check(s, starts, forks, env, operand, t)
+}
+
+// A fork has the type of its last part, where its asyncs share no variable and have types.
+fn infer_fork(s: &[u8], starts: &[u16], forks: &[u8], env: &mut [u16], n: u16) -> Answer
+    requires { ⌜ At (now s) (now starts) (now forks) (now env) n × (nodeWord (now s) n 0 ≡ 8) ⌝ }
+    ensures { λ r. ⌜ Inferred (now (s .entry)) (now (env .entry)) (exprAt (now (s .entry)) n) r ⌝ }
+    ensures { λ r. ⌜ now (env .exit) ≡ now (env .entry) ⌝ }
+{
+    if forks[n as usize] == 1 {
+        return Answer::Faulty(Question::Sharing, n);
+    }
+    let a = node_word(s, n, 1);
+    let left = infer(s, starts, forks, env, a);
+    let Answer::Typed(_) = left else {
+        return left;
+    };
+    let b = node_word(s, n, 2);
+    let right = infer(s, starts, forks, env, b);
+    let Answer::Typed(_) = right else {
+        return right;
+    };
+    let c = node_word(s, n, 3);
+    infer(s, starts, forks, env, c)
+}
+
+// A lock has the type of its part, where its variable has a type.
+fn infer_lock(s: &[u8], starts: &[u16], forks: &[u8], env: &mut [u16], n: u16) -> Answer
+    requires { ⌜ At (now s) (now starts) (now forks) (now env) n × (nodeWord (now s) n 0 ≡ 9) ⌝ }
+    ensures { λ r. ⌜ Inferred (now (s .entry)) (now (env .entry)) (exprAt (now (s .entry)) n) r ⌝ }
+    ensures { λ r. ⌜ now (env .exit) ≡ now (env .entry) ⌝ }
+{
+    let target = infer_var(s, env, n);
+    let Answer::Typed(_) = target else {
+        return target;
+    };
+    let part = node_word(s, n, 2);
+    infer(s, starts, forks, env, part)
+}
+
+// The type of node n. A null is inferred never.
+pub fn infer(s: &[u8], starts: &[u16], forks: &[u8], env: &mut [u16], n: u16) -> Answer
+    requires { ⌜ At (now s) (now starts) (now forks) (now env) n ⌝ }
+    ensures { λ r. ⌜ Inferred (now (s .entry)) (now (env .entry)) (exprAt (now (s .entry)) n) r ⌝ }
+    ensures { λ r. ⌜ now (env .exit) ≡ now (env .entry) ⌝ }
+{
+    let kind = node_word(s, n, 0);
+    match kind {
+        1 => infer_var(s, env, n),
+        2 => infer_select(s, starts, env, n),
+        3 => infer_update(s, starts, forks, env, n),
+        4 => infer_call(s, starts, forks, env, n),
+        5 => infer_let(s, starts, forks, env, n),
+        6 => Answer::Typed(node_word(s, n, 1)),
+        7 => infer_cast(s, starts, forks, env, n),
+        8 => infer_fork(s, starts, forks, env, n),
+        9 => infer_lock(s, starts, forks, env, n),
+        _ => Answer::Faulty(Question::Nulls, n),
+    }
+}
+
+// Has node n the type t? A null has every type, and any other node the types that its own is below.
+pub fn check(s: &[u8], starts: &[u16], forks: &[u8], env: &mut [u16], n: u16, t: u16) -> Answer
+    requires { ⌜ At (now s) (now starts) (now forks) (now env) n ⌝ }
+    ensures { λ r. ⌜ Checked (now (s .entry)) (now (env .entry)) (exprAt (now (s .entry)) n) t r ⌝ }
+    ensures { λ r. ⌜ now (env .exit) ≡ now (env .entry) ⌝ }
+{
+    let kind = node_word(s, n, 0);
+    if kind == 0 {
+        return Answer::Typed(t);
+    }
+    let r = infer(s, starts, forks, env, n);
+    let Answer::Typed(u) = r else {
+        return r;
+    };
+    if !is_below(s, u, t) {
+        return Answer::Faulty(Question::Fits, n);
+    }
+    Answer::Typed(t)
+}

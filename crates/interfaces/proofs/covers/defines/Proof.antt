@@ -1,0 +1,50 @@
+use native.Mathlib.Omega.{arith}
+use Rattle.script.specs.declared.Section.the-variants.{Classes as classes, Methods as methods}
+use Rattle.members.proofs.LookupLaws.{laid, methods-run, own-there}
+use Rattle.interfaces.proofs.CoverLaws.{defines-none, defines-other, defines-same}
+use borrow.Author.Needs.{needs}
+use Rattle.interfaces.proofs.covers.defines.Statement.{statement}
+use Rattle.interfaces.proofs.covers.defines.Tie as tie
+
+add-find-own-2 : tie.Need-add-find-own-2
+add-find-own-2 c = omega (arith, c .before .before .before .pre .2, c .before .before .before .pre .0 .counts-are .within classes)
+
+find-own-requires : tie.Need-find-own-requires
+find-own-requires c κs = (c .before .before .before .pre .0, methods-run (c .before .before .before .pre .0) (c .before .before .before .pre .1) _ (c .before .before .before .pre .2))
+
+returns : tie.Need-returns
+returns c = defines-none (c .before .before .before .before .before .before .pre .0) _ _ _ (c .before .before .before .before .before .before .pre .2) (c .before .before .before .record-word .ensures .0) _ (c .before .before .find-own .ensures) (c .enum-told .given .1)
+
+record-word-requires-3 : tie.Need-record-word-requires-3
+record-word-requires-3 c κs = (laid (c .before .before .before .before .before .before .before .before .pre .0), own-there (c .before .before .before .before .before .before .before .before .pre .0) methods _ _ _ _ (c .before .before .before .before .before .before .before .before .pre .2) (c .before .before .before .before .find-own .ensures) (c .before .before .j .given .1), omega arith)
+
+returns-2 : tie.Need-returns-2
+returns-2 c =
+    let back = c .before .before .before .before .before .before in
+    defines-other (back .before .before .before .before .pre .0) _ _ _ (back .before .before .before .before .pre .2) (back .before .record-word .ensures .0) _ (back .find-own .ensures) _ (c .before .before .before .before .j .given .1) _ _ (c .before .before .record-word2 .ensures .0) (c .before .record-word3 .ensures .0) (c .if1 .taken)
+
+record-word-requires-5 : tie.Need-record-word-requires-5
+record-word-requires-5 c κs = (laid (c .before .before .before .before .before .before .before .before .before .before .before .pre .0), own-there (c .before .before .before .before .before .before .before .before .before .before .before .pre .0) methods _ _ _ _ (c .before .before .before .before .before .before .before .before .before .before .before .pre .2) (c .before .before .before .before .before .before .before .find-own .ensures) (c .before .before .before .before .before .j .given .1), omega arith)
+
+returns-3 : tie.Need-returns-3
+returns-3 c =
+    let back = c .before .before .before .before .before .before .before .before in
+    defines-same (back .before .before .before .before .pre .0) _ _ _ (back .before .before .before .before .pre .2) (back .before .record-word .ensures .0) _ (back .find-own .ensures) _ (c .before .before .before .before .before .before .j .given .1) _ _ (c .before .before .before .before .record-word2 .ensures .0) (c .before .before .before .record-word3 .ensures .0) _ _ (c .before .before .if1 .left) (c .before .record-word4 .ensures .0) (c .record-word5 .ensures .0)
+
+pub defines-spec : {M : Type 1} → statement M
+defines-spec =
+    tie.close
+    (tie.spec
+    (λ c κs. search needs)
+    (λ c. search needs)
+    add-find-own-2
+    find-own-requires
+    (λ c. search needs)
+    (λ c. search needs)
+    returns
+    (λ c κs. search needs)
+    record-word-requires-3
+    returns-2
+    (λ c κs. search needs)
+    record-word-requires-5
+    returns-3)

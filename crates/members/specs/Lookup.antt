@@ -1,0 +1,97 @@
+-- What the code of look-ups is lent and finds: runs of records, marks, meanings of a method name, and records at fault.
+use Prim.Native.Nat.{ℕ, suc, _+_, _<_, _≤_}
+use mathlib.Core.Path.{_≡_}
+use mathlib.Core.Bool.{Bool, true, false, cond, not}
+use mathlib.Core.List.{List}
+use mathlib.Core.Option.{Option, none, some}
+use lib.Dec.{eqb, ltb}
+use lib.ListN.{length, getD}
+use Rattle.limits.specs.Limits.{INTERFACES}
+use Rattle.script.specs.declared.Section.{Section}
+use Rattle.script.specs.declared.Section.the-variants.{Interfaces as interfaces, Signatures as signatures, Classes as classes}
+use Rattle.script.specs.Lists.{sumBelow}
+use Rattle.script.specs.Section.{countOf, recordAt, recordWord}
+use Rattle.script.specs.Syntax.{Interface, lists, extends, Program, Declaration, a-unit, an-interface, a-class, no-type, declarationAt}
+use Rattle.script.specs.Reading.{signatureAt, interfaceAt, programOf}
+use Rattle.script.specs.Asking.{firstOut}
+use Rattle.sections.specs.Laid.{ownerOf, ownOf}
+use Rattle.members.specs.declared.Declared.{Declared}
+use Rattle.members.specs.declared.Declared.the-variants.{Interface as is-interface, Class as is-class, Neither as is-neither}
+use Rattle.typing.specs.Members.{reach, meaning}
+use Rattle.typing.specs.Check.{agreeTest}
+
+-- From base on a table holds where the runs of the first n owners of records of section k begin, and before base what another table holds.
+pub record RunsTo (s : List ℕ) (k : Section) (base n : ℕ) (old table : List ℕ) : Type 0 where
+  pub starts : (o : ℕ) → o < n → getD table (base + o) 0 ≡ sumBelow (ownOf s k) o
+  pub kept : (i : ℕ) → i < base → getD table i 0 ≡ getD old i 0
+
+-- Neither an interface nor a class.
+abbrev pub Memberless : Declaration → Type 0
+Memberless a-unit = Unit {0}
+Memberless (an-interface i) = ⊥
+Memberless (a-class c) = ⊥
+Memberless no-type = Unit {0}
+
+-- What a type number is, as the code says it: the interface or the class of a record, or neither.
+pub data DeclaredAs (s : List ℕ) (t : ℕ) : Declared → Type 0 where
+  as-interface : {i : ℕ} → i < countOf s interfaces → t ≡ suc i → DeclaredAs s t (is-interface i)
+  as-class : {c : ℕ} → c < countOf s classes → t ≡ suc (countOf s interfaces + c) → DeclaredAs s t (is-class c)
+  as-neither : Memberless (declarationAt (programOf s) t) → DeclaredAs s t is-neither
+
+-- A byte for each interface: one that is marked, with 1, is known not to lead to u.
+pub record Marks (s : List ℕ) (u : ℕ) (table : List ℕ) : Type 0 where
+  pub size : length table ≡ INTERFACES
+  pub marked : (k : ℕ) → getD table k 0 ≡ 1 → reach (programOf s) (suc k) u ≡ false
+
+-- A table holds, at a place, where the run of owner o begins.
+pub record RunAt (s : List ℕ) (k : Section) (o : ℕ) (table : List ℕ) (at : ℕ) : Type 0 where
+  pub owner : o < countOf s (ownerOf k)
+  pub within : at < length table
+  pub start : getD table at 0 ≡ sumBelow (ownOf s k) o
+
+-- Has record i of section k another name than x?
+abbrev pub otherName : List ℕ → Section → ℕ → ℕ → Bool
+otherName s k x i = not (eqb (recordWord s k i 0) x)
+
+-- The first record of owner o's run in section k that has the name x.
+abbrev pub ownNamed : List ℕ → Section → ℕ → ℕ → Option ℕ
+ownNamed s k o x = firstOut (otherName s k x) (sumBelow (ownOf s k) o) (ownOf s k o)
+
+-- A word for what the method name m means in the interface of record i: 0 for nothing, or 1 more than the index of the signature that is its first meaning.
+pub data MeaningIs (s : List ℕ) (m i : ℕ) : ℕ → Type 0 where
+  no-meaning : meaning (programOf s) m (suc i) ≡ none → MeaningIs s m i 0
+  meaning-at : {j : ℕ} → j < countOf s signatures → meaning (programOf s) m (suc i) ≡ some (signatureAt s j) → MeaningIs s m i (suc j)
+
+-- A table of these words, filled for the first n interfaces.
+pub record Meanings (s : List ℕ) (m n : ℕ) (table : List ℕ) : Type 0 where
+  pub size : length table ≡ INTERFACES
+  pub holds : (i : ℕ) → i < n → MeaningIs s m i (getD table i 0)
+
+-- A table of what some method name means in every interface.
+pub record NameTable (s table : List ℕ) : Type 0 where
+  pub name : ℕ
+  pub meanings : Meanings s name (countOf s interfaces) table
+
+-- Question 9 of one interface, for one method name.
+abbrev pub joinOf : Program → ℕ → Interface → Bool
+joinOf p m (lists gs) = true
+joinOf p m (extends a b) = agreeTest (meaning p m a) (meaning p m b)
+
+abbrev pub joinBy : List ℕ → ℕ → ℕ → Bool
+joinBy s m i = joinOf (programOf s) m (interfaceAt s i)
+
+-- Of the first n records r is the first that fails a test, or r is n and none does.
+pub record FirstFault (test : ℕ → Bool) (n r : ℕ) : Type 0 where
+  pub within : r ≤ n
+  pub passed : (i : ℕ) → i < r → test i ≡ true
+  pub fault : r < n → test r ≡ false
+
+-- The same, of a test for each of some names, one of which is enough.
+pub record LowestFault (test : ℕ → ℕ → Bool) (names n r : ℕ) : Type 0 where
+  pub within : r ≤ n
+  pub passed : (k i : ℕ) → k < names → i < r → test k i ≡ true
+  pub fault : r < n → (k : ℕ) × (k < names) × (test k r ≡ false)
+
+-- The place of a record, if the section has it.
+abbrev pub placeIn : List ℕ → Section → ℕ → Option ℕ
+placeIn s k i = cond (ltb i (countOf s k)) (some (recordAt s k i)) none

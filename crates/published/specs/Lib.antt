@@ -1,0 +1,5 @@
+pub mod Steps
+pub mod ReadAs
+pub mod HeldLocks
+pub mod Reach
+pub mod Means

@@ -1,0 +1,66 @@
+use native.Mathlib.Omega.{arith}
+use borrow.Author.Needs.{needs}
+use mathlib.Core.Path.{_≡_}
+use mathlib.Core.Option.{some}
+use Prim.Native.Nat.{ℕ, _<_}
+use lib.ListN.{getD}
+use Rattle.machine.specs.Machine.{fieldCount}
+use Rattle.block.specs.Decode.{configIn}
+use Rattle.enabled.specs.Looks.{Standing}
+use Rattle.moves.proofs.Ready.{blank-tables}
+use Rattle.calls.specs.Calls.{configOf}
+use Rattle.replies.proofs.Standing.{not-formed, formed, few-positions, in-hand, stands}
+use Rattle.replies.proofs.OfferLaws.{left-alone, offered}
+use Rattle.replies.proofs.offers.flag.Statement.{statement}
+use Rattle.replies.proofs.offers.flag.Tie as tie
+
+well-formed-requires : tie.Need-well-formed-requires
+well-formed-requires c κs =
+    let pre = c .before .before .before .before .before .before .before .before .before .before .before .before .before .pre in
+    (blank-tables (pre .0 .0) (c .before .before .before .before .before .before .before .fill-starts .ensures) (c .before .before .before .before .fill-forks .ensures) (pre .0 .1) (pre .0 .2), pre .1 .0)
+
+returns : tie.Need-returns
+returns c = left-alone _ _ _ _ (not-formed _ _ _ (c .before .before .before .well-formed .result) (c .before .before .before .well-formed .ensures .0) (c .if1 .taken))
+
+bytes : (c : tie.Else1) (i : ℕ) → getD (c .before .before .before .before .before .before .before .before .before .before .before .before .before .before .before .before .before .args .s .now) i 0 < 256
+bytes c i = omega (arith, c .before .before .before .before .before .before .before .before .before .before .before .before .before .before .before .before .shared-slice-known .given i)
+
+passed : (c : tie.Else1) → configOf (c .before .before .before .before .before .before .before .before .before .before .before .before .before .before .before .before .before .args .s .now) (c .before .before .before .before .before .before .before .before .before .before .before .before .before .before .before .before .before .args .t) (c .before .before .before .before .before .before .before .before .before .before .before .before .before .before .before .before .before .args .block .now) ≡ some (configIn (fieldCount (c .before .before .before .before .before .before .before .before .before .before .before .before .before .before .before .before .before .args .s .now)) (c .before .before .before .before .before .before .before .before .before .before .before .before .before .before .before .before .before .args .block .now))
+passed c = formed _ _ _ (c .before .before .before .well-formed .result) (c .before .before .before .well-formed .ensures .0) (c .if1 .left)
+
+take-tree-requires : tie.Need-take-tree-requires
+take-tree-requires c κs =
+    let pre = c .before .before .before .before .before .before .before .before .before .before .before .before .before .before .before .before .before .pre in
+    (pre .1 .0, few-positions _ (bytes c) _ (pre .0 .3) _ (passed c))
+
+abbrev standing : (c : tie.After-take-tree) → Standing (c .before .before .before .before .before .before .before .before .before .before .before .before .before .before .before .before .before .before .args .s .now) (c .before .before .before .before .before .before .before .before .before .before .before .before .before .before .before .before .before .before .args .block .now) (c .take-tree .result)
+standing c =
+    let acc = c .before .before .before .before .before .before .before .before .before .before .before .before .before .before .before .before .before .before .pre .0 .3 in
+    stands _ (bytes (c .before)) _ acc _ (passed (c .before)) (in-hand _ (bytes (c .before)) _ acc _ (passed (c .before)) (c .take-tree .ensures .1))
+
+mark-requires : tie.Need-mark-requires
+mark-requires c κs =
+    let pre = c .before .before .before .before .before .before .before .before .before .before .before .before .before .before .before .before .before .before .before .pre in
+    (pre .0 .0, standing (c .before), pre .1 .1)
+
+returns-2 : tie.Need-returns-2
+returns-2 c = offered _ _ _ _ (passed (c .before .before .before .before .before)) (c .before .before .mark .ensures (standing (c .before .before .before .before)))
+
+pub flag-spec : {M : Type 1} → statement M
+flag-spec =
+    tie.close
+    (tie.spec
+    (λ c. search needs)
+    (λ c κs. search needs)
+    (λ c. search needs)
+    (λ c κs. search needs)
+    (λ c. search needs)
+    (λ c. search needs)
+    well-formed-requires
+    (λ c. search needs)
+    returns
+    take-tree-requires
+    mark-requires
+    (λ c. search needs)
+    (λ c. search needs)
+    returns-2)

@@ -1,0 +1,263 @@
+-- The bytes that are in order are those that `decode` accepts.
+use mathlib.Core.Path.{_≡_, refl, sym, ap, _∙_}
+use mathlib.Core.List.{List, [], _∷_, append-nil, map, flatMap, reverse, reverse-reverse, List·Memᴰ·cases-cons, List·Memᴰ·not-nil, Memᴰ·of-map}
+use mathlib.Core.Logic.{⊎-elim}
+use mathlib.Core.Option.{some}
+use Prim.Native.Nat.{ℕ, zero, suc, _+_, _<_, _≤_}
+use native.Mathlib.Omega.{arith}
+use native.Mathlib.Decide.{decLt}
+use lib.Dec.{eqb}
+use lib.ListN.{length, getD, take, drop, length-map, length-take, length-drop, length-reverse, List·getD-eq-default, List·getD-map}
+use lib.Seq.{ext-getD, getD-take, getD-drop}
+use Rattle.words.specs.Word.{bytes}
+use Rattle.limits.specs.Limits.{CLASS-FIELDS}
+use Rattle.script.specs.Lists.{_∈_, run, sumBelow}
+use Rattle.script.proofs.Lists.{length-run, getD-run}
+use Rattle.machine.specs.declared.Frame.{Frame}
+use Rattle.machine.specs.Config.{Object, Tree, failed, Config}
+use Rattle.block.specs.Rows.{cell}
+use Rattle.block.specs.declared.Area.{Area}
+use Rattle.block.specs.declared.Area.the-variants.{Objects, Bindings, Positions, Frames}
+use Rattle.block.specs.Layout.{width, counted, wordIn, rowsIn}
+use Rattle.block.specs.Block.{valueWord, shutWord, objectWords, bindingWords, frameWords, preorder, framesOf, partsOf, rows, blockWords, encode}
+use Rattle.block.specs.Fits.{AllWords, Fits}
+use Rattle.block.specs.Decode.{valueOf, objectOf, bindingOf, frameOf, grove, configIn, decode}
+use Rattle.representation.specs.Shows.{Shows}
+use Rattle.representation.specs.InOrder.{ObjectOk, PositionOk, is-running, is-returning, is-failed, is-join, FrameOk, is-awaits, is-casts, is-locks, InOrder}
+use Rattle.block.proofs.Rows.{getD-filled}
+use Rattle.block.proofs.Words.{object-width, rowsIn-length, rowsIn-wide, rowsIn-cell}
+use Rattle.representation.proofs.Shows.{shows-laid}
+use Rattle.block.proofs.Decode.{decode-encode}
+use Rattle.representation.proofs.Growing.{listed, word-back, Grown, grown}
+
+-- each record got back as its words
+shut-word : (n : ℕ) → n ≤ 1 → shutWord (eqb n 1) ≡ n
+shut-word zero h = refl
+shut-word (suc zero) h = refl
+shut-word (suc (suc n)) h = absurd (omega arith)
+
+values-words : (ws : List ℕ) → map valueWord (map valueOf ws) ≡ ws
+values-words [] = refl
+values-words (w ∷ ws) = let e = word-back w in let r = values-words ws in cc
+
+module _ (fieldCount : ℕ → ℕ) (r : List ℕ) (wide : length r ≡ width Objects) (ok : ObjectOk fieldCount (λ j. getD r j 0)) where
+  own : ℕ
+  own = fieldCount (getD r 0 0)
+
+  values : List ℕ
+  values = take own (drop 2 r)
+
+  values-length : length values ≡ own
+  unfolding values own
+  values-length = omega (arith, length-take own (drop 2 r), length-drop 2 r, ok .few)
+
+  values-many : length (objectOf fieldCount r .fields) ≡ fieldCount (getD r 0 0)
+  unfolding values own
+  values-many = length-map values valueOf ∙ values-length
+
+  object-words-at : (j : ℕ) → j < width Objects → getD (objectWords (objectOf fieldCount r)) j 0 ≡ getD r j 0
+  unfolding values own
+  object-words-at zero h = refl
+  object-words-at (suc zero) h = shut-word (getD r 1 0) (ok .shut)
+  object-words-at (suc (suc k)) h =
+      let s : suc (suc k) ≡ 2 + k = omega arith in
+      getD-filled CLASS-FIELDS (map valueWord (map valueOf values)) k (omega arith)
+      ∙ rw (values-words values, s)
+      (elim (decLt k own) [
+        | yes l ↦ getD-take own (drop 2 r) k 0 l ∙ getD-drop 2 r k 0
+        | no l ↦ List·getD-eq-default values 0 {n = k} (omega (arith, values-length)) ∙ sym (ok .unused k (omega arith) (omega arith))
+      ])
+
+  object-words : objectWords (objectOf fieldCount r) ≡ r
+  object-words =
+      ext-getD 0 (objectWords (objectOf fieldCount r)) r (object-width (objectOf fieldCount r) ∙ sym wide)
+      (λ j h. object-words-at j (omega (arith, object-width (objectOf fieldCount r))))
+
+binding-words : (r : List ℕ) → length r ≡ width Bindings → bindingWords (bindingOf r) ≡ r
+unfolding run
+binding-words r wide = let e = listed (width Bindings) r wide in let v = word-back (getD r 2 0) in cc
+
+three-words : (r : List ℕ) → length r ≡ width Frames → getD r 0 0 ∷ getD r 1 0 ∷ getD r 2 0 ∷ [] ≡ r
+unfolding run
+three-words r wide = listed (width Frames) r wide
+
+frame-words : (r : List ℕ) → length r ≡ width Frames → FrameOk (λ j. getD r j 0) → frameWords (frameOf r) ≡ r
+unfolding run
+frame-words r wide (is-awaits k) = rw k (let e = three-words r wide in rw k at e)
+frame-words r wide (is-casts k a) = rw k (let e = three-words r wide in rw (k, a) at e)
+frame-words r wide (is-locks k a) = rw k (let e = three-words r wide in rw (k, a) at e)
+
+-- what is asked of a record's words, asked of words that are the same
+pub object-same : (fieldCount w v : ℕ → ℕ) → ((j : ℕ) → j < width Objects → v j ≡ w j) → ObjectOk fieldCount w → ObjectOk fieldCount v
+object-same fieldCount w v e ok =
+    let class = e 0 (omega arith) in
+    record {
+      shut = rw (e 1 (omega arith)) (ok .shut);
+      few = rw class (ok .few);
+      unused = λ k h l. e (2 + k) (omega arith) ∙ ok .unused k (rw class at h) l;
+    }
+
+pub position-same : (w v : ℕ → ℕ) → ((j : ℕ) → j < width Positions → v j ≡ w j) → PositionOk w → PositionOk v
+position-same w v e (is-running k a) = is-running (e 0 (omega arith) ∙ k) (e 3 (omega arith) ∙ a)
+position-same w v e (is-returning k a b) = is-returning (e 0 (omega arith) ∙ k) (e 1 (omega arith) ∙ a) (e 2 (omega arith) ∙ b)
+position-same w v e (is-failed k a b c d) =
+    is-failed (e 0 (omega arith) ∙ k) (e 1 (omega arith) ∙ a) (e 2 (omega arith) ∙ b) (e 3 (omega arith) ∙ c) (e 4 (omega arith) ∙ d)
+position-same w v e (is-join k a) = is-join (e 0 (omega arith) ∙ k) (e 3 (omega arith) ∙ a)
+
+pub frame-same : (w v : ℕ → ℕ) → ((j : ℕ) → j < width Frames → v j ≡ w j) → FrameOk w → FrameOk v
+frame-same w v e (is-awaits k) = is-awaits (e 0 (omega arith) ∙ k)
+frame-same w v e (is-casts k a) = is-casts (e 0 (omega arith) ∙ k) (e 2 (omega arith) ∙ a)
+frame-same w v e (is-locks k a) = is-locks (e 0 (omega arith) ∙ k) (e 2 (omega arith) ∙ a)
+
+-- rows that are each got back, and a sum of numbers that are the same
+rows-same : {A : Type 0} (f : A → List ℕ) (g : List ℕ → A) (rows : List (List ℕ)) → ((i : ℕ) → i < length rows → f (g (getD rows i [])) ≡ getD rows i []) → map f (map g rows) ≡ rows
+rows-same f g [] e = refl
+rows-same f g (r ∷ rs) e = let h = e 0 (omega arith) in let t = rows-same f g rs (λ i l. e (suc i) (omega arith)) in cc
+
+pub sum-same : (f g : ℕ → ℕ) (n : ℕ) → ((i : ℕ) → i < n → f i ≡ g i) → sumBelow f n ≡ sumBelow g n
+unfolding sumBelow
+sum-same f g zero e = refl
+sum-same f g (suc n) e = let h = e n (omega arith) in let t = sum-same f g n (λ i l. e i (omega arith)) in cc
+
+-- the first words of the counted records
+pub firsts : (b : List ℕ) (a : Area) → 0 < width a → map (λ (r : List ℕ). getD r 0 0) (rowsIn b a) ≡ run (λ i. wordIn b a i 0) 0 (counted b a)
+firsts b a h =
+    ext-getD 0 (map first (rowsIn b a)) (run heads 0 (counted b a)) (length-map (rowsIn b a) first ∙ rowsIn-length b a ∙ sym (length-run heads 0 (counted b a)))
+    (λ i g.
+    let l : i < counted b a = omega (arith, length-map (rowsIn b a) first, rowsIn-length b a) in
+    let z : 0 + i ≡ i = omega arith in
+    List·getD-map first (rowsIn b a) i [] ∙ rowsIn-cell b a i 0 l h ∙ sym (getD-run heads 0 (counted b a) i 0 l ∙ rw z refl))
+  where
+    first : List ℕ → ℕ
+    first r = getD r 0 0
+
+    heads : ℕ → ℕ
+    heads i = wordIn b a i 0
+
+one-of : (ts : List Tree) → length ts ≡ 1 → ts ≡ getD ts 0 failed ∷ []
+one-of [] e = absurd (omega arith)
+one-of (t ∷ []) e = refl
+one-of (t ∷ s ∷ ts) e = absurd (omega arith)
+
+none-left : (fs : List Frame) → length fs ≡ 0 → fs ≡ []
+none-left [] e = refl
+none-left (f ∷ fs) e = absurd (omega arith)
+
+-- words whose bytes are bytes
+words-small : (ws : List ℕ) → ((i : ℕ) → getD (bytes ws) i 0 < 256) → AllWords ws
+unfolding bytes
+words-small [] h w m = absurd (List·Memᴰ·not-nil m)
+words-small (v ∷ ws) h w m =
+    ⊎-elim (λ (e : w ≡ v). omega (arith, h 1)) (λ (k : w ∈ ws). words-small ws (λ i. h (suc (suc i))) w k) (List·Memᴰ·cases-cons m)
+
+-- what holds of each row by its number holds of each row
+each-row : (P : List ℕ → Type 0) (rows : List (List ℕ)) → ((i : ℕ) → i < length rows → P (getD rows i [])) → (r : List ℕ) → r ∈ rows → P r
+each-row P [] h r m = absurd (List·Memᴰ·not-nil m)
+each-row P (x ∷ rows) h r m =
+    ⊎-elim (λ (e : r ≡ x). rw e (h 0 (omega arith))) (λ (k : r ∈ rows). each-row P rows (λ i l. h (suc i) (omega arith)) r k) (List·Memᴰ·cases-cons m)
+
+module _ (fieldCount : ℕ → ℕ) (b : List ℕ) (o : InOrder fieldCount b) where
+  abbrev c : Config
+  c = configIn fieldCount b
+
+  -- a number of a record is one of a counted record
+  number : (a : Area) (i : ℕ) → i < length (rowsIn b a) → i < counted b a
+  number a i h = omega (arith, rowsIn-length b a)
+
+  object-ok : (i : ℕ) → i < length (rowsIn b Objects) → (length (getD (rowsIn b Objects) i []) ≡ width Objects) × ObjectOk fieldCount (cell (rowsIn b Objects) i)
+  object-ok i h =
+      let l = number Objects i h in
+      (rowsIn-wide b Objects i h, object-same fieldCount (wordIn b Objects i) (cell (rowsIn b Objects) i) (λ j hj. rowsIn-cell b Objects i j l hj) (o .objects i l))
+
+  objects-are : map objectWords (map (objectOf fieldCount) (rowsIn b Objects)) ≡ rowsIn b Objects
+  objects-are =
+      rows-same objectWords (objectOf fieldCount) (rowsIn b Objects) (λ i h. let k = object-ok i h in object-words fieldCount (getD (rowsIn b Objects) i []) (k .0) (k .1))
+
+  bindings-are : map bindingWords (map bindingOf (rowsIn b Bindings)) ≡ rowsIn b Bindings
+  bindings-are = rows-same bindingWords bindingOf (rowsIn b Bindings) (λ i h. binding-words (getD (rowsIn b Bindings) i []) (rowsIn-wide b Bindings i h))
+
+  frames-are : map frameWords (map frameOf (rowsIn b Frames)) ≡ rowsIn b Frames
+  frames-are =
+      rows-same frameWords frameOf (rowsIn b Frames)
+      (λ i h.
+      let l = number Frames i h in
+      frame-words (getD (rowsIn b Frames) i []) (rowsIn-wide b Frames i h)
+      (frame-same (wordIn b Frames i) (cell (rowsIn b Frames) i) (λ j hj. rowsIn-cell b Frames i j l hj) (o .frames i l)))
+
+  abbrev given-out : List Frame
+  given-out = reverse (map frameOf (rowsIn b Frames))
+
+  frames-many : length given-out ≡ counted b Frames
+  frames-many = length-reverse (map frameOf (rowsIn b Frames)) ∙ length-map (rowsIn b Frames) frameOf ∙ rowsIn-length b Frames
+
+  sum-is : sumBelow (λ i. cell (rowsIn b Positions) i 4) (length (rowsIn b Positions)) ≡ counted b Frames
+  sum-is =
+      rw (rowsIn-length b Positions)
+      (sum-same (λ i. cell (rowsIn b Positions) i 4) (λ i. wordIn b Positions i 4) (counted b Positions) (λ i l. rowsIn-cell b Positions i 4 l (omega arith))
+      ∙ o .all-frames)
+
+  growth : Grown (rowsIn b Positions) given-out 1
+  growth =
+      grown (rowsIn b Positions) given-out 1 (rw (firsts b Positions (omega arith)) (o .one-tree)) (rowsIn-wide b Positions)
+      (λ i h.
+      let l = number Positions i h in
+      position-same (wordIn b Positions i) (cell (rowsIn b Positions) i) (λ j hj. rowsIn-cell b Positions i j l hj) (o .positions i l))
+      (omega (arith, sum-is, frames-many))
+
+  root : grove (rowsIn b Positions) given-out .trees ≡ c .tree ∷ []
+  unfolding configIn
+  root = one-of (grove (rowsIn b Positions) given-out .trees) (growth .many)
+
+  frames-of : framesOf (c .tree) ≡ map frameOf (rowsIn b Frames)
+  unfolding flatMap
+  frames-of =
+      let left : grove (rowsIn b Positions) given-out .frames ≡ [] = none-left (grove (rowsIn b Positions) given-out .frames) (omega (arith, growth .frames-left, sum-is, frames-many)) in
+      let e : reverse (framesOf (c .tree)) ≡ given-out = rw (root, left, append-nil (framesOf (c .tree)), append-nil (reverse (framesOf (c .tree)))) at (growth .frames-are) in
+      sym (reverse-reverse (framesOf (c .tree))) ∙ ap reverse e ∙ reverse-reverse (map frameOf (rowsIn b Frames))
+
+  -- the records of the configuration are those counted
+  rows-are : (a : Area) → rows (partsOf c) a ≡ rowsIn b a
+  unfolding configIn flatMap
+  rows-are Objects = objects-are
+  rows-are Bindings = rw (reverse-reverse (map bindingOf (rowsIn b Bindings))) bindings-are
+  rows-are Positions = let e = rw root at (growth .rows-are) in rw (append-nil (preorder (c .tree))) at e
+  rows-are Frames = rw frames-of frames-are
+
+  in-order-shows : Shows b (partsOf c)
+  in-order-shows =
+      record {
+        long = o .long;
+        small = o .small;
+        counts = λ a. rw (rows-are a) (sym (rowsIn-length b a));
+        records = λ a i j hi hj.
+            rw (rows-are a)
+            (elim (decLt i (counted b a)) [
+              | yes l ↦ sym (rowsIn-cell b a i j l hj)
+              | no l ↦ o .blank a i j (omega arith) hi hj ∙ rw (List·getD-eq-default (rowsIn b a) [] {n = i} (omega (arith, rowsIn-length b a)))
+            ]);
+        rest = o .rest;
+      }
+
+  is-encoded : b ≡ encode c
+  is-encoded = shows-laid b (partsOf c) in-order-shows
+
+  object-fields : (x : Object) → x ∈ partsOf c .objects → (length (x .fields) ≡ fieldCount (x .class)) × (length (x .fields) ≤ CLASS-FIELDS)
+  unfolding configIn
+  object-fields x m =
+      let a = Memᴰ·of-map (objectOf fieldCount) (rowsIn b Objects) m in
+      let k = each-row (λ r. (length r ≡ width Objects) × ObjectOk fieldCount (λ j. getD r j 0)) (rowsIn b Objects) object-ok (a .0) (a .1) in
+      let e = values-many fieldCount (a .0) (k .0) (k .1) in
+      rw (← a .2) (e, omega (arith, e, k .1 .few))
+
+  in-order-fits : Fits fieldCount c
+  in-order-fits =
+      record {
+        few = λ a. omega (arith, in-order-shows .counts a, o .few a);
+        own-fields = λ x m. object-fields x m .0;
+        few-fields = λ x m. object-fields x m .1;
+        words = words-small (blockWords c) (λ i. rw (← is-encoded) (o .small i));
+      }
+
+  -- bytes in order are decoded
+  pub in-order-decodes : decode fieldCount b ≡ some c
+  in-order-decodes = ap (decode fieldCount) is-encoded ∙ decode-encode fieldCount c in-order-fits

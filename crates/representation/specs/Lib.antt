@@ -1,0 +1,4 @@
+pub mod Changed
+pub mod InOrder
+pub mod Preorder
+pub mod Shows

@@ -1,0 +1,155 @@
+// Run: "first looks, then looks after every choice".
+use crate::Next;
+use crate::Ran;
+use crate::Taken;
+use choices::choose;
+use enabled::Looked;
+use enabled::look;
+use machine::Stop;
+use moves::Effect;
+use tree::Tree;
+ghost use mathlib.Core.Path.{_≡_};
+ghost use mathlib.Core.Option.{none};
+ghost use Prim.Native.Nat.{_≤_};
+ghost use lib.ListN.{length};
+ghost use Rattle.limits.specs.Limits.{CHOICES};
+ghost use Rattle.inference.specs.At.{Blank};
+ghost use Rattle.machine.specs.Config.{codeOf};
+ghost use Rattle.machine.specs.Machine.{limits};
+ghost use Rattle.machine.specs.Runs.{look as seen, report};
+ghost use Rattle.enabled.specs.Looks.{Standing};
+ghost use Rattle.runs.specs.Reports.{TakenAs, RanAs};
+
+// A choice as a number, so that no caller needs the slice's rule for it.
+fn wide(x: u8) -> usize
+    ensures { λ r. ⌜ r ≡ x ⌝ }
+{
+    x as usize
+}
+
+// The choice of a position where something can move, and the look after it. Where no move was made nothing has changed, and the look is spared.
+fn take_choice(
+    s: &[u8],
+    starts: &[u16],
+    forks: &[u8],
+    table: &mut [u16],
+    block: &mut [u8],
+    tree: Tree,
+    n: usize,
+) -> Taken
+    requires { ⌜ Blank (now s) (now starts) (now forks) (now table) × Standing (now s) (now block) tree ⌝ }
+    ensures { λ r. ⌜
+        ((x : Standing (now (s .entry)) (now (block .entry)) tree) →
+        seen (codeOf (now (s .entry))) limits (x .config) ≡ none →
+        TakenAs (now (s .entry)) (now (block .exit)) (x .type) (x .config) n r)
+        ⌝ }
+    ensures { λ r. ⌜ (now (table .exit) ≡ now (table .entry)) × (r .made ≤ 1) ⌝ }
+{
+    let step = choose(s, starts, forks, table, block, tree, n);
+    let effect = step.effect;
+    let after = step.tree;
+    match effect {
+        Effect::Still => Taken {
+            made: 0,
+            next: Next::GoesOn,
+            tree: after,
+        },
+        Effect::Moved => {
+            let how = look(s, block, after);
+            match how {
+                Looked::GoesOn => Taken {
+                    made: 1,
+                    next: Next::GoesOn,
+                    tree: after,
+                },
+                Looked::Ends(e) => Taken {
+                    made: 1,
+                    next: Next::Stops(Stop::Ended(e)),
+                    tree: after,
+                },
+            }
+        }
+        Effect::Full(k) => Taken {
+            made: 0,
+            next: Next::Stops(Stop::Full(k)),
+            tree: after,
+        },
+    }
+}
+
+// The run from a configuration in which something can move.
+fn follow(
+    s: &[u8],
+    starts: &[u16],
+    forks: &[u8],
+    table: &mut [u16],
+    block: &mut [u8],
+    tree: Tree,
+    choices: &[u8],
+) -> Ran
+    requires { ⌜ Blank (now s) (now starts) (now forks) (now table) × Standing (now s) (now block) tree ⌝ }
+    requires { ⌜ length (now choices) ≤ CHOICES ⌝ }
+    requires { ⌜ ((x : Standing (now s) (now block) tree) → seen (codeOf (now s)) limits (x .config) ≡ none) ⌝ }
+    ensures { λ r. ⌜
+        ((x : Standing (now (s .entry)) (now (block .entry)) tree) →
+        RanAs (report (codeOf (now (s .entry))) limits (x .config) (now (choices .entry))) (now (block .exit)) r)
+        ⌝ }
+    ensures { λ r. ⌜ (r .read ≤ length (now (choices .entry))) × (r .moves ≤ r .read) ⌝ }
+{
+    let mut now = tree;
+    let mut read: usize = 0;
+    let mut moves: usize = 0;
+    while read < choices.len() {
+        let n = wide(choices[read]);
+        let taken = take_choice(s, starts, forks, table, block, now, n);
+        read += 1;
+        moves += taken.made;
+        let next = taken.next;
+        let after = taken.tree;
+        if let Next::Stops(stop) = next {
+            return Ran {
+                stop: stop,
+                read: read,
+                moves: moves,
+                tree: after,
+            };
+        }
+        now = after;
+    }
+    Ran {
+        stop: Stop::Spent,
+        read: read,
+        moves: moves,
+        tree: now,
+    }
+}
+
+// Run: the stop, "choices read and moves made", and the tree that the run leaves in hand.
+pub fn run_choices(
+    s: &[u8],
+    starts: &[u16],
+    forks: &[u8],
+    table: &mut [u16],
+    block: &mut [u8],
+    tree: Tree,
+    choices: &[u8],
+) -> Ran
+    requires { ⌜ Blank (now s) (now starts) (now forks) (now table) × Standing (now s) (now block) tree ⌝ }
+    requires { ⌜ length (now choices) ≤ CHOICES ⌝ }
+    ensures { λ r. ⌜
+        ((x : Standing (now (s .entry)) (now (block .entry)) tree) →
+        RanAs (report (codeOf (now (s .entry))) limits (x .config) (now (choices .entry))) (now (block .exit)) r)
+        ⌝ }
+    ensures { λ r. ⌜ (r .read ≤ length (now (choices .entry))) × (r .moves ≤ r .read) ⌝ }
+{
+    let how = look(s, block, tree);
+    if let Looked::Ends(e) = how {
+        return Ran {
+            stop: Stop::Ended(e),
+            read: 0,
+            moves: 0,
+            tree: tree,
+        };
+    }
+    follow(s, starts, forks, table, block, tree, choices)
+}

@@ -1,0 +1,248 @@
+-- Free variables of nodes, as the code of `forks` goes through them.
+use Prim.Native.Nat.{ℕ, zero, suc, _+_, _^_, _<_}
+use mathlib.Core.Path.{_≡_, refl, sym, _∙_}
+use mathlib.Core.Bool.{Bool, true, false, _||_}
+use mathlib.Core.List.{List, [], _∷_, _++_}
+use mathlib.Core.Logic.{_⊎_, ⊎-elim, inl, inr}
+use native.Mathlib.Omega.{arith}
+use lib.Bits.{bitAnd, bitOr, bitXor}
+use lib.Dec.{eqb}
+use lib.ListN.{length, getD}
+use borrow.Author.Tests.{eqb-true}
+use Rattle.limits.specs.Limits.{NODES}
+use Rattle.script.specs.declared.Section.the-variants.{Nodes as nodes}
+use Rattle.script.specs.Lists.{_∈_}
+use Rattle.script.specs.Section.{countOf, nodeWord}
+use Rattle.script.specs.Syntax.{Point, Expr, Node, n-null, n-var, n-select, n-update, n-call, n-bind, n-new, n-cast, n-fork, n-lock, parts, build}
+use Rattle.script.specs.Reading.{kindOf, nodeOf, viewAt, exprAt}
+use Rattle.script.specs.Statements.{Part, WithinLayout}
+use Rattle.script.proofs.Reading.{first, second, third, expr-at, every-node}
+use Rattle.script.proofs.Tests.{true-false}
+use Rattle.typing.specs.Typing.{without, fv, isIn}
+use Rattle.sharing.specs.Free.{SPAN, MaskOf, FreeMask, Along, Ahead, ForkMark, Uses}
+use Rattle.sharing.proofs.MaskLaws.{in-append, in-without, mask-none, mask-or, mask-without, masks-meet}
+use Rattle.sharing.proofs.MarkLaws.{mark-kept}
+
+-- One case for each kind.
+by-kind : (P : ℕ → Type 0) → P 0 → P 1 → P 2 → P 3 → P 4 → P 5 → P 6 → P 7 → P 8 → P 9 → ((k : ℕ) → P (suc (suc (suc (suc (suc (suc (suc (suc (suc (suc k))))))))))) → (k : ℕ) → P k
+by-kind P p0 p1 p2 p3 p4 p5 p6 p7 p8 p9 more zero = p0
+by-kind P p0 p1 p2 p3 p4 p5 p6 p7 p8 p9 more (suc zero) = p1
+by-kind P p0 p1 p2 p3 p4 p5 p6 p7 p8 p9 more (suc (suc zero)) = p2
+by-kind P p0 p1 p2 p3 p4 p5 p6 p7 p8 p9 more (suc (suc (suc zero))) = p3
+by-kind P p0 p1 p2 p3 p4 p5 p6 p7 p8 p9 more (suc (suc (suc (suc zero)))) = p4
+by-kind P p0 p1 p2 p3 p4 p5 p6 p7 p8 p9 more (suc (suc (suc (suc (suc zero))))) = p5
+by-kind P p0 p1 p2 p3 p4 p5 p6 p7 p8 p9 more (suc (suc (suc (suc (suc (suc zero)))))) = p6
+by-kind P p0 p1 p2 p3 p4 p5 p6 p7 p8 p9 more (suc (suc (suc (suc (suc (suc (suc zero))))))) = p7
+by-kind P p0 p1 p2 p3 p4 p5 p6 p7 p8 p9 more (suc (suc (suc (suc (suc (suc (suc (suc zero)))))))) = p8
+by-kind P p0 p1 p2 p3 p4 p5 p6 p7 p8 p9 more (suc (suc (suc (suc (suc (suc (suc (suc (suc zero))))))))) = p9
+by-kind P p0 p1 p2 p3 p4 p5 p6 p7 p8 p9 more (suc (suc (suc (suc (suc (suc (suc (suc (suc (suc k)))))))))) = more k
+
+-- A node that is a fork has a fork's kind.
+abbrev IsFork : Node → Type 0
+IsFork n-null = ⊥
+IsFork (n-var x) = ⊥
+IsFork (n-select x f) = ⊥
+IsFork (n-update x f p) = ⊥
+IsFork (n-call x m p) = ⊥
+IsFork (n-bind x p q) = ⊥
+IsFork (n-new c) = ⊥
+IsFork (n-cast t p) = ⊥
+IsFork (n-fork p q r) = Unit {0}
+IsFork (n-lock x p) = ⊥
+
+only-fork : (a b c k : ℕ) → IsFork (nodeOf (kindOf k) a b c) → k ≡ 8
+unfolding kindOf
+only-fork a b c =
+    by-kind (λ k. IsFork (nodeOf (kindOf k) a b c) → k ≡ 8) absurd absurd absurd absurd absurd absurd absurd absurd (λ h. refl) absurd (λ k h. absurd h)
+
+module _ (s : List ℕ) (n : ℕ) where
+  -- A node of this kind, with its words.
+  abbrev nodeIs : ℕ → Node
+  nodeIs k = nodeOf (kindOf k) (nodeWord s n 1) (nodeWord s n 2) (nodeWord s n 3)
+
+  view-is : (k : ℕ) → nodeWord s n 0 ≡ k → viewAt s n ≡ nodeIs k
+  unfolding viewAt
+  view-is k e = rw e
+
+  pub fork-kind : (a b c : ℕ) → viewAt s n ≡ n-fork a b c → nodeWord s n 0 ≡ 8
+  unfolding viewAt
+  fork-kind a b c e = only-fork (nodeWord s n 1) (nodeWord s n 2) (nodeWord s n 3) (nodeWord s n 0) (rw e tt)
+
+  pub part-of : (k p : ℕ) → nodeWord s n 0 ≡ k → p ∈ parts (nodeIs k) → p ∈ parts (viewAt s n)
+  part-of k p e h = rw (view-is k e) h
+
+  pub uses-is : (P : ℕ → Type 0) (k : ℕ) → nodeWord s n 0 ≡ k → Uses P (nodeIs k) → Uses P (viewAt s n)
+  uses-is P k e u = rw (view-is k e) u
+
+  -- Every other kind uses no variable.
+  pub uses-none : (P : ℕ → Type 0) (k : ℕ) → k ≡ nodeWord s n 0 → (k ≡ 1 → ⊥) → (k ≡ 2 → ⊥) → (k ≡ 3 → ⊥) → (k ≡ 4 → ⊥) → (k ≡ 9 → ⊥) → Uses P (viewAt s n)
+  unfolding kindOf
+  uses-none P k e n1 n2 n3 n4 n9 = uses-is P k (sym e) (go k refl)
+    where
+      go : (j : ℕ) → k ≡ j → Uses P (nodeIs j)
+      go =
+          by-kind
+          (λ j. k ≡ j → Uses P (nodeIs j))
+          (λ q. tt)
+          (λ q. absurd (n1 q))
+          (λ q. absurd (n2 q))
+          (λ q. absurd (n3 q))
+          (λ q. absurd (n4 q))
+          (λ q. tt)
+          (λ q. tt)
+          (λ q. tt)
+          (λ q. tt)
+          (λ q. absurd (n9 q))
+          (λ j q. tt)
+
+  no-fv : (f : Point → Expr) (k : ℕ) → (k ≡ 1 → ⊥) → (k ≡ 2 → ⊥) → (k ≡ 3 → ⊥) → (k ≡ 4 → ⊥) → (k ≡ 5 → ⊥) → (k ≡ 7 → ⊥) → (k ≡ 8 → ⊥) → (k ≡ 9 → ⊥) → fv (build n f (nodeIs k)) ≡ []
+  unfolding kindOf fv
+  no-fv f k n1 n2 n3 n4 n5 n7 n8 n9 = go k refl
+    where
+      go : (j : ℕ) → k ≡ j → fv (build n f (nodeIs j)) ≡ []
+      go =
+          by-kind
+          (λ j. k ≡ j → fv (build n f (nodeIs j)) ≡ [])
+          (λ q. refl)
+          (λ q. absurd (n1 q))
+          (λ q. absurd (n2 q))
+          (λ q. absurd (n3 q))
+          (λ q. absurd (n4 q))
+          (λ q. absurd (n5 q))
+          (λ q. refl)
+          (λ q. absurd (n7 q))
+          (λ q. absurd (n8 q))
+          (λ q. absurd (n9 q))
+          (λ j q. refl)
+
+or-cases : (a b : Bool) → (a || b) ≡ true → (a ≡ true) ⊎ (b ≡ true)
+or-cases true b e = inl refl
+or-cases false b e = inr e
+
+-- What holds of every variable in use holds of every free variable.
+module _ (P : ℕ → Type 0) where
+  abbrev All : List ℕ → Type 0
+  All l = (x : ℕ) → isIn x l ≡ true → P x
+
+  all-none : All []
+  unfolding isIn
+  all-none x e = absurd (true-false (sym e))
+
+  all-cons : (y : ℕ) (l : List ℕ) → P y → All l → All (y ∷ l)
+  unfolding isIn
+  all-cons y l p f x e = ⊎-elim (λ q. rw (eqb-true y x q) at p) (f x) (or-cases (eqb y x) (isIn x l) e)
+
+  all-append : (l m : List ℕ) → All l → All m → All (l ++ m)
+  all-append l m f g x e = ⊎-elim (f x) (g x) (or-cases (isIn x l) (isIn x m) (sym (in-append x l m) ∙ e))
+
+  all-without : (y : ℕ) (l : List ℕ) → All l → All (without y l)
+  all-without y l f x e = f x (in-without y x l e)
+
+  all-node : (n : Point) (f : Point → Expr) (v : Node) → Uses P v → ((p : Point) → p ∈ parts v → All (fv (f p))) → All (fv (build n f v))
+  unfolding fv
+  all-node n f n-null u h = all-none
+  all-node n f (n-var x) u h = all-cons x [] u all-none
+  all-node n f (n-select x g) u h = all-cons x [] u all-none
+  all-node n f (n-update x g p) u h = all-cons x (fv (f p)) u (h p first)
+  all-node n f (n-call x m p) u h = all-cons x (fv (f p)) u (h p first)
+  all-node n f (n-bind x p q) u h = all-append (fv (f p)) (without x (fv (f q))) (h p first) (all-without x (fv (f q)) (h q second))
+  all-node n f (n-new c) u h = all-none
+  all-node n f (n-cast t p) u h = h p first
+  all-node n f (n-fork p q r) u h = all-append (fv (f p)) (fv (f q) ++ fv (f r)) (h p first) (all-append (fv (f q)) (fv (f r)) (h q second) (h r third))
+  all-node n f (n-lock x p) u h = all-cons x (fv (f p)) u (h p first)
+
+module _ (s : List ℕ) (layout : WithinLayout s) where
+  pub in-order : (n : Point) → n < countOf s nodes → (p : Point) → p ∈ parts (viewAt s n) → Part s n p
+  in-order n h = layout .nodes-are nodes n h .in-order
+
+  pub all-free : (P : ℕ → Type 0) → ((n : Point) → n < countOf s nodes → Uses P (viewAt s n)) → (n : Point) → n < countOf s nodes → (x : ℕ) → isIn x (fv (exprAt s n)) ≡ true → P x
+  all-free P uses =
+      every-node
+      s
+      (λ n. All P (fv (exprAt s n)))
+      in-order
+      (λ n h ih. rw (expr-at s n h (in-order n h)) (all-node P n (exprAt s) (viewAt s n) (uses n h) ih))
+
+  -- A part's mask is in the table.
+  pub part-within : (masks : List ℕ) (n p : ℕ) → length masks ≡ NODES → n < countOf s nodes → p ∈ parts (viewAt s n) → p < length masks
+  part-within masks n p size h m = omega (arith, in-order n h p m .there, layout .counts-are .within nodes)
+
+module _ (s masks : List ℕ) (start n : ℕ) (h : Ahead s masks start n) where
+  part-free : (p m : ℕ) → p ∈ parts (viewAt s n) → m ≡ getD masks p 0 → MaskOf start m (fv (exprAt s p))
+  part-free p m i e = let q = in-order s (h .layout) n (h .there) p i in rw e (h .later p (omega (arith, q .later)) (q .there))
+
+  -- The mask of a node of kind k.
+  pub mask-is : (k m : ℕ) → nodeWord s n 0 ≡ k → MaskOf start m (fv (build n (exprAt s) (nodeIs s n k))) → FreeMask s start n m
+  mask-is k m e q = rw (expr-at s n (h .there) (in-order s (h .layout) n (h .there)), view-is s n k e) q
+
+  pub mask-use : (p own m : ℕ) → p ∈ parts (viewAt s n) → MaskOf start own (nodeWord s n 1 ∷ []) → m ≡ getD masks p 0 → MaskOf start (bitOr own m) (nodeWord s n 1 ∷ fv (exprAt s p))
+  mask-use p own m i o e = mask-or start own m (nodeWord s n 1 ∷ []) (fv (exprAt s p)) o (part-free p m i e)
+
+  pub mask-let : (own a b : ℕ) → nodeWord s n 0 ≡ 5 → MaskOf start own (nodeWord s n 1 ∷ []) → a ≡ getD masks (nodeWord s n 2) 0 → b ≡ getD masks (nodeWord s n 3) 0 → FreeMask s start n (bitOr a (bitXor (bitOr b own) own))
+  unfolding kindOf fv
+  mask-let own a b k o ea eb =
+      let p = part-free (nodeWord s n 2) a (part-of s n 5 _ k first) ea in
+      let q = part-free (nodeWord s n 3) b (part-of s n 5 _ k second) eb in
+      mask-is 5 _ k (mask-or start a _ (fv (exprAt s (nodeWord s n 2))) _ p (mask-without start b own _ (fv (exprAt s (nodeWord s n 3))) q o))
+
+  pub mask-fork : (a b c : ℕ) → nodeWord s n 0 ≡ 8 → a ≡ getD masks (nodeWord s n 1) 0 → b ≡ getD masks (nodeWord s n 2) 0 → c ≡ getD masks (nodeWord s n 3) 0 → FreeMask s start n (bitOr a (bitOr b c))
+  unfolding kindOf fv
+  mask-fork a b c k ea eb ec =
+      let p = part-free (nodeWord s n 1) a (part-of s n 8 _ k first) ea in
+      let q = part-free (nodeWord s n 2) b (part-of s n 8 _ k second) eb in
+      let r = part-free (nodeWord s n 3) c (part-of s n 8 _ k third) ec in
+      mask-is 8 _ k (mask-or start a _ (fv (exprAt s (nodeWord s n 1))) _ p (mask-or start b c (fv (exprAt s (nodeWord s n 2))) (fv (exprAt s (nodeWord s n 3))) q r))
+
+  pub mask-cast : (m : ℕ) → nodeWord s n 0 ≡ 7 → m ≡ getD masks (nodeWord s n 2) 0 → FreeMask s start n m
+  unfolding kindOf fv
+  mask-cast m k e = mask-is 7 m k (part-free (nodeWord s n 2) m (part-of s n 7 _ k first) e)
+
+  pub mask-rest : (k : ℕ) → k ≡ nodeWord s n 0 → (k ≡ 1 → ⊥) → (k ≡ 2 → ⊥) → (k ≡ 3 → ⊥) → (k ≡ 4 → ⊥) → (k ≡ 5 → ⊥) → (k ≡ 7 → ⊥) → (k ≡ 8 → ⊥) → (k ≡ 9 → ⊥) → FreeMask s start n 0
+  mask-rest k e n1 n2 n3 n4 n5 n7 n8 n9 = mask-is k 0 (sym e) (rw (no-fv s n (exprAt s) k n1 n2 n3 n4 n5 n7 n8 n9) (mask-none start))
+
+-- The mark of a node after one more span.
+module _ (s masks : List ℕ) (n t : ℕ) where
+  abbrev pub Marks : ℕ → Type 0
+  Marks r = (start : ℕ) → Along (FreeMask s start) masks n (countOf s nodes) → ForkMark s start n t → ForkMark s (start + SPAN) n r
+
+  pub mark-other : (k : ℕ) → k ≡ nodeWord s n 0 → (k ≡ 8 → ⊥) → Marks t
+  mark-other k e n8 start masked mark a b c v = absurd (n8 (e ∙ fork-kind s n a b c v))
+
+  module _ (layout : WithinLayout s) (there : n < countOf s nodes) (k a b : ℕ) (fork : k ≡ 8) (k-is : k ≡ nodeWord s n 0)
+      (a-is : a ≡ getD masks (nodeWord s n 1) 0) (b-is : b ≡ getD masks (nodeWord s n 2) 0) where
+    words : (p q r : ℕ) → viewAt s n ≡ n-fork p q r → (nodeWord s n 1 ≡ p) × (nodeWord s n 2 ≡ q)
+    unfolding kindOf
+    words p q r v = let e : n-fork (nodeWord s n 1) (nodeWord s n 2) (nodeWord s n 3) ≡ n-fork p q r = sym (view-is s n 8 (sym k-is ∙ fork)) ∙ v in (cc, cc)
+
+    async : (start p m : ℕ) → Along (FreeMask s start) masks n (countOf s nodes) → p ∈ parts (viewAt s n) → m ≡ getD masks p 0 → MaskOf start m (fv (exprAt s p))
+    async start p m masked i e = let w = in-order s layout n there p i in rw e (masked p (omega (arith, w .later)) (w .there))
+
+    pub mark-same : bitAnd a b ≡ 0 → Marks t
+    mark-same z start masked mark p q r v =
+        let e = words p q r v in
+        mark-kept
+        (fv (exprAt s p))
+        (fv (exprAt s q))
+        start
+        t
+        a
+        b
+        (async start p a masked (rw v first) (rw (e .0) at a-is))
+        (async start q b masked (rw v second) (rw (e .1) at b-is))
+        z
+        (mark p q r v)
+
+    pub mark-new : a < 2 ^ 64 → (bitAnd a b ≡ 0 → ⊥) → Marks 1
+    mark-new f z start masked mark p q r v =
+        let e = words p q r v in
+        masks-meet
+        start
+        a
+        b
+        (fv (exprAt s p))
+        (fv (exprAt s q))
+        (async start p a masked (rw v first) (rw (e .0) at a-is))
+        (async start q b masked (rw v second) (rw (e .1) at b-is))
+        f
+        z
+        (start + SPAN)

@@ -1,0 +1,4 @@
+pub mod MaskLaws
+pub mod MarkLaws
+pub mod FreeLaws
+pub mod SpanLaws

@@ -1,0 +1,4 @@
+// Question 15 in code: which forks have asyncs that share a variable.
+mod forks;
+
+pub use forks::fill_forks;

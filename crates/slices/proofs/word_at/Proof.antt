@@ -1,0 +1,21 @@
+use borrow.Author.Needs.{needs}
+use Rattle.words.specs.Word.{wordAt}
+use Rattle.slices.proofs.word_at.Statement.{statement}
+use Rattle.slices.proofs.word_at.Tie as tie
+
+returns : tie.Need-returns
+unfolding wordAt
+returns c = search needs
+
+pub word-at-spec : {M : Type 1} → statement M
+word-at-spec =
+    tie.close
+    (tie.spec
+    (λ c. search needs)
+    (λ c κs. search needs)
+    (λ c. search needs)
+    (λ c. search needs)
+    (λ c κs. search needs)
+    (λ c. search needs)
+    (λ c. search needs)
+    returns)

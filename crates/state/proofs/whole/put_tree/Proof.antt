@@ -1,0 +1,56 @@
+use native.Mathlib.Omega.{arith}
+use borrow.Author.Needs.{needs}
+use mathlib.Core.Path.{_≡_, refl}
+use Prim.Native.Nat.{_-_, _≤_}
+use lib.ListN.{length}
+use Rattle.limits.specs.Limits.{POSITIONS}
+use Rattle.state.proofs.Putting.{Writing, write-none, write-more, written}
+use Rattle.state.proofs.whole.put_tree.Statement.{statement}
+use Rattle.state.proofs.whole.put_tree.Tie as tie
+
+abbrev Inv-loop : tie.InvT-loop
+Inv-loop block₀ tree i₀ block i = (length block ≡ length block₀) × (i ≤ POSITIONS) × Writing block₀ tree block i
+
+abbrev μ-loop : tie.MeasureT-loop
+μ-loop block₀ tree i₀ block i = POSITIONS - i
+
+loop-holds : tie.Need-loop-holds Inv-loop μ-loop
+loop-holds c = (refl, omega arith, write-none _ _)
+
+row-at-requires : tie.Need-row-at-requires Inv-loop μ-loop
+row-at-requires c κs = (c .before .before .before .pre .1, c .before .before .before .pre .2, omega arith)
+
+put-row-requires : tie.Need-put-row-requires Inv-loop μ-loop
+put-row-requires c κs = (omega arith, omega arith, c .before .row-at .ensures .0)
+
+loop-again : tie.Need-loop-again Inv-loop μ-loop
+loop-again c = (
+  omega (arith, c .before .before .put-row .kept .0),
+  omega arith,
+  write-more _ _ _ _ _ _ (c .before .before .before .before .before .before .loop .inv .2) (c .before .before .before .before .row-at .ensures .1) (c .before .before .put-row .ensures),
+)
+
+same-length : tie.Need-same-length Inv-loop μ-loop
+same-length c = omega (arith, c .before .before .put-count .kept .0)
+
+returns : tie.Need-returns Inv-loop μ-loop
+returns c =
+    let e : c .before .before .before .before .before .before .loop .i ≡ POSITIONS = omega arith in
+    written _ _ _ _ (rw e at (c .before .before .before .before .before .before .loop .inv .2)) (c .before .before .put-count .ensures)
+
+pub put-tree-spec : {M : Type 1} → statement M
+put-tree-spec =
+    tie.close
+    (tie.spec
+    Inv-loop
+    μ-loop
+    loop-holds
+    row-at-requires
+    put-row-requires
+    (λ c. search needs)
+    (λ c. search needs)
+    loop-again
+    (λ c. search needs)
+    (λ c κs. omega arith)
+    same-length
+    returns)

@@ -1,0 +1,15 @@
+use mathlib.Core.Path.{refl}
+use Rattle.tree.proofs.Changes.{joins, joins-none}
+use borrow.Author.Needs.{needs}
+use Rattle.tree.proofs.Tree.joined.Statement.{statement}
+use Rattle.tree.proofs.Tree.joined.Tie as tie
+
+returns : tie.Need-returns
+returns c = joins-none _ _ (c .before .before .pre .0) (c .match .keys2)
+
+returns-2 : tie.Need-returns-2
+returns-2 c = joins _ _ _ _ _ _ (c .before .before .before .before .before .pre .0) refl (c .before .before .c .given .1) (c .replaced .ensures)
+
+pub joined-spec : {M : Type 1} → statement M
+joined-spec =
+    tie.close (tie.spec (λ c. search needs) (λ c. search needs) (λ c. search needs) returns (λ c κs. search needs) returns-2)

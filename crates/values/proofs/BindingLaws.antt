@@ -1,0 +1,114 @@
+-- What the code of the bindings answers, with the code's locals as variables.
+use mathlib.Core.Path.{_≡_, refl, sym, ap, _∙_}
+use mathlib.Core.Bool.{Bool, true, false, not, _&&_}
+use mathlib.Core.List.{List}
+use Prim.Native.Nat.{ℕ, suc, _+_, _-_, _<_, _≤_}
+use native.Mathlib.Omega.{arith}
+use borrow.Author.Tests.{lt-ltb, le-leb, lt-leb}
+use lib.Dec.{leb}
+use lib.ListN.{length, getD}
+use Rattle.words.specs.Word.{WORD, wordAt}
+use Rattle.script.specs.declared.Section.the-variants.{Interfaces as interfaces, Classes as classes}
+use Rattle.script.specs.Section.{countOf}
+use Rattle.script.specs.Reading.{programOf}
+use Rattle.script.specs.Questions.{allOf}
+use Rattle.script.proofs.Declarations.{length-interfaces, length-classes}
+use Rattle.machine.specs.declared.Want.the-variants.{Upto as upto}
+use Rattle.machine.specs.Config.{codeOf}
+use Rattle.machine.specs.Machine.{fieldCount}
+use Rattle.machine.specs.Decide.{valueFitsTest, isClassTest, bindingTest, bindingsTest, storesTest}
+use Rattle.block.specs.declared.Area.the-variants.{Bindings}
+use Rattle.block.specs.Layout.{counted, wordIn, wordByte}
+use Rattle.block.specs.Decode.{valueOf, configIn}
+use Rattle.environments.specs.Chains.{bindingAt, newest, bindingsIn}
+use Rattle.environments.proofs.ChainLaws.{length-newest}
+use Rattle.values.specs.Objects.{Asked, objectsIn, objectsTest}
+use Rattle.values.proofs.ReadLaws.{bindings-read}
+use Rattle.values.proofs.StoreLaws.{and-no, and-yes}
+
+-- words of a block are words
+word-small : (b : List ℕ) → ((i : ℕ) → getD b i 0 < 256) → (at : ℕ) → wordAt b at < WORD
+unfolding wordAt
+word-small b small at = omega (arith, small at, small (at + 1))
+
+-- one binding
+module _ {s b : List ℕ} (a : Asked s b) (i t n m : ℕ) (et : t ≡ wordIn b Bindings i 1) (en : n ≡ countOf s interfaces) (em : m ≡ countOf s classes) where
+  abbrev typeFits : Bool
+  typeFits = leb (wordIn b Bindings i 1) (length (programOf s .interfaces) + length (programOf s .classes))
+
+  abbrev rest : Bool
+  rest = leb (wordIn b Bindings i 3) i && valueFitsTest (codeOf s) (objectsIn s b) (valueOf (wordIn b Bindings i 2)) (upto (wordIn b Bindings i 1))
+
+  whole : bindingTest (codeOf s) (objectsIn s b) i (bindingAt b i) ≡ typeFits && rest
+  whole = rw (lt-ltb (wordIn b Bindings i 0) 65536 (word-small b (a .block .small) (wordByte Bindings i 0))) refl
+
+  pub binding-no-type : n + m < t → false ≡ bindingTest (codeOf s) (objectsIn s b) i (bindingAt b i)
+  binding-no-type h =
+      let no : typeFits ≡ false = lt-leb (wordIn b Bindings i 1) (length (programOf s .interfaces) + length (programOf s .classes)) (omega (arith, length-interfaces s, length-classes s)) in
+      sym (whole ∙ rw no refl)
+
+  module _ (link : ℕ) (el : link ≡ wordIn b Bindings i 3) (h : t ≤ n + m) where
+    typed : bindingTest (codeOf s) (objectsIn s b) i (bindingAt b i) ≡ rest
+    typed =
+        let yes : typeFits ≡ true = le-leb (wordIn b Bindings i 1) (length (programOf s .interfaces) + length (programOf s .classes)) (omega (arith, length-interfaces s, length-classes s)) in
+        whole ∙ rw yes refl
+
+    pub binding-no-link : i < link → false ≡ bindingTest (codeOf s) (objectsIn s b) i (bindingAt b i)
+    binding-no-link l = let no : leb (wordIn b Bindings i 3) i ≡ false = lt-leb (wordIn b Bindings i 3) i (omega arith) in sym (typed ∙ rw no refl)
+
+    pub binding-is :
+        (word : ℕ) (r : Bool) → link ≤ i → word ≡ wordIn b Bindings i 2
+        → r ≡ valueFitsTest (codeOf s) (objectsIn s b) (valueOf word) (upto t)
+        → r ≡ bindingTest (codeOf s) (objectsIn s b) i (bindingAt b i)
+    binding-is word r l ew e =
+        let yes : leb (wordIn b Bindings i 3) i ≡ true = le-leb (wordIn b Bindings i 3) i (omega arith) in
+        e ∙ rw (et, ew) (sym (typed ∙ rw yes refl))
+
+-- a walk over the bindings, newest first, that has those before number n left
+abbrev pub BindingsLeft : List ℕ → List ℕ → ℕ → Type 0
+BindingsLeft s b n =
+    bindingsTest (codeOf s) (objectsIn s b) (configIn (fieldCount s) b .stores .bindings) ≡ bindingsTest (codeOf s) (objectsIn s b) (newest (bindingAt b) n)
+
+module _ (s b : List ℕ) where
+  pub bindings-begun : (n : ℕ) → n ≡ counted b Bindings → BindingsLeft s b n
+  unfolding bindingsIn
+  bindings-begun n e = rw e (ap (bindingsTest (codeOf s) (objectsIn s b)) (bindings-read (fieldCount s) b))
+
+  module _ (n : ℕ) (left : BindingsLeft s b n) where
+    pub bindings-done : (0 < n → ⊥) → true ≡ bindingsTest (codeOf s) (objectsIn s b) (configIn (fieldCount s) b .stores .bindings)
+    bindings-done h = let z : n ≡ 0 = omega arith in sym (rw z at left)
+
+    module _ (r : Bool) (h : 0 < n) (e : r ≡ bindingTest (codeOf s) (objectsIn s b) (n - 1) (bindingAt b (n - 1))) where
+      next :
+          bindingsTest (codeOf s) (objectsIn s b) (configIn (fieldCount s) b .stores .bindings)
+          ≡ bindingTest (codeOf s) (objectsIn s b) (n - 1) (bindingAt b (n - 1)) && bindingsTest (codeOf s) (objectsIn s b) (newest (bindingAt b) (n - 1))
+      next =
+          let z : n ≡ suc (n - 1) = omega arith in
+          left
+          ∙ ap (λ (m : ℕ). bindingsTest (codeOf s) (objectsIn s b) (newest (bindingAt b) m)) z
+          ∙ ap (λ (m : ℕ). bindingTest (codeOf s) (objectsIn s b) m (bindingAt b (n - 1)) && bindingsTest (codeOf s) (objectsIn s b) (newest (bindingAt b) (n - 1))) (length-newest (bindingAt b) (n - 1))
+
+      pub bindings-no : not r ≡ true → false ≡ bindingsTest (codeOf s) (objectsIn s b) (configIn (fieldCount s) b .stores .bindings)
+      bindings-no q = and-no (bindingTest (codeOf s) (objectsIn s b) (n - 1) (bindingAt b (n - 1))) (bindingsTest (codeOf s) (objectsIn s b) (newest (bindingAt b) (n - 1))) r e q ∙ sym next
+
+      pub bindings-more : not r ≡ false → BindingsLeft s b (n - 1)
+      bindings-more q = next ∙ and-yes (bindingTest (codeOf s) (objectsIn s b) (n - 1) (bindingAt b (n - 1))) (bindingsTest (codeOf s) (objectsIn s b) (newest (bindingAt b) (n - 1))) r e q
+
+-- both stores
+module _ (s b : List ℕ) where
+  abbrev bindings : Bool
+  bindings = bindingsTest (codeOf s) (objectsIn s b) (configIn (fieldCount s) b .stores .bindings)
+
+  both : storesTest (codeOf s) (configIn (fieldCount s) b .stores) ≡ objectsTest (codeOf s) (objectsIn s b) && bindings
+  both = regroup (allOf (isClassTest (codeOf s)) (objectsIn s b)) _ bindings
+    where
+      regroup : (p q t : Bool) → p && (q && t) ≡ (p && q) && t
+      regroup true q t = refl
+      regroup false q t = refl
+
+  module _ (r : Bool) (e : r ≡ objectsTest (codeOf s) (objectsIn s b)) where
+    pub stores-no : not r ≡ true → false ≡ storesTest (codeOf s) (configIn (fieldCount s) b .stores)
+    stores-no h = and-no (objectsTest (codeOf s) (objectsIn s b)) bindings r e h ∙ sym both
+
+    pub stores-are : (t : Bool) → not r ≡ false → t ≡ bindings → t ≡ storesTest (codeOf s) (configIn (fieldCount s) b .stores)
+    stores-are t h f = f ∙ sym (both ∙ and-yes (objectsTest (codeOf s) (objectsIn s b)) bindings r e h)

@@ -1,0 +1,77 @@
+-- The records of the configuration that is read from a block, word by word.
+use mathlib.Core.Path.{_≡_, refl, ap, _∙_}
+use mathlib.Core.List.{List, [], _∷_, _++_, map, reverse, reverse-append}
+use mathlib.Core.Option.{none, some}
+use Prim.Native.Nat.{ℕ, zero, suc, _+_, _<_, _≤_}
+use native.Mathlib.Omega.{arith}
+use lib.ListN.{take}
+use Rattle.script.specs.Lists.{run}
+use Rattle.machine.specs.Config.{Object}
+use Rattle.machine.specs.Machine.{object}
+use Rattle.block.specs.declared.Area.the-variants.{Objects, Bindings}
+use Rattle.block.specs.Layout.{width, counted, wordIn, rowsIn}
+use Rattle.block.specs.Decode.{valueOf, objectOf, bindingOf, configIn}
+use Rattle.representation.specs.InOrder.{InOrder}
+use Rattle.environments.specs.Chains.{bindingAt, newest, bindingsIn}
+use Rattle.values.specs.Objects.{valueAt, objectAt}
+
+-- runs
+run-same : {A : Type 0} (f g : ℕ → A) (i n : ℕ) → ((j : ℕ) → i ≤ j → j < i + n → f j ≡ g j) → run f i n ≡ run g i n
+unfolding run
+run-same f g i zero e = refl
+run-same f g i (suc n) e = let h = e i (omega arith) (omega arith) in let t = run-same f g (i + 1) n (λ j l u. e j (omega arith) (omega arith)) in cc
+
+pub map-run : {A B : Type 0} (f : ℕ → A) (g : A → B) (i n : ℕ) → map g (run f i n) ≡ run (λ j. g (f j)) i n
+unfolding run
+map-run f g i zero = refl
+map-run f g i (suc n) = ap (λ l. g (f i) ∷ l) (map-run f g (i + 1) n)
+
+take-run : {A : Type 0} (f : ℕ → A) (i n k : ℕ) → k ≤ n → take k (run f i n) ≡ run f i k
+unfolding run
+take-run f i n zero h = refl
+take-run f i zero (suc k) h = absurd (omega arith)
+take-run f i (suc n) (suc k) h = ap (λ l. f i ∷ l) (take-run f (i + 1) n k (omega arith))
+
+run-end : {A : Type 0} (f : ℕ → A) (i n : ℕ) → run f i (suc n) ≡ run f i n ++ f (i + n) ∷ []
+unfolding run
+run-end f i zero = let z : i + 0 ≡ i = omega arith in rw z
+run-end f i (suc n) = let z : i + suc n ≡ i + 1 + n = omega arith in rw z (ap (λ l. f i ∷ l) (run-end f (i + 1) n))
+
+run-newest : {A : Type 0} (f : ℕ → A) (n : ℕ) → reverse (run f 0 n) ≡ newest f n
+unfolding run
+run-newest f zero = refl
+run-newest f (suc n) =
+    let z : 0 + n ≡ n = omega arith in
+    ap reverse (run-end f 0 n) ∙ reverse-append (run f 0 n) (f (0 + n) ∷ []) ∙ rw z (ap (λ l. f n ∷ l) (run-newest f n))
+
+-- an object of a run
+pub object-run : (f : ℕ → Object) (i n o : ℕ) → o < n → object (run f i n) o ≡ some (f (i + o))
+unfolding run
+object-run f i zero o h = absurd (omega arith)
+object-run f i (suc n) zero h = let z : i + 0 ≡ i = omega arith in rw z
+object-run f i (suc n) (suc o) h = let z : i + suc o ≡ i + 1 + o = omega arith in rw z (object-run f (i + 1) n o (omega arith))
+
+pub object-past : (f : ℕ → Object) (i n o : ℕ) → n ≤ o → object (run f i n) o ≡ none
+unfolding run
+object-past f i zero o h = refl
+object-past f i (suc n) zero h = absurd (omega arith)
+object-past f i (suc n) (suc o) h = object-past f (i + 1) n o (omega arith)
+
+-- the bindings of the configuration are those of the environments' chains
+pub bindings-read : (fieldCount : ℕ → ℕ) (b : List ℕ) → configIn fieldCount b .stores .bindings ≡ bindingsIn b
+unfolding configIn bindingsIn rowsIn run
+bindings-read fieldCount b =
+    ap reverse (map-run (λ i. run (wordIn b Bindings i) 0 (width Bindings)) bindingOf 0 (counted b Bindings)) ∙ run-newest (bindingAt b) (counted b Bindings)
+
+-- the objects of the configuration
+pub objects-read : (fieldCount : ℕ → ℕ) (b : List ℕ) → InOrder fieldCount b → configIn fieldCount b .stores .objects ≡ run (objectAt fieldCount b) 0 (counted b Objects)
+unfolding configIn rowsIn run
+objects-read fieldCount b o =
+    map-run (λ i. run (wordIn b Objects i) 0 (width Objects)) (objectOf fieldCount) 0 (counted b Objects)
+    ∙ run-same (λ i. objectOf fieldCount (run (wordIn b Objects i) 0 (width Objects))) (objectAt fieldCount b) 0 (counted b Objects) (λ i l u. same i (omega arith))
+  where
+    same : (i : ℕ) → i < counted b Objects → objectOf fieldCount (run (wordIn b Objects i) 0 (width Objects)) ≡ objectAt fieldCount b i
+    same i h =
+        let n = fieldCount (wordIn b Objects i 0) in
+        let e : map valueOf (take n (run (wordIn b Objects i) 2 8)) ≡ run (valueAt b i) 2 n = ap (map valueOf) (take-run (wordIn b Objects i) 2 8 n (o .objects i h .few)) ∙ map-run (wordIn b Objects i) valueOf 2 n in
+        λ t. record { class = wordIn b Objects i 0; shut = objectAt fieldCount b i .shut; fields = e t }

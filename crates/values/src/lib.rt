@@ -1,0 +1,7 @@
+// Question 21 in code, objects and bindings: do they fit?
+mod stores;
+mod wants;
+
+pub use stores::stores_fit;
+pub use stores::value_fits;
+pub use wants::meets;

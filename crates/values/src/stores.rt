@@ -1,0 +1,149 @@
+// The stores of a block: do its objects and bindings fit?
+use crate::wants::meets;
+use block::Area;
+use limits::Limits;
+use machine::Want;
+use members::Declared;
+use members::declared_as;
+use script::Section;
+use sections::count_of;
+use sections::own_count;
+use sections::record_word;
+ghost use mathlib.Core.Path.{_≡_};
+ghost use Prim.Native.Nat.{_+_, _<_, _≤_};
+ghost use Rattle.limits.specs.Limits.{CLASS-FIELDS};
+ghost use Rattle.script.specs.declared.Section.the-variants.{Fields};
+ghost use Rattle.script.specs.Lists.{run};
+ghost use Rattle.script.specs.Section.{countOf};
+ghost use Rattle.script.specs.Reading.{fieldAt};
+ghost use Rattle.members.specs.Tables.{Starts};
+ghost use Rattle.machine.specs.Config.{codeOf};
+ghost use Rattle.machine.specs.Machine.{fieldCount};
+ghost use Rattle.machine.specs.Decide.{valueFitsTest, fieldsTest, bindingTest, bindingsTest, storesTest};
+ghost use Rattle.block.specs.declared.Area.the-variants.{Objects, Bindings};
+ghost use Rattle.block.specs.Layout.{counted};
+ghost use Rattle.block.specs.Decode.{valueOf, configIn};
+ghost use Rattle.environments.specs.Chains.{bindingAt};
+ghost use Rattle.values.specs.Objects.{Asked, valueAt, objectAt, objectsIn, objectFits, objectsTest};
+
+// Does the value that a word stands for fit what is wanted? It is null, or an object that is there and whose class is the type wanted or below it: "value types
+// fit".
+pub fn value_fits(s: &[u8], block: &[u8], word: u16, want: Want) -> bool
+    requires { ⌜ Asked (now s) (now block) ⌝ }
+    ensures { λ r. ⌜ r ≡ valueFitsTest (codeOf (now (s .entry))) (objectsIn (now (s .entry)) (now (block .entry))) (valueOf word) want ⌝ }
+{
+    if word == 0 {
+        return true;
+    }
+    let o = word as usize - 1;
+    if areas::count(block, Area::Objects) <= o {
+        return false;
+    }
+    let class = areas::word(block, Area::Objects, o, 0);
+    meets(s, class, want)
+}
+
+// Do the values of object i fit the types of the fields whose records are the `count` from `from` on? WF-FIELDS.
+fn fields_fit(s: &[u8], block: &[u8], i: usize, from: usize, count: usize) -> bool
+    requires { ⌜ Asked (now s) (now block) × (i < counted (now block) Objects) × (from + count ≤ countOf (now s) Fields) × (count ≤ CLASS-FIELDS) ⌝ }
+    ensures { λ r. ⌜
+        r ≡ fieldsTest (codeOf (now (s .entry))) (objectsIn (now (s .entry)) (now (block .entry))) (run (fieldAt (now (s .entry))) from count)
+        (run (valueAt (now (block .entry)) i) 2 count)
+        ⌝ }
+{
+    let mut j = 0;
+    while j < count {
+        let t = record_word(s, Section::Fields, from + j, 1);
+        let word = areas::word(block, Area::Objects, i, 2 + j);
+        if !value_fits(s, block, word, Want::Upto(t)) {
+            return false;
+        }
+        j += 1;
+    }
+    true
+}
+
+// Is the class of object i a class, and does the value of each of its fields fit? WF-HEAP of one object.
+fn object_fits(s: &[u8], starts: &[u16], block: &[u8], i: usize) -> bool
+    requires { ⌜ Asked (now s) (now block) × Starts (now s) (now starts) × (i < counted (now block) Objects) ⌝ }
+    ensures { λ r. ⌜
+        r ≡ objectFits (codeOf (now (s .entry))) (objectsIn (now (s .entry)) (now (block .entry)))
+        (objectAt (fieldCount (now (s .entry))) (now (block .entry)) i)
+        ⌝ }
+{
+    let class = areas::word(block, Area::Objects, i, 0);
+    let d = declared_as(s, class);
+    match d {
+        Declared::Interface(_) => false,
+        Declared::Class(c) => {
+            let from = starts[Limits::INTERFACES + c] as usize;
+            let count = own_count(s, Section::Fields, c);
+            fields_fit(s, block, i, from, count)
+        }
+        Declared::Neither => false,
+    }
+}
+
+// Do all objects fit? WF-HEAP.
+fn objects_fit(s: &[u8], starts: &[u16], block: &[u8]) -> bool
+    requires { ⌜ Asked (now s) (now block) × Starts (now s) (now starts) ⌝ }
+    ensures { λ r. ⌜ r ≡ objectsTest (codeOf (now (s .entry))) (objectsIn (now (s .entry)) (now (block .entry))) ⌝ }
+{
+    let count = areas::count(block, Area::Objects);
+    let mut i = 0;
+    while i < count {
+        if !object_fits(s, starts, block, i) {
+            return false;
+        }
+        i += 1;
+    }
+    true
+}
+
+// Is the type of binding i a type (WF-ENV), does its value fit it (WF-VARS), and has it a link to an earlier binding or to none? "links run to earlier
+// bindings"
+fn binding_fits(s: &[u8], block: &[u8], i: usize) -> bool
+    requires { ⌜ Asked (now s) (now block) × (i < counted (now block) Bindings) ⌝ }
+    ensures { λ r. ⌜ r ≡ bindingTest (codeOf (now (s .entry))) (objectsIn (now (s .entry)) (now (block .entry))) i (bindingAt (now (block .entry)) i) ⌝ }
+{
+    let t = areas::word(block, Area::Bindings, i, 1);
+    let types = count_of(s, Section::Interfaces) + count_of(s, Section::Classes);
+    if types < t as usize {
+        return false;
+    }
+    let link = areas::word(block, Area::Bindings, i, 3);
+    if i < link as usize {
+        return false;
+    }
+    let word = areas::word(block, Area::Bindings, i, 2);
+    value_fits(s, block, word, Want::Upto(t))
+}
+
+// Do all bindings fit? The newest is asked first.
+fn bindings_fit(s: &[u8], block: &[u8]) -> bool
+    requires { ⌜ Asked (now s) (now block) ⌝ }
+    ensures { λ r. ⌜
+        r ≡ bindingsTest (codeOf (now (s .entry))) (objectsIn (now (s .entry)) (now (block .entry)))
+        (configIn (fieldCount (now (s .entry))) (now (block .entry)) .stores .bindings)
+        ⌝ }
+{
+    let mut n = areas::count(block, Area::Bindings);
+    while 0 < n {
+        if !binding_fits(s, block, n - 1) {
+            return false;
+        }
+        n -= 1;
+    }
+    true
+}
+
+// Do the stores fit? Γ ⊢ H and Γ ⊢ V of Figure 7: "value types fit" and "links run to earlier bindings".
+pub fn stores_fit(s: &[u8], starts: &[u16], block: &[u8]) -> bool
+    requires { ⌜ Asked (now s) (now block) × Starts (now s) (now starts) ⌝ }
+    ensures { λ r. ⌜ r ≡ storesTest (codeOf (now (s .entry))) (configIn (fieldCount (now (s .entry))) (now (block .entry)) .stores) ⌝ }
+{
+    if !objects_fit(s, starts, block) {
+        return false;
+    }
+    bindings_fit(s, block)
+}

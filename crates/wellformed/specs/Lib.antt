@@ -1,3 +1,0 @@
-pub mod Objects
-pub mod Locking
-pub mod Expecting
