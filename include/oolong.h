@@ -24,7 +24,7 @@
  * file and load it again, copy it to come back to that state later, and run the copies on in different ways. Lend it with the script that it was started with. You may also lend a block
  * that was changed, damaged or made by hand: if it is no well-formed state of the script the call is refused with OOLONG_NO_BLOCK_FORM, and if it is one, the run goes on from there.
  *
- * Stack. See OOLONG_STACK: the calls go as deep as the script's expressions are nested.
+ * Stack. See OOLONG_STACK and OOLONG_STACK_USUAL: the calls go as deep as the script's expressions are nested.
  */
 #ifndef OOLONG_H
 #define OOLONG_H
@@ -74,7 +74,7 @@ enum {
     OOLONG_NO_VARIABLE = 11,   /* a variable is not bound */
     OOLONG_NO_NULL = 12,       /* the type of a null is to be inferred */
     OOLONG_NO_MEMBER = 13,     /* the target's type lacks the field or method */
-    OOLONG_NO_FIT = 14,        /* an inferred type is not below the wanted one (place: the operand) */
+    OOLONG_NO_FIT = 14,        /* an inferred type is not below the wanted one (place: the node that does not fit: an operand, an argument, a value to write or a method's body) */
     OOLONG_NO_SHARING = 15,    /* the two asyncs of a fork share a variable (place: the fork) */
     OOLONG_NO_BLOCK_LENGTH = 20,  /* the block is not 49,152 bytes; place 0 */
     OOLONG_NO_BUFFER_LENGTH = 22, /* there are more than 4,096 choices (oolong_run), or the flags are not 63 bytes (oolong_offer); place 0. Asked before 21 */
@@ -93,9 +93,11 @@ enum {
     OOLONG_FULL_THREADS = 7
 };
 
-/* Stack that is enough for any of the calls, in bytes. The deepest script, 1,024 casts one in another, was measured to need 690,000 on x86-64; a script of the usual size needs
- * about 140,000. */
+/* Stack that is enough, in bytes, by measurement on x86-64. OOLONG_STACK is for any call on any script: the deepest, 1,023 casts one in another, needs 559,000 in oolong_check and oolong_start
+ * and 690,000 in oolong_offer and oolong_run. OOLONG_STACK_USUAL is for a script whose expressions are nested at most 64 deep: one like Figure 10 of the paper needs 141,000 in the first two calls
+ * and 272,200 in the others. Most of it is taken before anything is asked: a call that is refused at once needs 131,200 or 262,400. */
 #define OOLONG_STACK 1048576u
+#define OOLONG_STACK_USUAL 294912u
 #define OOLONG_CHECK_STACK OOLONG_STACK /* its name before the other calls were there */
 
 struct oolong_check_reply {

@@ -29,6 +29,6 @@ fn cases() -> Vec<(&'static str, Script, Script)> {
         ("deepest nesting", deepest(1024), deepest(512)),
         ("341 forks in a chain", forks(341, false), forks(170, false)),
         ("341 forks, left in left", forks(341, true), forks(170, true)),
-        ("340 forks with variables", forks_with_variables(204), forks_with_variables(102)),
+        ("204 forks with variables", forks_with_variables(204), forks_with_variables(102)),
     ]
 }

@@ -1,6 +1,6 @@
 /*
- * A converter that plays a script. `player STOP MOVES < script` starts it, always moves the first tree position that Offer flags, and must come to that stop after that many moves. Then it plays
- * the same choices again, as many as fit into each call, and asks for every refusal of Offer and Run. It prints nothing unless something is wrong.
+ * A converter that plays a script. `player STOP MOVES OBJECTS < script` starts it, always moves the first tree position that Offer flags, and must come to that stop after that many moves and with
+ * that many objects. Then it plays the same choices again, as many as fit into each call, and asks for every refusal of Offer and Run. It prints nothing unless something is wrong.
  */
 #include "lent.h"
 #include "oolong.h"
@@ -105,7 +105,7 @@ static void refusals(const uint8_t *block) {
 
 int main(int count, char **words) {
     static uint8_t block[OOLONG_BLOCK], again[OOLONG_BLOCK], first[OOLONG_BLOCK], choices[MOST_MOVES];
-    must(count == 3, "usage: player STOP MOVES < script");
+    must(count == 4, "usage: player STOP MOVES OBJECTS < script");
     script_len = fread(script, 1, sizeof script, stdin);
     must(oolong_check(script, script_len).number == OOLONG_OK, "the script is not accepted");
     memset(block, 0xaa, sizeof block);
@@ -117,8 +117,9 @@ int main(int count, char **words) {
     size_t made = 0;
     unsigned stop = play(block, choices, &made);
     size_t moves = made - (stop >= OOLONG_FULL_OBJECTS);
-    if (stop != (unsigned)atoi(words[1]) || moves != (size_t)atoi(words[2])) {
-        printf("FAIL  stopped with %u after %zu moves; wanted %s after %s\n", stop, moves, words[1], words[2]);
+    unsigned objects = block[0] + 256u * block[1]; /* docs/BLOCK.md: the first count of the header */
+    if (stop != (unsigned)atoi(words[1]) || moves != (size_t)atoi(words[2]) || objects != (unsigned)atoi(words[3])) {
+        printf("FAIL  stopped with %u after %zu moves with %u objects; wanted %s after %s with %s\n", stop, moves, objects, words[1], words[2], words[3]);
         return EXIT_FAILURE;
     }
     must((first_offered(block) == OOLONG_FLAGS) == (stop < OOLONG_FULL_OBJECTS), "an ended run offers a move, or one at a full store offers none");

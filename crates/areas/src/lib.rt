@@ -1,4 +1,4 @@
-// The state block in code: its words by area, and the changes that Start, Offer and Run make to it. Nothing is copied.
+// The state block in code: its words by area, and the changes that Start and Run make to it, where it stands.
 mod areas;
 mod frames;
 mod objects;

@@ -7,3 +7,5 @@ pub mod Still
 pub mod Reached
 pub mod Bytes
 pub mod Samples
+pub mod Blocks
+pub mod Promise

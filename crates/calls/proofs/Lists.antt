@@ -4,22 +4,29 @@ use mathlib.Core.Bool.{Bool, true, false, cond}
 use mathlib.Core.List.{List, [], _∷_, map}
 use Prim.Native.Nat.{ℕ, zero, suc, _<_, _≤_}
 use native.Mathlib.Omega.{arith}
+use mathlib.Core.Option.{Option, some}
 use lib.ListN.{length, getD, take}
 use borrow.Author.Tests.{leb-true, leb-false}
 use Rattle.limits.specs.Limits.{CHOICES}
 use Rattle.typing.specs.declared.Verdict.the-variants.{Accepted}
 use Rattle.typing.specs.Check.{checkOf}
-use Rattle.machine.specs.Config.{Config, codeOf}
+use Rattle.machine.specs.declared.Store.{Store}
+use Rattle.machine.specs.declared.Store.the-variants.{Objects, Bindings, Frames, Threads}
+use Rattle.machine.specs.declared.Ending.the-variants.{Finished, Failed, Deadlocked}
+use Rattle.machine.specs.declared.Stop.{Stop}
+use Rattle.machine.specs.Stops.{storeNumber, stopNumber}
+use Rattle.machine.specs.Config.{Code, Config, codeOf}
 use Rattle.machine.specs.Machine.{fieldCount, limits, initial}
 use Rattle.machine.specs.Calls.{Call, starts, offers, runs, refused, leaves, AnyCall, NotStart, Seen, at-first, between, after, Later, from-first, in-run, from-run, after-both, Next, next-choice, next-start, after-next}
-use Rattle.machine.specs.Runs.{report}
+use Rattle.machine.specs.Runs.{report, Stopped, spent, at-end, no-places}
+use Rattle.machine.proofs.Run.{run-read, run-leaves}
 use Rattle.machine.proofs.Calls.{demand-three}
 use Rattle.block.proofs.Decode.{one-config}
 use Rattle.calls.specs.Calls.{choicesFew, runOf}
 use Rattle.calls.specs.Answers.{Holds}
-use Rattle.calls.specs.Lists.{Lent, to-start, to-offer, to-run, blockAfter, AnyLent, NotToStart, Had, first-block, between-moves, after-call, HadLater, from-block, in-one-run, past-run, both-after, HadNext, one-choice, one-start, next-after, OfBoth, DemandThreeOf}
+use Rattle.calls.specs.Lists.{Lent, to-start, to-offer, to-run, blockAfter, AnyLent, NotToStart, Had, first-block, between-moves, after-call, HadLater, from-block, in-one-run, past-run, both-after, HadNext, one-choice, one-start, next-after, OfBoth, HadRun, this-run, run-after, StopSays, says-spent, says-finished, says-failed, says-deadlocked, says-full, StopOf, DemandThreeOf}
 use Rattle.calls.proofs.Answers.{accepts, holds-fits}
-use Rattle.calls.proofs.Replies.{offer-keeps, holds-long, holds-small, start-writes, run-holds, run-too-long}
+use Rattle.calls.proofs.Replies.{offer-keeps, holds-long, holds-small, start-writes, run-reply, run-holds, run-too-long}
 
 -- What a call comes to for the configuration: a refused Offer leaves what another does.
 abbrev callOf : Lent → Call
@@ -44,6 +51,20 @@ start-past : (call : Lent) → NotToStart call → NotStart (callOf call)
 start-past to-start u = absurd u
 start-past (to-offer fl) u = tt
 start-past (to-run ns) u = past-either (choicesFew ns) ns
+
+-- what the number of a stop says
+store-numbers : (k : Store) → (4 ≤ storeNumber k) × (storeNumber k ≤ 7)
+store-numbers Objects = (omega arith, omega arith)
+store-numbers Bindings = (omega arith, omega arith)
+store-numbers Frames = (omega arith, omega arith)
+store-numbers Threads = (omega arith, omega arith)
+
+says : {s : Code} {c : Config} {j : Stop} → Stopped s limits c j → StopSays s c (stopNumber j)
+says (spent m) = says-spent m
+says (at-end {k = Finished} e n) = says-finished n e
+says (at-end {k = Failed} e n) = says-failed n e
+says (at-end {k = Deadlocked} e n) = says-deadlocked n e
+says (no-places {k = k} n e) = says-full (store-numbers k .0) (store-numbers k .1) (record { position = n; moves = λ i. let z : _≡_ {A = ℕ} 0 1 = cc in omega arith })
 
 module _ (s : List ℕ) (bytes : (i : ℕ) → getD s i 0 < 256) (t : ℕ) (acc : checkOf s ≡ Accepted t) where
   call-holds : {b : List ℕ} {c : Config} → Holds s t b c → (call : Lent) → Holds s t (blockAfter s b call) (leaves (codeOf s) c (callOf call))
@@ -123,14 +144,14 @@ module _ (s : List ℕ) (bytes : (i : ℕ) → getD s i 0 < 256) (t : ℕ) (acc 
     point-past false e (suc m) l r = absurd (none-read h ns e m l)
 
     points-next : (a : Bool) → choicesFew ns ≡ a → (n : ℕ) → suc n ≤ runOf s b ns .read
-        → ShownTwo (Next (codeOf s) c (cond a (runs ns) refused ∷ calls)) (runOf s b (take n ns) .block) (runOf s b (take (suc n) ns) .block)
+        → ShownTwo (λ d e. Next (codeOf s) c (cond a (runs ns) refused ∷ calls) d (some (getD ns n 0)) e) (runOf s b (take n ns) .block) (runOf s b (take (suc n) ns) .block)
     points-next true e n l =
         record {
           one = report (codeOf s) limits c (take n ns) .config;
           two = report (codeOf s) limits c (take (suc n) ns) .config;
           holds-one = part-holds h ns e n;
           holds-two = part-holds h ns e (suc n);
-          related = next-choice ns n;
+          related = next-choice ns n (omega (arith, run-read (codeOf s) limits ns c, rw (run-reply s bytes t acc h ns (leb-true (length ns) CHOICES e)) at l));
         }
     points-next false e n l = absurd (none-read h ns e n l)
 
@@ -150,15 +171,30 @@ module _ (s : List ℕ) (bytes : (i : ℕ) → getD s i 0 < 256) (t : ℕ) (acc 
       let r = later-reached (call-holds h call) x in
       record { one = r .one; two = r .two; holds-one = r .holds-one; holds-two = r .holds-two; related = after-both (callOf call) (r .related) }
 
-  next-reached : {b d e : List ℕ} {c : Config} {calls : List Lent} → Holds s t b c → HadNext s b calls d e → ShownTwo (Next (codeOf s) c (map callOf calls)) d e
+  next-reached : {b d e : List ℕ} {o : Option ℕ} {c : Config} {calls : List Lent} → Holds s t b c → HadNext s b calls d o e
+      → ShownTwo (λ x y. Next (codeOf s) c (map callOf calls) x o y) d e
   next-reached h (one-choice {calls = calls} ns n l) = points-next h ns (map callOf calls) (choicesFew ns) refl n l
   next-reached {c = c} h one-start = record { one = c; two = initial; holds-one = h; holds-two = call-holds h to-start; related = next-start }
   next-reached h (next-after call x) =
       let r = next-reached (call-holds h call) x in
       record { one = r .one; two = r .two; holds-one = r .holds-one; holds-two = r .holds-two; related = after-next (callOf call) (r .related) }
 
+  -- A Run of the list that is not refused stops as the machine does.
+  stop-reached : {b d ns : List ℕ} {c : Config} {calls : List Lent} → Holds s t b c → HadRun s b calls d ns → runOf s d ns .number ≡ 0 → StopOf s t (runOf s d ns)
+  stop-reached {b} {c = c} h (this-run ns) z = go (choicesFew ns) refl
+    where
+      go : (a : Bool) → choicesFew ns ≡ a → StopOf s t (runOf s b ns)
+      go true e =
+          let k = run-leaves (accepts s bytes t acc) limits ns c (h .well) in
+          rw (run-reply s bytes t acc h ns (leb-true (length ns) CHOICES e))
+          (record { config = report (codeOf s) limits c ns .config; holds = record { is = refl; well = k .formed }; says = says (k .stopped) })
+      go false e =
+          let r = run-too-long s bytes t acc b ns (holds-long s bytes t acc h) (omega (arith, leb-false (length ns) CHOICES e)) in
+          absurd (omega (arith, rw r at z))
+  stop-reached h (run-after call x) z = stop-reached (call-holds h call) x z
+
   -- For every script that Check accepts, every block well formed for it, every list of Start, Offer and Run calls with that script on that block: the claim holds at the
-  -- first block, at every point between moves, and after every call; of every two such points with no Start between; and of every two that are neighbours.
+  -- first block, at every point between moves, and after every call; of every two such points with no Start between; of every two that are neighbours; and of every Run.
   pub demand-three-bytes : {b : List ℕ} {c : Config} (calls : List Lent) → Holds s t b c → DemandThreeOf s t b calls
   demand-three-bytes {c = c} calls h =
       let q = demand-three (accepts s bytes t acc) (map callOf calls) (h .well) in
@@ -175,4 +211,5 @@ module _ (s : List ℕ) (bytes : (i : ℕ) → getD s i 0 < 256) (t : ℕ) (acc 
             };
         kept = λ x. of-both (λ y z k. q .kept k) (later-reached h x);
         fails = λ x. of-both (λ y z k. q .fails k) (next-reached h x);
+        stops = λ x. stop-reached h x;
       }

@@ -14,12 +14,13 @@ use Rattle.machine.specs.Config.{Config, codeOf}
 use Rattle.machine.specs.Machine.{fieldCount, oneIf, limits, canMove, initial}
 use Rattle.machine.specs.Runs.{report}
 use Rattle.machine.proofs.Positions.{initial-well}
-use Rattle.machine.proofs.Run.{run-leaves}
+use Rattle.machine.proofs.Run.{run-read, run-leaves}
+use Rattle.published.proofs.Traces.{run-trace}
 use Rattle.block.proofs.Words.{encode-length}
 use Rattle.block.proofs.Fits.{encode-bytes}
 use Rattle.calls.specs.declared.LentQuestion.the-variants.{BufferLength}
 use Rattle.calls.specs.Calls.{Questioned, no-at, yes-with, lentNumber, flagsLong, startAsked, blockAsked, startOf, flagsOf, offeredFrom, offerOf, ran, runOf}
-use Rattle.calls.specs.Answers.{Holds}
+use Rattle.calls.specs.Answers.{Holds, TraceOf}
 use Rattle.calls.proofs.Answers.{accepts, holds-fits, holds-config}
 
 -- Offer never changes the block.
@@ -64,6 +65,20 @@ module _ (s : List ℕ) (bytes : (i : ℕ) → getD s i 0 < 256) (t : ℕ) (acc 
   pub run-holds : {b : List ℕ} {c : Config} → Holds s t b c → (ns : List ℕ) → length ns ≤ CHOICES
       → Holds s t (runOf s b ns .block) (report (codeOf s) limits c ns .config)
   run-holds {b} {c} h ns l = rw (run-reply h ns l) (record { is = refl; well = run-leaves (accepts s bytes t acc) limits ns c (h .well) .formed })
+
+  -- Its moves are published steps or silent ones, as many as it returns, each at the position that its choice names.
+  pub run-traced : {b : List ℕ} {c : Config} → Holds s t b c → (ns : List ℕ) → length ns ≤ CHOICES → TraceOf s b ns
+  run-traced {b} {c} h ns l =
+      record {
+        type = t;
+        accepted = acc;
+        before = c;
+        after = report (codeOf s) limits c ns .config;
+        had = h;
+        holds = run-holds h ns l;
+        few = rw (run-reply h ns l) (run-read (codeOf s) limits ns c);
+        trace = rw (run-reply h ns l) (run-trace (accepts s bytes t acc) limits ns c (h .well));
+      }
 
   -- Run with too many choices is refused, whatever the block holds.
   pub run-too-long : (b ns : List ℕ) → length b ≡ BLOCK → CHOICES < length ns

@@ -26,10 +26,10 @@ use Rattle.machine.proofs.Short.{stop-short}
 use Rattle.machine.proofs.Promise.{flag-set, flag-clear}
 use Rattle.block.specs.Block.{encode}
 use Rattle.calls.specs.Calls.{Offered, Ran, ran, flagsOf, offerOf, runOf}
-use Rattle.calls.specs.Answers.{Holds, FirstNoTo, by-script, by-length, by-buffer, by-form, OfferAnswers, offer-refused, offered, RunAnswers, run-refused, has-run, Left}
+use Rattle.calls.specs.Answers.{Holds, FirstNoTo, by-script, by-length, by-buffer, by-form, OfferAnswers, offer-refused, offered, RunAnswers, run-refused, has-run, Left, TraceOf}
 use Rattle.calls.specs.Lists.{runOnto}
 use Rattle.calls.proofs.Answers.{accepts, run-answers, offer-answers}
-use Rattle.calls.proofs.Replies.{flag-is, run-reply, run-holds}
+use Rattle.calls.proofs.Replies.{flag-is, run-reply, run-holds, run-traced}
 
 pub number-some : (q : Question) → numberOf q ≡ 0 → ⊥
 number-some Length e = omega arith
@@ -124,6 +124,12 @@ module _ (s : List ℕ) (bytes : (i : ℕ) → getD s i 0 < 256) where
   -- What a Run that is not refused leaves, and why it stopped.
   pub run-left : (b ns : List ℕ) → runOf s b ns .number ≡ 0 → Left s b ns
   run-left b ns e = left-by b ns (run-had (runOf s b ns) (run-answers s bytes b ns) e)
+
+  -- The moves of a Run that is not refused are published steps or silent ones, as many as it returns, each at the position that its choice names.
+  pub run-trace-bytes : (b ns : List ℕ) → runOf s b ns .number ≡ 0 → TraceOf s b ns
+  run-trace-bytes b ns e =
+      let x = run-had (runOf s b ns) (run-answers s bytes b ns) e in
+      run-traced s bytes (x .type) (x .accepted) (x .holds) ns (x .fine)
 
   goes-on : (b ns ms : List ℕ) → Opened s b (length ns ≤ CHOICES) → runOf s b ns .stop ≡ stopNumber Spent → length (ns ++ ms) ≤ CHOICES
       → runOf s b (ns ++ ms) ≡ runOnto (runOf s b ns) (runOf s (runOf s b ns .block) ms)

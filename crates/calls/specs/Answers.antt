@@ -5,7 +5,7 @@ use mathlib.Core.Bool.{Bool, true, false}
 use mathlib.Core.List.{List, [], _∷_, _++_}
 use mathlib.Core.Logic.{_⊎_}
 use mathlib.Core.Option.{Option, none, some}
-use lib.ListN.{length}
+use lib.ListN.{length, take}
 use Rattle.limits.specs.Limits.{BLOCK, CHOICES, FLAGS}
 use Rattle.script.specs.declared.Question.{Question}
 use Rattle.script.specs.Lists.{_∈_}
@@ -22,6 +22,7 @@ use Rattle.machine.specs.Runs.{Report, report, Runs, Stopped}
 use Rattle.published.specs.ReadAs.{Reading, reading}
 use Rattle.machine.specs.Short.{StopsShort}
 use Rattle.published.specs.Reach.{OneRun}
+use Rattle.published.specs.Traces.{Trace}
 use Rattle.block.specs.Block.{encode}
 use Rattle.calls.specs.declared.LentQuestion.the-variants.{BlockLength, BufferLength, BlockForm}
 use Rattle.calls.specs.Calls.{lentNumber, Started, Offered, flagsOf, Ran, ran, runOf}
@@ -82,6 +83,18 @@ pub record Left (s b ns : List ℕ) : Type 0 where
   pub spent : outcome .stop ≡ Spent → outcome .read ≡ length ns
   -- a store is full: the last choice read names a position whose move due needs more places than it has left
   pub full : {k : Store} → outcome .stop ≡ Full k → StopsShort (codeOf s) limits before ns outcome k
+
+-- The moves of a Run that is not refused: its first `read` choices lead by `moves` transitions, each of them one published step or a listed silent move at the
+-- position that its choice names, from the configuration that the block held to the one that it holds afterwards.
+pub record TraceOf (s b ns : List ℕ) : Type 0 where
+  pub type : ℕ
+  pub accepted : checkOf s ≡ Accepted type
+  pub before : Config
+  pub after : Config
+  pub had : Holds s type b before
+  pub holds : Holds s type (runOf s b ns .block) after
+  pub few : runOf s b ns .read ≤ length ns
+  pub trace : Trace (codeOf s) limits before (take (runOf s b ns .read) ns) (runOf s b ns .moves) after
 
 -- A buffer after a call is as long as before, and still bytes.
 pub record KeepsBytes (before after : List ℕ) : Type 0 where

@@ -2,10 +2,15 @@
 use Prim.Native.Nat.{ℕ, suc, _<_, _≤_, _+_}
 use mathlib.Core.Path.{_≡_}
 use mathlib.Core.List.{List, _∷_}
-use lib.ListN.{length, take}
+use mathlib.Core.Option.{Option, none, some}
+use lib.ListN.{length, getD, take}
 use Rattle.limits.specs.Limits.{BLOCK}
 use Rattle.script.specs.Lists.{_∈_}
-use Rattle.machine.specs.Config.{Config, codeOf}
+use Rattle.machine.specs.declared.Ending.the-variants.{Finished, Failed, Deadlocked}
+use Rattle.machine.specs.Config.{Code, Config, codeOf}
+use Rattle.machine.specs.Machine.{limits, still, choice}
+use Rattle.machine.specs.Standing.{End}
+use Rattle.machine.specs.Runs.{CanMove}
 use Rattle.machine.specs.Promise.{Kept}
 use Rattle.machine.specs.Calls.{Claimed, FailsOnNull}
 use Rattle.calls.specs.Calls.{Ran, startOf, offerOf, runOf}
@@ -32,8 +37,7 @@ NotToStart to-start = ⊥
 NotToStart (to-offer fl) = Unit {0}
 NotToStart (to-run ns) = Unit {0}
 
--- `Had s Past b calls e`: the list, begun at block b and followed past such calls, has block e "at the first block, at every point between moves .., and after
--- every call".
+-- `Had s Past b calls e`: the list, begun at block b and followed past such calls, has block e "at first, at each point between moves and after each call".
 pub data Had (s : List ℕ) (Past : Lent → Type 0) : List ℕ → List Lent → List ℕ → Type 0 where
   first-block : {b : List ℕ} {calls : List Lent} → Had s Past b calls b
   -- "the block that it would leave with only its first n choices, for each n from 0 to the choices read"
@@ -52,12 +56,19 @@ pub data HadLater (s : List ℕ) : List ℕ → List Lent → List ℕ → List 
       → HadLater s b (to-run ns ∷ calls) (runOf s b (take m ns) .block) e
   both-after : {b d e : List ℕ} {calls : List Lent} (call : Lent) → HadLater s (blockAfter s b call) calls d e → HadLater s b (call ∷ calls) d e
 
--- `HadNext s b calls d e`: two neighbours in the list, e with one choice more than d, or by a Start. (Offer and refused calls leave the block as it was.)
-pub data HadNext (s : List ℕ) : List ℕ → List Lent → List ℕ → List ℕ → Type 0 where
+-- `HadNext s b calls d o e`: two neighbours in the list, e with one choice more than d, which is o, or by a Start. (Offer and refused calls leave the block as
+-- it was.)
+pub data HadNext (s : List ℕ) : List ℕ → List Lent → List ℕ → Option ℕ → List ℕ → Type 0 where
   one-choice : {b : List ℕ} {calls : List Lent} (ns : List ℕ) (n : ℕ) → suc n ≤ runOf s b ns .read
-      → HadNext s b (to-run ns ∷ calls) (runOf s b (take n ns) .block) (runOf s b (take (suc n) ns) .block)
-  one-start : {b : List ℕ} {calls : List Lent} → HadNext s b (to-start ∷ calls) b (startOf s b .block)
-  next-after : {b d e : List ℕ} {calls : List Lent} (call : Lent) → HadNext s (blockAfter s b call) calls d e → HadNext s b (call ∷ calls) d e
+      → HadNext s b (to-run ns ∷ calls) (runOf s b (take n ns) .block) (some (getD ns n 0)) (runOf s b (take (suc n) ns) .block)
+  one-start : {b : List ℕ} {calls : List Lent} → HadNext s b (to-start ∷ calls) b none (startOf s b .block)
+  next-after : {b d e : List ℕ} {o : Option ℕ} {calls : List Lent} (call : Lent) → HadNext s (blockAfter s b call) calls d o e
+      → HadNext s b (call ∷ calls) d o e
+
+-- `HadRun s b calls d ns`: the list, begun at block b, has a Run with the choices ns on block d.
+pub data HadRun (s : List ℕ) : List ℕ → List Lent → List ℕ → List ℕ → Type 0 where
+  this-run : {b : List ℕ} {calls : List Lent} (ns : List ℕ) → HadRun s b (to-run ns ∷ calls) b ns
+  run-after : {b d ns : List ℕ} {calls : List Lent} (call : Lent) → HadRun s (blockAfter s b call) calls d ns → HadRun s b (call ∷ calls) d ns
 
 -- What demand 3 claims of a block that the list has: it is 49,152 bytes, and stands for a configuration that is well formed and of which the machine's claim
 -- holds.
@@ -74,13 +85,32 @@ pub record OfBoth (s : List ℕ) (t : ℕ) (Said : Config → Config → Type 0)
   pub later : Stands s t e
   pub said : {x y : Config} → Holds s t d x → Holds s t e y → Said x y
 
+-- What a stop says of the configuration that the Run leaves: "0, choices spent", "1 the root is a finished thread, 2 the root is a failed thread, 3 neither and
+-- no position can move", "4 objects, 5 bindings, 6 frames, 7 threads". With 1, 2 and 3 nothing can move, with the others something can: so it is 1, 2 or 3, for
+-- the three ends in order, exactly when nothing can move.
+pub data StopSays (s : Code) (c : Config) : ℕ → Type 0 where
+  says-spent : CanMove s limits c → StopSays s c 0
+  says-finished : ((n : ℕ) → choice s limits c n ≡ still) → End s c Finished → StopSays s c 1
+  says-failed : ((n : ℕ) → choice s limits c n ≡ still) → End s c Failed → StopSays s c 2
+  says-deadlocked : ((n : ℕ) → choice s limits c n ≡ still) → End s c Deadlocked → StopSays s c 3
+  says-full : {n : ℕ} → 4 ≤ n → n ≤ 7 → CanMove s limits c → StopSays s c n
+
+-- The block that a Run leaves stands for a configuration of which its stop speaks.
+pub record StopOf (s : List ℕ) (t : ℕ) (r : Ran) : Type 0 where
+  pub config : Config
+  pub holds : Holds s t (r .block) config
+  pub says : StopSays (codeOf s) config (r .stop)
+
 -- Demand 3, of a list of calls begun at block b: "one claim about the list, not a claim per call".
 pub record DemandThreeOf (s : List ℕ) (t : ℕ) (b : List ℕ) (calls : List Lent) : Type 0 where
   pub claimed : {e : List ℕ} → Had s AnyLent b calls e → ClaimedOf s t e
   -- "Objects and bindings are never freed": a binding once there keeps its name, type, value and link until the next Start
   pub kept : {d e : List ℕ} → HadLater s b calls d e → OfBoth s t Kept d e
   -- "no move makes a thread failed except at a null target or by a failed side"
-  pub fails : {d e : List ℕ} → HadNext s b calls d e → OfBoth s t (FailsOnNull (codeOf s)) d e
+  pub fails : {d e : List ℕ} {o : Option ℕ} → HadNext s b calls d o e → OfBoth s t (FailsOnNull (codeOf s) o) d e
+  -- each Run of the list that is not refused stops with 1, 2 or 3 exactly when nothing can move in the block that it leaves, which is then finished, failed or
+  -- deadlocked
+  pub stops : {d ns : List ℕ} → HadRun s b calls d ns → runOf s d ns .number ≡ 0 → StopOf s t (runOf s d ns)
 
 -- A Run that goes on where another stopped, the counts added.
 abbrev pub runOnto : Ran → Ran → Ran

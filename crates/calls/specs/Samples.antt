@@ -1,31 +1,37 @@
--- The starred samples of document 01 in one table, with one more that runs. `proofs/Samples.antt` has the one theorem over it.
-use Prim.Native.Nat.{ℕ, zero, suc, _/_}
+-- The samples of document 01 in one table, the starred ones first, with rows for what the theorems leave open; and buffers that do not fit, in another.
+-- `proofs/Samples.antt` has one theorem over each.
+use Prim.Native.Nat.{ℕ, zero, suc, _+_, _*_, _/_}
 use mathlib.Core.Path.{_≡_}
+use mathlib.Core.Bool.{true, false}
 use mathlib.Core.List.{List, [], _∷_}
-use lib.ListN.{length}
+use lib.ListN.{length, set, replicate}
 use Rattle.words.specs.Word.{bytes}
-use Rattle.limits.specs.Limits.{BLOCK}
+use Rattle.limits.specs.Limits.{BLOCK, FLAGS}
 use Rattle.script.specs.declared.Question.the-variants.{Types, Nulls, Fits, Sharing}
 use Rattle.script.specs.Lists.{_∈_}
 use Rattle.typing.specs.declared.Verdict.{Verdict}
 use Rattle.typing.specs.declared.Verdict.the-variants.{Accepted, Refused}
 use Rattle.typing.specs.Check.{checkOf}
-use Rattle.machine.specs.Config.{Config, codeOf}
-use Rattle.machine.specs.Machine.{limits, Phase, finished, broken, busy, phase, initial}
-use Rattle.machine.specs.WellFormed.{shutAt, WellFormed}
+use Rattle.machine.specs.declared.Value.{Value}
+use Rattle.machine.specs.declared.Value.the-variants.{Null as nil, Ref as ref}
+use Rattle.machine.specs.declared.Frame.{Frame}
+use Rattle.machine.specs.declared.Frame.the-variants.{Awaits as awaits, Casts as casts, Locks as locks}
+use Rattle.machine.specs.Config.{Config, codeOf, Object, Binding, Tree, running, returning, failed, join}
+use Rattle.machine.specs.Machine.{limits, initial}
+use Rattle.machine.specs.WellFormed.{WellFormed}
+use Rattle.block.specs.Rows.{filled}
 use Rattle.block.specs.Block.{encode}
-use Rattle.calls.specs.Calls.{startOf, runOf}
+use Rattle.calls.specs.Calls.{startOf, offerOf, runOf}
 
--- A Run right after Start: its choices; the stop, choices read and moves made that it returns; and of the configuration that it leaves, how the root stands,
--- how many objects there are, and 1 where object 0 is shut.
+-- A Run right after Start: its choices; the stop, choices read and moves made that it returns; the configuration that it leaves, whole; and Offer's flags on
+-- the block that it leaves, by position, those after the last one named being 0.
 pub record Trial : Type 0 where
   pub choices : List ℕ
   pub stop : ℕ
   pub read : ℕ
   pub moves : ℕ
-  pub root : Phase
-  pub objects : ℕ
-  pub shut : ℕ
+  pub config : Config
+  pub flags : List ℕ
 
 -- A script, what Check answers, and the Runs that the sample speaks of.
 pub record Sample : Type 0 where
@@ -34,18 +40,16 @@ pub record Sample : Type 0 where
   pub trials : List Trial
 
 -- What is said of a trial of the script s begun on block b: Start is not refused and writes the initial block; Run on that block is not refused, returns the
--- trial's numbers and leaves the block of a well-formed configuration that stands as the trial says.
+-- trial's numbers and leaves the block of the trial's configuration, a well-formed one; and Offer on that block is not refused and gives the trial's flags.
 pub record Tried (s b : List ℕ) (x : Trial) : Type 0 where
   pub started : startOf s b ≡ record { number = 0; place = 0; block = encode initial }
   pub type : ℕ
   pub accepted : checkOf s ≡ Accepted type
-  pub config : Config
-  pub well : WellFormed (codeOf s) limits type config
+  pub well : WellFormed (codeOf s) limits type (x .config)
   pub ran : runOf s (startOf s b .block) (x .choices)
-      ≡ record { number = 0; place = 0; stop = x .stop; read = x .read; moves = x .moves; block = encode config }
-  pub root : phase (config .tree) ≡ x .root
-  pub objects : length (config .stores .objects) ≡ x .objects
-  pub shut : shutAt (config .stores .objects) 0 ≡ x .shut
+      ≡ record { number = 0; place = 0; stop = x .stop; read = x .read; moves = x .moves; block = encode (x .config) }
+  pub offered : (fl : List ℕ) → length fl ≡ FLAGS
+      → offerOf s (encode (x .config)) fl ≡ record { number = 0; place = 0; block = encode (x .config); flags = filled FLAGS (x .flags) }
 
 -- What is said of a sample: Check answers its verdict, and each of its trials goes as it says, begun on any block of 49,152 bytes.
 pub record Sampled (x : Sample) : Type 0 where
@@ -66,10 +70,54 @@ unfoldable pub nodesWithField : List ℕ → List ℕ
 nodesWithField ns =
     bytes (24 ∷ 1 ∷ 30 ∷ 0 ∷ 30 ∷ 1 ∷ 36 ∷ 1 ∷ 40 ∷ 0 ∷ 40 ∷ length ns / 4 ∷ 0 ∷ 0 ∷ 0 ∷ 1 ∷ 1 ∷ 0 ∷ 0 ∷ 2 ∷ ns)
 
+-- The first again, where C has one method, of name 0, with these types and this body node.
+unfoldable pub nodesWithMethod : ℕ → ℕ → ℕ → List ℕ → List ℕ
+nodesWithMethod param result body ns =
+    bytes
+    (24 ∷ 1 ∷ 30 ∷ 0 ∷ 30 ∷ 1 ∷ 36 ∷ 0 ∷ 36 ∷ 1 ∷ 44 ∷ length ns / 4 ∷ 0 ∷ 0 ∷ 0 ∷ 1 ∷ 0 ∷ 1 ∷ 0 ∷ param ∷ result ∷ body ∷ ns)
+
 -- n choices of a position, and then others
 abbrev pub times : ℕ → ℕ → List ℕ → List ℕ
 times zero p l = l
 times (suc n) p l = p ∷ times n p l
+
+-- A configuration, an object of class C without a field, and a binding with its name, type, value and link.
+abbrev pub configured : List Object → List Binding → Tree → Config
+configured os bs t = record { stores = record { objects = os; bindings = bs }; tree = t }
+
+abbrev pub openC : Object
+openC = record { class = 2; shut = false; fields = [] }
+
+abbrev pub shutC : Object
+shutC = record { class = 2; shut = true; fields = [] }
+
+abbrev pub variable : ℕ → ℕ → Value → ℕ → Binding
+variable x t v e = record { name = x; type = t; value = v; link = e }
+
+-- x of let x = new C, where that is the first object and the first binding
+abbrev pub boundX : Binding
+boundX = variable 2 2 (ref 0) 0
+
+-- The bindings after let x = new C and n calls of a method on it, the k-th with this value: "a waiting call adds two, this with the object's class and the
+-- parameter with its declared type, and enters the body with no others".
+abbrev pub afterCalls : (ℕ → Value) → ℕ → List Binding
+afterCalls v zero = boundX ∷ []
+afterCalls v (suc n) = variable 1 2 (v (suc n)) (2 * suc n) ∷ variable 0 2 (ref 0) 0 ∷ afterCalls v n
+
+-- n rounds of the four cast frames of nodes 4 to 7, innermost first
+abbrev pub fourCasts : ℕ → List Frame
+fourCasts zero = []
+fourCasts (suc n) = casts 7 ∷ casts 6 ∷ casts 5 ∷ casts 4 ∷ fourCasts n
+
+-- n joins, each the left side of the one above it and with two bindings more
+abbrev pub leftJoins : ℕ → ℕ → Tree
+leftJoins zero e = running 4 e []
+leftJoins (suc n) e = join [] 7 e (leftJoins n (e + 2)) (running 6 e [])
+
+-- n rounds of four choices, each of the next position
+abbrev pub fourTimes : ℕ → ℕ → List ℕ
+fourTimes zero p = []
+fourTimes (suc n) p = times 4 p (fourTimes n (suc p))
 
 unfoldable pub samples : List Sample
 samples =
@@ -78,8 +126,8 @@ samples =
       script = nodesAlone (7 ∷ 0 ∷ 1 ∷ 0 ∷ 0 ∷ 0 ∷ 0 ∷ 0 ∷ []);
       verdict = Accepted 0;
       trials =
-          record { choices = times 9 0 []; stop = 1; read = 3; moves = 3; root = finished; objects = 0; shut = 0 } ∷
-          record { choices = times 2 0 []; stop = 0; read = 2; moves = 2; root = busy; objects = 0; shut = 0 } ∷
+          record { choices = times 9 0 []; stop = 1; read = 3; moves = 3; config = configured [] [] (returning nil []); flags = [] } ∷
+          record { choices = times 2 0 []; stop = 0; read = 2; moves = 2; config = configured [] [] (returning nil (casts 0 ∷ [])); flags = 1 ∷ [] } ∷
           [];
     } ∷
     -- "Start null: 12 at offset 24."
@@ -88,9 +136,7 @@ samples =
     record { script = nodesWithClass (6 ∷ 1 ∷ 0 ∷ 0 ∷ []); verdict = Refused Types 36; trials = [] } ∷
     -- "let x = new C in let y = (I)x in (C)y: 14 at the last y."
     record {
-      script =
-          nodesWithClass
-          (5 ∷ 2 ∷ 1 ∷ 2 ∷ 6 ∷ 2 ∷ 0 ∷ 0 ∷ 5 ∷ 3 ∷ 3 ∷ 5 ∷ 7 ∷ 1 ∷ 4 ∷ 0 ∷ 1 ∷ 2 ∷ 0 ∷ 0 ∷ 7 ∷ 2 ∷ 6 ∷ 0 ∷ 1 ∷ 3 ∷ 0 ∷ 0 ∷ []);
+      script = nodesWithClass (5 ∷ 2 ∷ 1 ∷ 2 ∷ 6 ∷ 2 ∷ 0 ∷ 0 ∷ 5 ∷ 3 ∷ 3 ∷ 5 ∷ 7 ∷ 1 ∷ 4 ∷ 0 ∷ 1 ∷ 2 ∷ 0 ∷ 0 ∷ 7 ∷ 2 ∷ 6 ∷ 0 ∷ 1 ∷ 3 ∷ 0 ∷ 0 ∷ []);
       verdict = Refused Fits 84;
       trials = [];
     } ∷
@@ -105,8 +151,15 @@ samples =
       script = nodesWithClass (5 ∷ 2 ∷ 1 ∷ 2 ∷ 6 ∷ 2 ∷ 0 ∷ 0 ∷ 9 ∷ 2 ∷ 3 ∷ 0 ∷ 9 ∷ 2 ∷ 4 ∷ 0 ∷ 1 ∷ 2 ∷ 0 ∷ 0 ∷ []);
       verdict = Accepted 2;
       trials =
-          record { choices = times 7 0 []; stop = 1; read = 7; moves = 7; root = finished; objects = 1; shut = 0 } ∷
-          record { choices = times 6 0 []; stop = 0; read = 6; moves = 6; root = busy; objects = 1; shut = 1 } ∷
+          record { choices = times 7 0 []; stop = 1; read = 7; moves = 7; config = configured (openC ∷ []) (boundX ∷ []) (returning (ref 0) []); flags = [] } ∷
+          record {
+            choices = times 6 0 [];
+            stop = 0;
+            read = 6;
+            moves = 6;
+            config = configured (shutC ∷ []) (boundX ∷ []) (returning (ref 0) (locks 0 ∷ []));
+            flags = 1 ∷ [];
+          } ∷
           [];
     } ∷
     -- "let x = (C)null in lock x in x: failed at move 6."
@@ -114,39 +167,234 @@ samples =
       script = nodesWithClass (5 ∷ 2 ∷ 1 ∷ 2 ∷ 7 ∷ 2 ∷ 3 ∷ 0 ∷ 9 ∷ 2 ∷ 4 ∷ 0 ∷ 0 ∷ 0 ∷ 0 ∷ 0 ∷ 1 ∷ 2 ∷ 0 ∷ 0 ∷ []);
       verdict = Accepted 2;
       trials =
-          record { choices = times 6 0 []; stop = 2; read = 6; moves = 6; root = broken; objects = 0; shut = 0 } ∷
-          record { choices = times 5 0 []; stop = 0; read = 5; moves = 5; root = busy; objects = 0; shut = 0 } ∷
+          record { choices = times 6 0 []; stop = 2; read = 6; moves = 6; config = configured [] (variable 2 2 nil 0 ∷ []) failed; flags = [] } ∷
+          record { choices = times 5 0 []; stop = 0; read = 5; moves = 5; config = configured [] (variable 2 2 nil 0 ∷ []) (running 2 1 []); flags = 1 ∷ [] } ∷
           [];
     } ∷
     -- "let x = new C in lock x in fork{(Unit)null}{lock x in x}; x: choices 0 five times, 1 three times: stop 3, moves 8."
     record {
       script =
           nodesWithClass
-          (5 ∷ 2 ∷ 1 ∷ 2 ∷ 6 ∷ 2 ∷ 0 ∷ 0 ∷ 9 ∷ 2 ∷ 3 ∷ 0 ∷ 8 ∷ 4 ∷ 5 ∷ 6 ∷ 7 ∷ 0 ∷ 7 ∷ 0 ∷ 9 ∷ 2 ∷ 8 ∷ 0 ∷ 1 ∷ 2 ∷ 0 ∷ 0 ∷ 0 ∷ 0 ∷ 0 ∷ 0 ∷ 1 ∷ 2 ∷ 0 ∷ 0 ∷ []);
+          (5 ∷ 2 ∷ 1 ∷ 2 ∷ 6 ∷ 2 ∷ 0 ∷ 0 ∷ 9 ∷ 2 ∷ 3 ∷ 0 ∷ 8 ∷ 4 ∷ 5 ∷ 6 ∷ 7 ∷ 0 ∷ 7 ∷ 0 ∷ 9 ∷ 2 ∷ 8 ∷ 0 ∷ 1 ∷ 2 ∷ 0 ∷ 0 ∷ 0 ∷ 0 ∷ 0 ∷ 0
+          ∷ 1 ∷ 2 ∷ 0 ∷ 0 ∷ []);
       verdict = Accepted 2;
-      trials = record { choices = times 5 0 (times 3 1 []); stop = 3; read = 8; moves = 8; root = busy; objects = 1; shut = 1 } ∷ [];
+      trials =
+          record {
+            choices = times 5 0 (times 3 1 []);
+            stop = 3;
+            read = 8;
+            moves = 8;
+            config = configured (shutC ∷ []) (boundX ∷ []) (join (locks 0 ∷ []) 6 1 (returning nil []) (running 5 1 []));
+            flags = [];
+          } ∷
+          [];
     } ∷
-    -- "An alias y = x, fork{lock x in x}{lock y in y}: accepted; each waits while the other holds.": one async takes the lock, and the other is passed over,
-    -- both ways round.
+    -- "An alias y = x, fork{lock x in x}{lock y in y}: accepted; each waits while the other holds.": one async takes the lock, and the other is passed over
+    -- and has flag 0, both ways round.
     record {
       script =
           nodesWithClass
-          (5 ∷ 2 ∷ 1 ∷ 2 ∷ 6 ∷ 2 ∷ 0 ∷ 0 ∷ 5 ∷ 3 ∷ 3 ∷ 4 ∷ 1 ∷ 2 ∷ 0 ∷ 0
-          ∷ 8 ∷ 5 ∷ 6 ∷ 7 ∷ 9 ∷ 2 ∷ 8 ∷ 0 ∷ 9 ∷ 3 ∷ 9 ∷ 0 ∷ 1 ∷ 2 ∷ 0 ∷ 0 ∷ 1 ∷ 2 ∷ 0 ∷ 0 ∷ 1 ∷ 3 ∷ 0 ∷ 0 ∷ []);
+          (5 ∷ 2 ∷ 1 ∷ 2 ∷ 6 ∷ 2 ∷ 0 ∷ 0 ∷ 5 ∷ 3 ∷ 3 ∷ 4 ∷ 1 ∷ 2 ∷ 0 ∷ 0 ∷ 8 ∷ 5 ∷ 6 ∷ 7 ∷ 9 ∷ 2 ∷ 8 ∷ 0 ∷ 9 ∷ 3 ∷ 9 ∷ 0 ∷ 1 ∷ 2 ∷ 0 ∷ 0
+          ∷ 1 ∷ 2 ∷ 0 ∷ 0 ∷ 1 ∷ 3 ∷ 0 ∷ 0 ∷ []);
       verdict = Accepted 2;
       trials =
-          record { choices = times 7 0 (1 ∷ 2 ∷ []); stop = 0; read = 9; moves = 8; root = busy; objects = 1; shut = 1 } ∷
-          record { choices = times 7 0 (2 ∷ 1 ∷ []); stop = 0; read = 9; moves = 8; root = busy; objects = 1; shut = 1 } ∷
+          record {
+            choices = times 7 0 (1 ∷ 2 ∷ []);
+            stop = 0;
+            read = 9;
+            moves = 8;
+            config = configured (shutC ∷ []) (variable 3 2 (ref 0) 1 ∷ boundX ∷ []) (join [] 7 2 (running 8 2 (locks 0 ∷ [])) (running 6 2 []));
+            flags = 0 ∷ 1 ∷ 0 ∷ [];
+          } ∷
+          record {
+            choices = times 7 0 (2 ∷ 1 ∷ []);
+            stop = 0;
+            read = 9;
+            moves = 8;
+            config = configured (shutC ∷ []) (variable 3 2 (ref 0) 1 ∷ boundX ∷ []) (join [] 7 2 (running 5 2 []) (running 9 2 (locks 0 ∷ [])));
+            flags = 0 ∷ 0 ∷ 1 ∷ [];
+          } ∷
           [];
     } ∷
-    -- Not starred: "A write to null whose value is `new C`: one object, then failed." It is let x = (C)null in x.0 = new C; after move 7 there is the object,
-    -- move 8 fails.
+    -- Not starred, nor are those below: "A write to null whose value is `new C`: one object, then failed." It is let x = (C)null in x.0 = new C; after move 7
+    -- there is the object, move 8 fails.
     record {
       script = nodesWithField (5 ∷ 2 ∷ 1 ∷ 2 ∷ 7 ∷ 2 ∷ 3 ∷ 0 ∷ 3 ∷ 2 ∷ 0 ∷ 4 ∷ 0 ∷ 0 ∷ 0 ∷ 0 ∷ 6 ∷ 2 ∷ 0 ∷ 0 ∷ []);
       verdict = Accepted 0;
       trials =
-          record { choices = times 7 0 []; stop = 0; read = 7; moves = 7; root = busy; objects = 1; shut = 0 } ∷
-          record { choices = times 8 0 []; stop = 2; read = 8; moves = 8; root = broken; objects = 1; shut = 0 } ∷
+          record {
+            choices = times 7 0 [];
+            stop = 0;
+            read = 7;
+            moves = 7;
+            config = configured (record { class = 2; shut = false; fields = nil ∷ [] } ∷ []) (variable 2 2 nil 0 ∷ []) (returning (ref 0) (awaits 2 1 ∷ []));
+            flags = 1 ∷ [];
+          } ∷
+          record {
+            choices = times 8 0 [];
+            stop = 2;
+            read = 8;
+            moves = 8;
+            config = configured (record { class = 2; shut = false; fields = nil ∷ [] } ∷ []) (variable 2 2 nil 0 ∷ []) failed;
+            flags = [];
+          } ∷
           [];
     } ∷
+    -- "a waiting let adds one binding, its type the one inferred for the let's first part under the frame's bindings": let x = (I) new C in x. The type is I,
+    -- not the object's class C.
+    record {
+      script = nodesWithClass (5 ∷ 2 ∷ 1 ∷ 2 ∷ 7 ∷ 1 ∷ 3 ∷ 0 ∷ 1 ∷ 2 ∷ 0 ∷ 0 ∷ 6 ∷ 2 ∷ 0 ∷ 0 ∷ []);
+      verdict = Accepted 1;
+      trials =
+          record {
+            choices = times 5 0 [];
+            stop = 0;
+            read = 5;
+            moves = 5;
+            config = configured (openC ∷ []) (variable 2 1 (ref 0) 0 ∷ []) (running 2 1 []);
+            flags = 1 ∷ [];
+          } ∷
+          record {
+            choices = times 6 0 [];
+            stop = 1;
+            read = 6;
+            moves = 6;
+            config = configured (openC ∷ []) (variable 2 1 (ref 0) 0 ∷ []) (returning (ref 0) []);
+            flags = [];
+          } ∷
+          [];
+    } ∷
+    -- "a waiting call adds two, this with the object's class and the parameter with its declared type, and enters the body with no others": C has a method with
+    -- a parameter of type I that gives it back; let x = new C in x.0(x). `this` has type C and no binding beneath, the parameter type I and `this` beneath.
+    record {
+      script = nodesWithMethod 1 1 4 (5 ∷ 2 ∷ 1 ∷ 2 ∷ 6 ∷ 2 ∷ 0 ∷ 0 ∷ 4 ∷ 2 ∷ 0 ∷ 3 ∷ 1 ∷ 2 ∷ 0 ∷ 0 ∷ 1 ∷ 1 ∷ 0 ∷ 0 ∷ []);
+      verdict = Accepted 1;
+      trials =
+          record {
+            choices = times 6 0 [];
+            stop = 0;
+            read = 6;
+            moves = 6;
+            config = configured (openC ∷ []) (variable 1 1 (ref 0) 2 ∷ variable 0 2 (ref 0) 0 ∷ boundX ∷ []) (running 4 3 []);
+            flags = 1 ∷ [];
+          } ∷
+          record {
+            choices = times 7 0 [];
+            stop = 1;
+            read = 7;
+            moves = 7;
+            config = configured (openC ∷ []) (variable 1 1 (ref 0) 2 ∷ variable 0 2 (ref 0) 0 ∷ boundX ∷ []) (returning (ref 0) []);
+            flags = [];
+          } ∷
+          [];
+    } ∷
+    -- "the 256th object is made, the 257th gives stop 4": a method's body is this.0(new C), and the start let x = new C in x.0(new C).
+    record {
+      script = nodesWithMethod 2 2 4 (5 ∷ 2 ∷ 1 ∷ 2 ∷ 6 ∷ 2 ∷ 0 ∷ 0 ∷ 4 ∷ 2 ∷ 0 ∷ 3 ∷ 6 ∷ 2 ∷ 0 ∷ 0 ∷ 4 ∷ 0 ∷ 0 ∷ 5 ∷ 6 ∷ 2 ∷ 0 ∷ 0 ∷ []);
+      verdict = Accepted 2;
+      trials =
+          record {
+            choices = times 900 0 [];
+            stop = 4;
+            read = 770;
+            moves = 769;
+            config = configured (replicate 256 openC) (afterCalls ref 255) (running 5 511 (awaits 4 511 ∷ []));
+            flags = 1 ∷ [];
+          } ∷
+          [];
+    } ∷
+    -- "5 bindings", "as bindings with one place left are for a call": the body is this.0(x), the start let x = new C in x.0(x). 2,047 bindings are there.
+    record {
+      script = nodesWithMethod 2 2 4 (5 ∷ 2 ∷ 1 ∷ 2 ∷ 6 ∷ 2 ∷ 0 ∷ 0 ∷ 4 ∷ 2 ∷ 0 ∷ 3 ∷ 1 ∷ 2 ∷ 0 ∷ 0 ∷ 4 ∷ 0 ∷ 0 ∷ 5 ∷ 1 ∷ 1 ∷ 0 ∷ 0 ∷ []);
+      verdict = Accepted 2;
+      trials =
+          record {
+            choices = times 4000 0 [];
+            stop = 5;
+            read = 3075;
+            moves = 3074;
+            config = configured (openC ∷ []) (afterCalls (λ n. ref 0) 1023) (returning (ref 0) (awaits 4 2047 ∷ []));
+            flags = 1 ∷ [];
+          } ∷
+          [];
+    } ∷
+    -- "6 frames": the body is (C)(C)(C)(C)this.0(x). 2,048 frames wait, and the call would leave one more.
+    record {
+      script =
+          nodesWithMethod 2 2 4
+          (5 ∷ 2 ∷ 1 ∷ 2 ∷ 6 ∷ 2 ∷ 0 ∷ 0 ∷ 4 ∷ 2 ∷ 0 ∷ 3 ∷ 1 ∷ 2 ∷ 0 ∷ 0 ∷ 7 ∷ 2 ∷ 5 ∷ 0 ∷ 7 ∷ 2 ∷ 6 ∷ 0 ∷ 7 ∷ 2 ∷ 7 ∷ 0 ∷ 7 ∷ 2 ∷ 8 ∷ 0
+          ∷ 4 ∷ 0 ∷ 0 ∷ 9 ∷ 1 ∷ 1 ∷ 0 ∷ 0 ∷ []);
+      verdict = Accepted 2;
+      trials =
+          record {
+            choices = times 4000 0 [];
+            stop = 6;
+            read = 3588;
+            moves = 3587;
+            config = configured (openC ∷ []) (afterCalls (λ n. ref 0) 512) (running 8 1025 (fourCasts 512));
+            flags = 1 ∷ [];
+          } ∷
+          [];
+    } ∷
+    -- "7 threads": the body is fork{this.0(x)}{new C}; x. 32 threads are there, and the left one of the innermost join stands at one more fork: it "counts as
+    -- able", as do the 31 that stand at new C.
+    record {
+      script =
+          nodesWithMethod 2 2 4
+          (5 ∷ 2 ∷ 1 ∷ 2 ∷ 6 ∷ 2 ∷ 0 ∷ 0 ∷ 4 ∷ 2 ∷ 0 ∷ 3 ∷ 1 ∷ 2 ∷ 0 ∷ 0 ∷ 8 ∷ 5 ∷ 6 ∷ 7 ∷ 4 ∷ 0 ∷ 0 ∷ 8 ∷ 6 ∷ 2 ∷ 0 ∷ 0 ∷ 1 ∷ 1 ∷ 0 ∷ 0
+          ∷ 1 ∷ 1 ∷ 0 ∷ 0 ∷ []);
+      verdict = Accepted 2;
+      trials =
+          record {
+            choices = times 7 0 (fourTimes 31 1);
+            stop = 7;
+            read = 131;
+            moves = 130;
+            config = configured (openC ∷ []) (afterCalls (λ n. ref 0) 32) (leftJoins 31 3);
+            flags = times 31 0 (times 32 1 []);
+          } ∷
+          [];
+    } ∷
+    []
+
+-- What is lent beside an accepted script where it does not fit: a block, Offer's flags and Run's choices; Start's number, and the block as Start leaves it; and
+-- the number of Offer and Run.
+pub record LentCase : Type 0 where
+  pub block : List ℕ
+  pub flags : List ℕ
+  pub choices : List ℕ
+  pub start : ℕ
+  pub written : List ℕ
+  pub number : ℕ
+
+-- "A refusal returns its number and place, with every other number 0, and lent buffers unchanged", and the place is 0 "for questions 1 to 3, 5 and any about a
+-- block, a choice list or another lent buffer".
+pub record LentRefused (s : List ℕ) (x : LentCase) : Type 0 where
+  pub started : startOf s (x .block) ≡ record { number = x .start; place = 0; block = x .written }
+  pub offered : offerOf s (x .block) (x .flags) ≡ record { number = x .number; place = 0; block = x .block; flags = x .flags }
+  pub ran : runOf s (x .block) (x .choices) ≡ record { number = x .number; place = 0; stop = 0; read = 0; moves = 0; block = x .block }
+
+-- That many zeros, and the initial block with its last byte changed.
+unfoldable pub zeros : ℕ → List ℕ
+zeros n = replicate n 0
+
+unfoldable pub lastChanged : List ℕ
+lastChanged = set (encode initial) 49151 1
+
+unfoldable pub lentCases : List LentCase
+lentCases =
+    -- "Is the state block 49,152 bytes? 20"
+    record { block = zeros 49151; flags = zeros 63; choices = zeros 4096; start = 20; written = zeros 49151; number = 20 } ∷
+    record { block = zeros 49153; flags = zeros 63; choices = zeros 4096; start = 20; written = zeros 49153; number = 20 } ∷
+    -- "Is the choice list at most 4,096 bytes (Run), or the flag buffer exactly 63 (Offer)? 22", which Start does not ask
+    record { block = encode initial; flags = zeros 62; choices = zeros 4097; start = 0; written = encode initial; number = 22 } ∷
+    record { block = encode initial; flags = zeros 64; choices = zeros 4097; start = 0; written = encode initial; number = 22 } ∷
+    -- "Is the block a well-formed configuration of this script? 21", which Start does not ask: "Start writes the initial block over anything"; a block of zeros
+    -- has no thread
+    record { block = zeros 49152; flags = zeros 63; choices = zeros 4096; start = 0; written = encode initial; number = 21 } ∷
+    -- "bytes with no meaning are 0, else 21"
+    record { block = lastChanged; flags = zeros 63; choices = zeros 4096; start = 0; written = encode initial; number = 21 } ∷
+    -- "Questions to a call, in order": 20 before 22, and 22 before 21
+    record { block = zeros 49151; flags = zeros 62; choices = zeros 4097; start = 20; written = zeros 49151; number = 20 } ∷
+    record { block = zeros 49152; flags = zeros 62; choices = zeros 4097; start = 0; written = encode initial; number = 22 } ∷
     []

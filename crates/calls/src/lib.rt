@@ -1,4 +1,4 @@
-// The four calls on byte lists: the questions about lent buffers, with their numbers; definitions and theorems so far for the rest.
+// The four calls on byte lists: the questions about lent buffers, with their numbers. All else is definitions and theorems; the calls' code is in `engine`.
 mod numbers;
 
 pub use numbers::lent_number;

@@ -1,13 +1,16 @@
 // Check: questions 1 to 15, in order.
+use inference::FEW_NAMES;
 use inference::name_bound;
 use inference::walk_script;
 use interfaces::classes_no;
 use interfaces::joins_no;
 use limits::Limits;
+use members::RUNS;
 use members::fill_starts;
 use script::Found;
 use script::Question;
 use script::Section;
+use sharing::NAMES;
 use sharing::fill_forks;
 use typing::Answer;
 use typing::Verdict;
@@ -18,15 +21,8 @@ ghost use Rattle.typing.specs.Check.{checkOf, walked};
 ghost use Rattle.checker.specs.Stages.{NodeThere, walkStage, memberStage, recordStage};
 ghost use Rattle.members.specs.Tables.{Starts};
 ghost use Rattle.sharing.specs.Tables.{Forks};
-ghost use Rattle.inference.specs.Tables.{Named};
-
-// A place for each run of signatures, fields and methods.
-const RUNS: usize = Limits::INTERFACES + Limits::CLASSES + Limits::CLASSES;
-
-// The variable names that a word can be, and as many as most scripts are content with.
-const NAMES: usize = 65536;
-
-const FEW_NAMES: usize = 1024;
+ghost use Rattle.sharing.specs.Free.{NAMES};
+ghost use Rattle.inference.specs.Tables.{FEW-NAMES, Named};
 
 // The walk's answer, with the node's record as the place.
 fn placed(s: &[u8], a: Answer) -> Verdict
@@ -44,7 +40,7 @@ fn placed(s: &[u8], a: Answer) -> Verdict
 
 // The walk with a table for the variables below 1,024, which most scripts are content with.
 fn walk_small(s: &[u8], starts: &[u16], forks: &[u8]) -> Verdict
-    requires { ⌜ WithinLayout (now s) × Starts (now s) (now starts) × Forks (now s) (now forks) × Named (now s) 1024 ⌝ }
+    requires { ⌜ WithinLayout (now s) × Starts (now s) (now starts) × Forks (now s) (now forks) × Named (now s) FEW-NAMES ⌝ }
     ensures { λ r. ⌜ r ≡ walkStage (now (s .entry)) ⌝ }
 {
     let mut env = [0u16; FEW_NAMES];
@@ -54,7 +50,7 @@ fn walk_small(s: &[u8], starts: &[u16], forks: &[u8]) -> Verdict
 
 // The walk with a table for every variable.
 fn walk_large(s: &[u8], starts: &[u16], forks: &[u8]) -> Verdict
-    requires { ⌜ WithinLayout (now s) × Starts (now s) (now starts) × Forks (now s) (now forks) × Named (now s) 65536 ⌝ }
+    requires { ⌜ WithinLayout (now s) × Starts (now s) (now starts) × Forks (now s) (now forks) × Named (now s) NAMES ⌝ }
     ensures { λ r. ⌜ r ≡ walkStage (now (s .entry)) ⌝ }
 {
     let mut env = [0u16; NAMES];

@@ -5,19 +5,19 @@ use moves::Effect;
 use moves::Step;
 use moves::become_join;
 use moves::become_null;
-use moves::bind_value;
-use moves::drop_cast;
 use moves::enter_lock;
-use moves::enter_method;
 use moves::give_value;
 use moves::leave_frame;
 use moves::make_object;
-use moves::open_lock;
 use moves::read_field;
-use moves::store_value;
 use script::Section;
 use sections::record_word;
 use tree::Tree;
+use waiting::bind_value;
+use waiting::drop_cast;
+use waiting::enter_method;
+use waiting::open_lock;
+use waiting::store_value;
 ghost use mathlib.Core.Path.{_≡_};
 ghost use mathlib.Core.List.{List, [], _∷_};
 ghost use Prim.Native.Nat.{_<_};
@@ -48,7 +48,7 @@ fn node_word(s: &[u8], n: u16, j: usize) -> u16
     record_word(s, Section::Nodes, n as usize, j)
 }
 
-// "Program points are the script's nodes": the move of a thread at node a.
+// The move of a thread at node a.
 pub fn run_node(
     s: &[u8],
     starts: &[u16],

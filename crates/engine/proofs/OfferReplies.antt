@@ -13,8 +13,17 @@ use Rattle.typing.specs.declared.Verdict.the-variants.{Accepted, Refused}
 use Rattle.typing.specs.Check.{checkOf, verdictNumber, verdictPlace}
 use Rattle.machine.specs.Config.{Config}
 use Rattle.calls.specs.declared.LentQuestion.the-variants.{BlockLength, BufferLength, BlockForm}
-use Rattle.calls.specs.Calls.{lentNumber, configOf, askForm, blockAsked, offeredFrom, offerOf}
+use Rattle.calls.specs.Calls.{Questioned, no-at, yes-with, flagsLong, lentNumber, configOf, askForm, blockAsked, offeredFrom, offerOf}
 use Rattle.calls.specs.Answers.{found}
+
+-- "the block stays as it was"
+pub offer-block : (s b fl : List ℕ) → b ≡ offerOf s b fl .block
+unfolding offerOf
+offer-block s b fl = go (blockAsked s b (flagsLong fl))
+  where
+    go : (q : Questioned) → b ≡ offeredFrom s b fl q .block
+    go (no-at n place) = refl
+    go (yes-with c) = refl
 
 module _ (s b fl : List ℕ) where
   abbrev pub OfferSays : ℕ → ℕ → List ℕ → Type 0

@@ -3,7 +3,7 @@ use typing::Verdict;
 ghost use mathlib.Core.Path.{_≡_};
 ghost use Rattle.typing.specs.Check.{checkOf, verdictNumber, verdictPlace, verdictType};
 
-// Check's reply: the number of the question that gets a no and its place, or 0, 0 and the start's type. All by value, so no lent byte is written.
+// Check's reply: the number of the question that gets a no and its place, or 0, 0 and the start's type.
 #[repr(C)]
 pub struct CheckReply {
     pub number: u16,
@@ -14,6 +14,7 @@ pub struct CheckReply {
 // Check: questions 1 to 15 about a script, whatever its bytes and its length.
 #[no_mangle]
 pub extern "C" fn oolong_check(script: &[u8]) -> CheckReply
+    ensures script { λ r. ⌜ now (script .exit) ≡ now (script .entry) ⌝ }
     ensures number { λ r. ⌜ r .number ≡ verdictNumber (checkOf (now (script .entry))) ⌝ }
     ensures place { λ r. ⌜ r .place ≡ verdictPlace (checkOf (now (script .entry))) ⌝ }
     ensures start_type { λ r. ⌜ r .«start_type» ≡ verdictType (checkOf (now (script .entry))) ⌝ }

@@ -31,6 +31,8 @@ fn refusal(number: u16, place: u16) -> RunReply
 // Run: questions 1 to 15 about the script, then 20, 22 and 21. A yes to all makes the moves that the choices name; a no leaves every byte as it was.
 #[no_mangle]
 pub extern "C" fn oolong_run(script: &[u8], block: &mut [u8], choices: &[u8]) -> RunReply
+    ensures script { λ r. ⌜ now (script .exit) ≡ now (script .entry) ⌝ }
+    ensures choices { λ r. ⌜ now (choices .exit) ≡ now (choices .entry) ⌝ }
     ensures number { λ r. ⌜ r .number ≡ runOf (now (script .entry)) (now (block .entry)) (now (choices .entry)) .number ⌝ }
     ensures place { λ r. ⌜ r .place ≡ runOf (now (script .entry)) (now (block .entry)) (now (choices .entry)) .place ⌝ }
     ensures stop { λ r. ⌜ r .stop ≡ runOf (now (script .entry)) (now (block .entry)) (now (choices .entry)) .stop ⌝ }

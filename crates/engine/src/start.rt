@@ -16,6 +16,7 @@ pub struct StartReply {
 // it was.
 #[no_mangle]
 pub extern "C" fn oolong_start(script: &[u8], block: &mut [u8]) -> StartReply
+    ensures script { λ r. ⌜ now (script .exit) ≡ now (script .entry) ⌝ }
     ensures number { λ r. ⌜ r .number ≡ startOf (now (script .entry)) (now (block .entry)) .number ⌝ }
     ensures place { λ r. ⌜ r .place ≡ startOf (now (script .entry)) (now (block .entry)) .place ⌝ }
     ensures block { λ r. ⌜ now (block .exit) ≡ startOf (now (script .entry)) (now (block .entry)) .block ⌝ }

@@ -21,7 +21,8 @@ use Rattle.script.proofs.Declarations.{length-interfaces, length-classes}
 use Rattle.typing.specs.declared.Answer.{Answer}
 use Rattle.typing.specs.declared.Answer.the-variants.{Typed, Faulty}
 use Rattle.typing.specs.Members.{typeIn}
-use Rattle.typing.specs.Typing.{andThen, Body, bodyEnv, bodiesFrom, bodiesOf, walk}
+use Rattle.typing.specs.Environments.{bodyEnv}
+use Rattle.typing.specs.Typing.{andThen, Body, bodiesFrom, bodiesOf, walk}
 use Rattle.inference.specs.Tables.{EnvIs, NamesBelow, Named}
 use Rattle.inference.specs.At.{At, Checked, Inferred, Blank, bodiesIn, bodyAnswer, WalksAs}
 use Rattle.inference.proofs.InferLaws.{env-bind, word-back, type-small}

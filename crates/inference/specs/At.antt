@@ -9,7 +9,8 @@ use Rattle.script.specs.Syntax.{Point, Expr, Slot, Method, Program}
 use Rattle.script.specs.Reading.{programOf}
 use Rattle.script.specs.Statements.{WithinLayout}
 use Rattle.typing.specs.declared.Answer.{Answer}
-use Rattle.typing.specs.Typing.{andThen, inferred, checked, Body, bodyEnv, walk}
+use Rattle.typing.specs.Environments.{bodyEnv}
+use Rattle.typing.specs.Typing.{andThen, inferred, checked, Body, walk}
 use Rattle.members.specs.Tables.{Starts}
 use Rattle.sharing.specs.Tables.{Forks}
 use Rattle.inference.specs.Tables.{EnvIs, Named}

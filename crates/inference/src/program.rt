@@ -9,6 +9,7 @@ use sections::record_word;
 use typing::Answer;
 ghost use mathlib.Core.Path.{_≡_};
 ghost use Prim.Native.Nat.{_+_, _<_, _≤_};
+ghost use Rattle.words.specs.Word.{WORD};
 ghost use Rattle.script.specs.declared.Section.the-variants.{Interfaces as interfaces, Classes as classes, Methods as methods, Nodes as nodes};
 ghost use Rattle.script.specs.Section.{countOf};
 ghost use Rattle.script.specs.Reading.{viewAt, methodAt, classAt, programOf};
@@ -21,7 +22,7 @@ ghost use Rattle.inference.specs.At.{Blank, bodiesIn, bodyAnswer, WalksA
 // One more than the variable that node n names, and 0 where it names none.
 fn name_after(s: &[u8], n: usize) -> usize
     requires { ⌜ WithinLayout (now s) × (n < countOf (now s) nodes) ⌝ }
-    ensures { λ r. ⌜ NamesBelow r (viewAt (now (s .entry)) n) × (r ≤ 65536) ⌝ }
+    ensures { λ r. ⌜ NamesBelow r (viewAt (now (s .entry)) n) × (r ≤ WORD) ⌝ }
 {
     let kind = record_word(s, Section::Nodes, n, 0);
     match kind {
@@ -35,8 +36,8 @@ fn name_after(s: &[u8], n: usize) -> usize
 
 // The larger of two bounds.
 fn larger(a: usize, b: usize) -> usize
-    requires { ⌜ (a ≤ 65536) × (b ≤ 65536) ⌝ }
-    ensures { λ r. ⌜ (a ≤ r) × (b ≤ r) × (r ≤ 65536) ⌝ }
+    requires { ⌜ (a ≤ WORD) × (b ≤ WORD) ⌝ }
+    ensures { λ r. ⌜ (a ≤ r) × (b ≤ r) × (r ≤ WORD) ⌝ }
 {
     if a < b {
         return b;
@@ -47,7 +48,7 @@ fn larger(a: usize, b: usize) -> usize
 // The length that the table of an environment needs: one more than every variable that a node names, `this` and the parameter.
 pub fn name_bound(s: &[u8]) -> usize
     requires { ⌜ WithinLayout (now s) ⌝ }
-    ensures { λ r. ⌜ Named (now (s .entry)) r × (r ≤ 65536) ⌝ }
+    ensures { λ r. ⌜ Named (now (s .entry)) r × (r ≤ WORD) ⌝ }
 {
     let count = count_of(s, Section::Nodes);
     let mut bound: usize = 2;

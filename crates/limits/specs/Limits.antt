@@ -1,5 +1,5 @@
 -- Every limit of document 01, once. `Limits` of the source has the same names, and `agreed` there proves that the numbers are the same.
-use Prim.Native.Nat.{ℕ}
+use Prim.Native.Nat.{ℕ, _*_, _-_}
 
 -- The script file: "Most records" of each section.
 abbrev pub INTERFACES : ℕ
@@ -48,16 +48,16 @@ FRAMES = 2048
 abbrev pub THREADS : ℕ
 THREADS = 32
 
--- A tree of joins with at most 32 threads has at most 2 * 32 - 1 positions.
+-- The positions of a tree of joins with the most threads.
 abbrev pub POSITIONS : ℕ
-POSITIONS = 63
+POSITIONS = 2 * THREADS - 1
 
 -- Question 22: the longest choice list, and the flag buffer, a byte for each position of a tree with the most threads.
 abbrev pub CHOICES : ℕ
 CHOICES = 4096
 
 abbrev pub FLAGS : ℕ
-FLAGS = 63
+FLAGS = POSITIONS
 
 -- "A thread makes at most 1,024 silent moves in a row."
 abbrev pub SILENT : ℕ

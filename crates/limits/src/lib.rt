@@ -53,11 +53,11 @@ impl Limits {
 
     pub const THREADS: usize = 32;
 
-    pub const POSITIONS: usize = 63;
+    pub const POSITIONS: usize = 2 * Self::THREADS - 1;
 
     pub const CHOICES: usize = 4096;
 
-    pub const FLAGS: usize = 63;
+    pub const FLAGS: usize = Self::POSITIONS;
 
     pub const SILENT: usize = 1024;
 }

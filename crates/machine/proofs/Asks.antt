@@ -6,6 +6,7 @@ use mathlib.Core.List.{List}
 use Rattle.script.specs.Syntax.{Point, n-update, n-call, select}
 use Rattle.typing.specs.Members.{typeIn}
 use Rattle.typing.specs.Published.{Sub, FieldIn, MsigIn, BD-INFER-VAR, BD-INFER-SELECT}
+use Rattle.typing.proofs.Environments.{type-in}
 use Rattle.machine.specs.declared.Value.the-variants.{Ref as ref}
 use Rattle.machine.specs.Config.{Code, Object, Stores, Tree}
 use Rattle.machine.specs.Machine.{context, object, Path}
@@ -33,7 +34,7 @@ module _ {s : Code} {start : ℕ} {st : Stores} (acc : AcceptedCode s start) (ok
   target-field {c} {u} f y x e g h d = let i : y .class ≡ c = below-class acc (field-declared acc d .0) (target-below e x c h g) in (u, rw i d)
 
   select-there : {n : Point} (f : ℕ) (y : Object) (x e : ℕ) (v : Want) → TargetObject st e x y → Gives s (context (st .bindings) e) (select n x f) v → (u : ℕ) × FieldIn (s .program) (y .class) f u
-  select-there f y x e v g (gives-type (BD-INFER-SELECT (BD-INFER-VAR w h) d) m) = target-field f y x e g h d
+  select-there f y x e v g (gives-type (BD-INFER-SELECT (BD-INFER-VAR w h) d) m) = target-field f y x e g (type-in h) d
 
   update-there : {t u : ℕ} {a : Point} (f : ℕ) (y : Object) (x e : ℕ) → TargetObject st e x y → Awaits s (context (st .bindings) e) (n-update x f a) t u → (u : ℕ) × FieldIn (s .program) (y .class) f u
   update-there f y x e g (a-write h d) = target-field f y x e g h d

@@ -3,9 +3,9 @@ use Prim.Native.Nat.{ℕ, zero, suc, _≤_}
 use native.Mathlib.Omega.{arith}
 use mathlib.Core.Path.{_≡_, refl, ap}
 use mathlib.Core.List.{List, [], _∷_, _++_}
-use mathlib.Core.Logic.{_⊎_, inl, inr, ⊎-elim}
+use mathlib.Core.Logic.{inl, inr, ⊎-elim}
 use mathlib.Core.Option.{Option, none, some}
-use lib.ListN.{take}
+use lib.ListN.{getD, take}
 use Rattle.machine.specs.declared.Ending.{Ending}
 use Rattle.machine.specs.declared.Stop.{Stop}
 use Rattle.machine.specs.declared.Stop.the-variants.{Spent, Ended, Full}
@@ -33,56 +33,56 @@ all-taken zero ns = (ns, refl)
 all-taken (suc m) [] = ([], refl)
 all-taken (suc m) (x ∷ ns) = let q = all-taken m ns in (q .0, ap (λ (k : List ℕ). x ∷ k) (q .1))
 
--- with one choice more: the same, or one move further
-data Step (s : Code) : Config → Config → Type 0 where
-  stays : {d : Config} → Step s d d
-  steps : {d : Config} {st : Stores} {t : Tree} (n : ℕ) → choice s limits d n ≡ moved st t → Step s d (record { stores = st; tree = t })
+-- with one choice more: the same, or one move further, which that choice names
+data Further (s : Code) (n : ℕ) : Config → Config → Type 0 where
+  stays : {d : Config} → Further s n d d
+  steps : {d : Config} {st : Stores} {t : Tree} → choice s limits d n ≡ moved st t → Further s n d (record { stores = st; tree = t })
 
 module _ (s : Code) where
-  step-first : (c : Config) (x : ℕ) (o : Outcome) → choice s limits c x ≡ o → Step s c (follow c (λ e. report s limits e []) o .config)
+  step-first : (c : Config) (x : ℕ) (o : Outcome) → choice s limits c x ≡ o → Further s x c (follow c (λ e. report s limits e []) o .config)
   unfolding report
   step-first c x still e = stays
   step-first c x (full j) e = stays
-  step-first c x (moved st t) e = steps x e
+  step-first c x (moved st t) e = steps e
 
-  step-look : (c : Config) (x : ℕ) (o : Option Ending) → Step s c (unless o c (λ d. follow d (λ e. report s limits e []) (choice s limits d x)) .config)
+  step-look : (c : Config) (x : ℕ) (o : Option Ending) → Further s x c (unless o c (λ d. follow d (λ e. report s limits e []) (choice s limits d x)) .config)
   step-look c x none = step-first c x (choice s limits c x) refl
   step-look c x (some k) = stays
 
-  module _ (ns ms : List ℕ) (rec : (d : Config) → Step s (report s limits d ns .config) (report s limits d ms .config)) where
-    step-under : (c : Config) (o : Outcome) → Step s (follow c (λ e. report s limits e ns) o .config) (follow c (λ e. report s limits e ms) o .config)
+  module _ (n : ℕ) (ns ms : List ℕ) (rec : (d : Config) → Further s n (report s limits d ns .config) (report s limits d ms .config)) where
+    step-under : (c : Config) (o : Outcome) → Further s n (follow c (λ e. report s limits e ns) o .config) (follow c (λ e. report s limits e ms) o .config)
     step-under c still = rec c
     step-under c (full j) = stays
     step-under c (moved st t) = rec _
 
     step-past : (c : Config) (x : ℕ) (o : Option Ending)
-        → Step s (unless o c (λ d. follow d (λ e. report s limits e ns) (choice s limits d x)) .config) (unless o c (λ d. follow d (λ e. report s limits e ms) (choice s limits d x)) .config)
+        → Further s n (unless o c (λ d. follow d (λ e. report s limits e ns) (choice s limits d x)) .config) (unless o c (λ d. follow d (λ e. report s limits e ms) (choice s limits d x)) .config)
     step-past c x none = step-under c (choice s limits c x)
     step-past c x (some k) = stays
 
-  one-more : (n : ℕ) (ns : List ℕ) (c : Config) → Step s (report s limits c (take n ns) .config) (report s limits c (take (suc n) ns) .config)
+  one-more : (n : ℕ) (ns : List ℕ) (c : Config) → Further s (getD ns n 0) (report s limits c (take n ns) .config) (report s limits c (take (suc n) ns) .config)
   unfolding report
   one-more zero [] c = stays
   one-more (suc n) [] c = stays
   one-more zero (x ∷ ns) c = step-look c x (look s limits c)
-  one-more (suc n) (x ∷ ns) c = step-past (take n ns) (take (suc n) ns) (one-more n ns) c x (look s limits c)
+  one-more (suc n) (x ∷ ns) c = step-past (getD ns n 0) (take n ns) (take (suc n) ns) (one-more n ns) c x (look s limits c)
 
-  step-fails : {d e : Config} → Step s d e → FailsOnNull s d e
+  step-fails : {n : ℕ} {d e : Config} → Further s n d e → FailsOnNull s (some n) d e
   unfolding choice
   step-fails stays q k = inl k
-  step-fails (steps {d = d} {st = st} {t = t} n e) q k = go (locate (d .tree) n) e q k
+  step-fails {n} (steps {d = d} {st = st} {t = t} e) q k = go (locate (d .tree) n) refl e q k
     where
-      go : (o : Option Path) → chosen s limits d o ≡ moved st t → FailsOnNull s d (record { stores = st; tree = t })
-      go none i q k = absurd (let z : _≡_ {A = ℕ} 0 1 = cc in omega arith)
-      go (some p) i q k = ⊎-elim inl (λ x. inr (x .1, rw (x .0) (x .2), x .3)) (on-null limits s d p i q k)
+      go : (o : Option Path) → locate (d .tree) n ≡ o → chosen s limits d o ≡ moved st t → FailsOnNull s (some n) d (record { stores = st; tree = t })
+      go none z i q k = absurd (let z : _≡_ {A = ℕ} 0 1 = cc in omega arith)
+      go (some p) z i q k = ⊎-elim inl (λ x. inr (rw (x .0) z, x .1, rw (x .0) (x .2), x .3)) (on-null limits s d p i q k)
 
   initial-unfailed : (q : Path) → part (initial .tree) q ≡ some failed → ⊥
   initial-unfailed here k = let z : _≡_ {A = ℕ} 0 1 = cc in omega arith
   initial-unfailed (left q) k = let z : _≡_ {A = ℕ} 0 1 = cc in omega arith
   initial-unfailed (right q) k = let z : _≡_ {A = ℕ} 0 1 = cc in omega arith
 
-  next-fails : {c d e : Config} {calls : List Call} → Next s c calls d e → FailsOnNull s d e
-  next-fails (next-choice {c = c} ns n) = step-fails (one-more n ns c)
+  next-fails : {c d e : Config} {o : Option ℕ} {calls : List Call} → Next s c calls d o e → FailsOnNull s o d e
+  next-fails (next-choice {c = c} ns n l) = step-fails (one-more n ns c)
   next-fails next-start = λ q k. absurd (initial-unfailed q k)
   next-fails (after-next call x) = next-fails x
 

@@ -1,3 +1,4 @@
+pub mod AllMoves
 pub mod Stops
 pub mod Maps
 pub mod Spent

@@ -17,7 +17,7 @@ use Rattle.machine.specs.WellFormed.{lockCount}
 use Rattle.machine.specs.Decide.{lockList}
 
 -- laws of counting
-count-head : (o p : ℕ) (l : List ℕ) → countIn o (p ∷ l) ≡ oneIf (eqb o p) + countIn o l
+pub count-head : (o p : ℕ) (l : List ℕ) → countIn o (p ∷ l) ≡ oneIf (eqb o p) + countIn o l
 unfolding countIn
 count-head o p l = go (ℕ-discrete o p)
   where
@@ -25,12 +25,12 @@ count-head o p l = go (ℕ-discrete o p)
     go (yes e) = rw (eq-eqb p o (sym e), eq-eqb o p e) (omega arith)
     go (no n) = rw (ne-eqb p o (λ e. n (sym e)), ne-eqb o p n) (omega arith)
 
-count-append : (o : ℕ) (l m : List ℕ) → countIn o (l ++ m) ≡ countIn o l + countIn o m
+pub count-append : (o : ℕ) (l m : List ℕ) → countIn o (l ++ m) ≡ countIn o l + countIn o m
 unfolding countIn
 count-append o [] m = omega arith
 count-append o (p ∷ l) m = omega (arith, count-head o p l, count-head o p (l ++ m), count-append o l m)
 
-count-in : (o : ℕ) (l : List ℕ) → 1 ≤ countIn o l → o ∈ l
+pub count-in : (o : ℕ) (l : List ℕ) → 1 ≤ countIn o l → o ∈ l
 unfolding countIn
 count-in o [] h = absurd (omega arith)
 count-in o (p ∷ l) h = go (ℕ-discrete o p) (count-in o l)
@@ -39,7 +39,7 @@ count-in o (p ∷ l) h = go (ℕ-discrete o p) (count-in o l)
     go (yes e) f = List·Memᴰ·head e
     go (no n) f = List·Memᴰ·tail (f (omega (arith, count-head o p l, ap oneIf (ne-eqb o p n))))
 
-in-count : (o : ℕ) (l : List ℕ) → o ∈ l → 1 ≤ countIn o l
+pub in-count : (o : ℕ) (l : List ℕ) → o ∈ l → 1 ≤ countIn o l
 in-count o [] m = absurd (List·Memᴰ·not-nil m)
 in-count o (p ∷ l) m =
     ⊎-elim (λ (e : o ≡ p). omega (arith, count-head o p l, ap oneIf (eq-eqb o p e))) (λ k. omega (arith, count-head o p l, in-count o l k)) (List·Memᴰ·cases-cons m)

@@ -16,6 +16,7 @@ use Rattle.typing.specs.declared.Answer.the-variants.{Typed}
 use Rattle.typing.specs.Members.{typeIn, fieldsOf}
 use Rattle.typing.specs.Published.{T-SUB-EQ, FieldIn, MsigIn, Infer, BD-INFER-VAR, BD-INFER-LET, BD-INFER-CALL, BD-INFER-CAST, BD-INFER-SELECT, BD-INFER-UPDATE, BD-INFER-NEW, BD-INFER-LOCK, BD-INFER-FJ}
 use Rattle.typing.proofs.Types.{type-wf}
+use Rattle.typing.proofs.Environments.{type-in}
 use Rattle.machine.specs.declared.Store.{Store}
 use Rattle.machine.specs.declared.Value.{Value}
 use Rattle.machine.specs.declared.Value.the-variants.{Null as nil, Ref as ref}
@@ -173,12 +174,12 @@ module _ {s : Code} {w : Want} {st : Stores} (ok : StoresOk s st) where
     pub run-good : (n : Node) → p < s .size → s .view p ≡ n → ((q : Point) → q ∈ parts n → LaterPart s p q) → Gives s (context (st .bindings) e) (build p (s .expr) n) v
         → Judged s w st (running p e fs) (Waiting st above fs e n) (runNode s room st above fs e p n)
     run-good n-null q i y g = a-move (kept _ _ (returning-ok fits-nil r) refl (λ o. refl))
-    run-good (n-var x) q i y (gives-type (BD-INFER-VAR z h) m) = give-good x _ h m
-    run-good (n-select x f) q i y (gives-type (BD-INFER-SELECT (BD-INFER-VAR z h) d) m) = select-good x f _ _ h d m
+    run-good (n-var x) q i y (gives-type (BD-INFER-VAR z h) m) = give-good x _ (type-in h) m
+    run-good (n-select x f) q i y (gives-type (BD-INFER-SELECT (BD-INFER-VAR z h) d) m) = select-good x f _ _ (type-in h) d m
     run-good (n-update x f a) q i y (gives-type (BD-INFER-UPDATE {t = t} (BD-INFER-VAR z h) c d) m) =
-        descend-good a (awaits p e) (record { node = y a first .there; gives = check-gives c }) (a-node {t = t} q le (rw i (a-write h d)) m r) (λ o. refl) (room .frames)
+        descend-good a (awaits p e) (record { node = y a first .there; gives = check-gives c }) (a-node {t = t} q le (rw i (a-write (type-in h) d)) m r) (λ o. refl) (room .frames)
     run-good (n-call x n a) q i y (gives-type (BD-INFER-CALL {t₂ = t} (BD-INFER-VAR z h) c d) m) =
-        descend-good a (awaits p e) (record { node = y a first .there; gives = check-gives c }) (a-node {t = t} q le (rw i (a-call h d)) m r) (λ o. refl) (room .frames)
+        descend-good a (awaits p e) (record { node = y a first .there; gives = check-gives c }) (a-node {t = t} q le (rw i (a-call (type-in h) d)) m r) (λ o. refl) (room .frames)
     run-good (n-bind x a b) q i y (gives-type (BD-INFER-LET {t₁ = t} {t = u} h k) m) =
         descend-good a (awaits p e) (record { node = y a first .there; gives = gives-type h (meets-type (T-SUB-EQ (let-type k))) }) (a-node {t = t} {u = u} q le (rw i (a-let h k)) m r) (λ o. refl) (room .frames)
     run-good (n-new c) q i y (gives-type (BD-INFER-NEW {c = k} z h) m) = make-good c (is-class (s .program) c k h) m (room .objects)
@@ -187,7 +188,7 @@ module _ {s : Code} {w : Want} {st : Stores} (ok : StoresOk s st) where
     run-good (n-fork a b c) q i y (gives-type (BD-INFER-FJ d h j k) m) =
         spawn-good a b c (record { node = y a first .there; gives = gives-type h meets-any }) (record { node = y b second .there; gives = gives-type j meets-any })
         (record { node = y c third .there; gives = gives-type k m }) (room .threads)
-    run-good (n-lock x a) q i y (gives-type (BD-INFER-LOCK (BD-INFER-VAR z h) k) m) = lock-good x _ a h (record { node = y a first .there; gives = gives-type k m })
+    run-good (n-lock x a) q i y (gives-type (BD-INFER-LOCK (BD-INFER-VAR z h) k) m) = lock-good x _ a (type-in h) (record { node = y a first .there; gives = gives-type k m })
 
   module _ {start : ℕ} (acc : AcceptedCode s start) (room : Places) (x : Value) (i : Point) where
     bind-good : {Q : Type 0} (n e t u : ℕ) (b : Point) (fs : List Frame) (v : Want) → n < 65536 → b < s .size → e ≤ length (st .bindings)

@@ -219,6 +219,9 @@ module _ (s : Code) (lim : Places) where
   runs-read (moves l e h) = omega (arith, runs-read h)
   runs-read (fills l e) = omega arith
 
+  pub run-read : (ns : List ℕ) (c : Config) → report s lim c ns .read ≤ length ns
+  run-read ns c = runs-read (run-runs ns c)
+
   pub full-report : (n : ℕ) (ns : List ℕ) (c : Config) (k : Store) → choice s lim c n ≡ full k → report s lim c (n ∷ ns) ≡ passed (stopped (Full k) c)
   unfolding report
   full-report n ns c k e = rw (able-look c n (λ i. let z : _≡_ {A = ℕ} 0 1 = cc in omega arith), e) refl

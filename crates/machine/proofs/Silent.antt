@@ -17,7 +17,7 @@ use Rattle.machine.specs.Machine.{Places, spare, Outcome, still, full, m
 use Rattle.machine.specs.declared.Want.{Want}
 use Rattle.machine.specs.WellFormed.{TreeOk, running-ok, returning-ok, failed-ok, join-ok, WfConfig}
 use Rattle.machine.specs.Accepted.{LaterPart, AcceptedCode}
-use Rattle.machine.specs.Silent.{quiet, quietIn, InARow, row-ends, and-then, meanwhile, samePlace}
+use Rattle.machine.specs.Silent.{quiet, quietIn, SilentMove, null-value, into-write, into-call, into-let, into-cast, SilentAt, silent-here, silent-left, silent-right, InARow, row-ends, and-then, meanwhile, samePlace}
 
 -- What a move made of a side of a join.
 pub record Side (f : Tree → Tree) (o : Outcome) (su : Stores) (u : Tree) : Type 0 where
@@ -76,96 +76,89 @@ pub record Nearer (s : Code) (o q : Option Tree) : Type 0 where
   pub node : OnNode s q
   pub less : suc (ahead s q) ≤ ahead s o
 
-module _ {s : Code} {start : ℕ} (acc : AcceptedCode s start) (room : Places) (st : Stores) where
-  descend-nearer : (fs : List Frame) (e : ℕ) (p a : Point) (f : Frame) (k : ℕ) (su : Stores) (u : Tree) → LaterPart s p a → descend st fs e f a k ≡ moved su u
-      → Nearer s (some (running p e fs)) (some u)
-  descend-nearer fs e p a f zero su u l m = absurd (let z : _≡_ {A = ℕ} 0 1 = cc in omega arith)
-  descend-nearer fs e p a f (suc k) su u l m =
-      let i : u ≡ running a e (f ∷ fs) = cc in
-      rw i (record { node = l .there; less = omega (arith, l .after, l .there) })
-
-  run-nearer : (above fs : List Frame) (e : ℕ) (p : Point) (n : Node) (su : Stores) (u : Tree) → p < s .size → ((q : Point) → q ∈ parts n → LaterPart s p q) → quiet n ≡ true
-      → runNode s room st above fs e p n ≡ moved su u → Nearer s (some (running p e fs)) (some u)
-  run-nearer above fs e p n-null su u h y q m = let i : u ≡ returning nil fs = cc in rw i (record { node = tt; less = omega arith })
-  run-nearer above fs e p (n-var x) su u h y q m = absurd (let z : _≡_ {A = ℕ} 0 1 = cc in omega arith)
-  run-nearer above fs e p (n-select x f) su u h y q m = absurd (let z : _≡_ {A = ℕ} 0 1 = cc in omega arith)
-  run-nearer above fs e p (n-update x f a) su u h y q m = descend-nearer fs e p a (awaits p e) (room .frames) su u (y a first) m
-  run-nearer above fs e p (n-call x g a) su u h y q m = descend-nearer fs e p a (awaits p e) (room .frames) su u (y a first) m
-  run-nearer above fs e p (n-bind x a b) su u h y q m = descend-nearer fs e p a (awaits p e) (room .frames) su u (y a first) m
-  run-nearer above fs e p (n-new c) su u h y q m = absurd (let z : _≡_ {A = ℕ} 0 1 = cc in omega arith)
-  run-nearer above fs e p (n-cast t a) su u h y q m = descend-nearer fs e p a (casts p) (room .frames) su u (y a first) m
-  run-nearer above fs e p (n-fork a b c) su u h y q m = absurd (let z : _≡_ {A = ℕ} 0 1 = cc in omega arith)
-  run-nearer above fs e p (n-lock x a) su u h y q m = absurd (let z : _≡_ {A = ℕ} 0 1 = cc in omega arith)
-
-  pub move-nearer : (above : List Frame) (t : Tree) (p : Path) (su : Stores) (u : Tree) → OnNode s (part t p) → quietIn s (part t p) ≡ true → moveAt s room st above t p ≡ moved su u
-      → Nearer s (part t p) (part u p)
-  move-nearer above (running a e fs) here su u h q m = run-nearer above fs e a (s .view a) su u h (acc .in-order a h) q m
-  move-nearer above (running a e fs) (left p) su u h q m = absurd (let z : _≡_ {A = ℕ} 0 1 = cc in omega arith)
-  move-nearer above (running a e fs) (right p) su u h q m = absurd (let z : _≡_ {A = ℕ} 0 1 = cc in omega arith)
-  move-nearer above (returning v fs) here su u h q m = absurd (let z : _≡_ {A = ℕ} 0 1 = cc in omega arith)
-  move-nearer above (returning v fs) (left p) su u h q m = absurd (let z : _≡_ {A = ℕ} 0 1 = cc in omega arith)
-  move-nearer above (returning v fs) (right p) su u h q m = absurd (let z : _≡_ {A = ℕ} 0 1 = cc in omega arith)
-  move-nearer above failed here su u h q m = absurd (let z : _≡_ {A = ℕ} 0 1 = cc in omega arith)
-  move-nearer above failed (left p) su u h q m = absurd (let z : _≡_ {A = ℕ} 0 1 = cc in omega arith)
-  move-nearer above failed (right p) su u h q m = absurd (let z : _≡_ {A = ℕ} 0 1 = cc in omega arith)
-  move-nearer above (join fs a e l r) here su u h q m = absurd (let z : _≡_ {A = ℕ} 0 1 = cc in omega arith)
-  move-nearer above (join fs a e l r) (left p) su u h q m =
-      let k = left-side {fs = fs} {a = a} {e = e} {r = r} (moveAt s room st (fs ++ above) l p) m in
-      rw (k .whole) (move-nearer (fs ++ above) l p su (k .now) h q (k .moves))
-  move-nearer above (join fs a e l r) (right p) su u h q m =
-      let k = right-side {fs = fs} {a = a} {e = e} {l = l} (moveAt s room st [] r p) m in
-      rw (k .whole) (move-nearer [] r p su (k .now) h q (k .moves))
-
-descended : (st : Stores) (fs : List Frame) (e : ℕ) (f : Frame) (b : Point) (k : ℕ) {su : Stores} {u : Tree} → descend st fs e f b k ≡ moved su u
-    → (q : Path) → (part u (left q) ≡ none) × (part u (right q) ≡ none)
-descended st fs e f b zero h q = absurd (let z : _≡_ {A = ℕ} 0 1 = cc in omega arith)
-descended st fs e f b (suc k) {u = u} h q = let i : u ≡ running b e (f ∷ fs) = cc in rw i (refl, refl)
-
--- a silent move leaves every other place as near as it was
-leaf-below : (s : Code) (room : Places) (st : Stores) (above fs : List Frame) (e : ℕ) (a : Point) (n : Node) {su : Stores} {u : Tree} → quiet n ≡ true → runNode s room st above fs e a n ≡ moved su u
-    → (q : Path) → (part u (left q) ≡ none) × (part u (right q) ≡ none)
-leaf-below s room st above fs e a n-null {u = u} h m q = let i : u ≡ returning nil fs = cc in rw i (refl, refl)
-leaf-below s room st above fs e a (n-var x) h m q = absurd (let z : _≡_ {A = ℕ} 0 1 = cc in omega arith)
-leaf-below s room st above fs e a (n-select x f) h m q = absurd (let z : _≡_ {A = ℕ} 0 1 = cc in omega arith)
-leaf-below s room st above fs e a (n-update x f b) h m q = descended st fs e (awaits a e) b (room .frames) m q
-leaf-below s room st above fs e a (n-call x g b) h m q = descended st fs e (awaits a e) b (room .frames) m q
-leaf-below s room st above fs e a (n-bind x b c) h m q = descended st fs e (awaits a e) b (room .frames) m q
-leaf-below s room st above fs e a (n-new c) h m q = absurd (let z : _≡_ {A = ℕ} 0 1 = cc in omega arith)
-leaf-below s room st above fs e a (n-cast t b) h m q = descended st fs e (casts a) b (room .frames) m q
-leaf-below s room st above fs e a (n-fork b c d) h m q = absurd (let z : _≡_ {A = ℕ} 0 1 = cc in omega arith)
-leaf-below s room st above fs e a (n-lock x b) h m q = absurd (let z : _≡_ {A = ℕ} 0 1 = cc in omega arith)
+-- A silent move is one of the listed ones.
+descended : (st : Stores) (fs : List Frame) (e : ℕ) (f : Frame) (b : Point) (k : ℕ) {su : Stores} {u : Tree} → descend st fs e f b k ≡ moved su u → u ≡ running b e (f ∷ fs)
+descended st fs e f b zero h = absurd (let z : _≡_ {A = ℕ} 0 1 = cc in omega arith)
+descended st fs e f b (suc k) h = cc
 
 module _ (s : Code) (room : Places) (st : Stores) where
-  pub others-ahead : (above : List Frame) (t : Tree) (p : Path) (su : Stores) (u : Tree) → quietIn s (part t p) ≡ true → moveAt s room st above t p ≡ moved su u
-      → (q : Path) → samePlace q p ≡ false → ahead s (part u q) ≡ ahead s (part t q)
-  others-ahead above (running a e fs) here su u h m here k = absurd (let z : _≡_ {A = ℕ} 0 1 = cc in omega arith)
-  others-ahead above (running a e fs) here su u h m (left q) k = ap (ahead s) (leaf-below s room st above fs e a (s .view a) h m q .0)
-  others-ahead above (running a e fs) here su u h m (right q) k = ap (ahead s) (leaf-below s room st above fs e a (s .view a) h m q .1)
-  others-ahead above (running a e fs) (left p) su u h m q k = absurd (let z : _≡_ {A = ℕ} 0 1 = cc in omega arith)
-  others-ahead above (running a e fs) (right p) su u h m q k = absurd (let z : _≡_ {A = ℕ} 0 1 = cc in omega arith)
-  others-ahead above (returning v fs) here su u h m q k = absurd (let z : _≡_ {A = ℕ} 0 1 = cc in omega arith)
-  others-ahead above (returning v fs) (left p) su u h m q k = absurd (let z : _≡_ {A = ℕ} 0 1 = cc in omega arith)
-  others-ahead above (returning v fs) (right p) su u h m q k = absurd (let z : _≡_ {A = ℕ} 0 1 = cc in omega arith)
-  others-ahead above failed here su u h m q k = absurd (let z : _≡_ {A = ℕ} 0 1 = cc in omega arith)
-  others-ahead above failed (left p) su u h m q k = absurd (let z : _≡_ {A = ℕ} 0 1 = cc in omega arith)
-  others-ahead above failed (right p) su u h m q k = absurd (let z : _≡_ {A = ℕ} 0 1 = cc in omega arith)
-  others-ahead above (join fs a e l r) here su u h m q k = absurd (let z : _≡_ {A = ℕ} 0 1 = cc in omega arith)
-  others-ahead above (join fs a e l r) (left p) su u h m q k =
-      let x = left-side {fs = fs} {a = a} {e = e} {r = r} (moveAt s room st (fs ++ above) l p) m in
-      rw (x .whole) (go (x .now) (others-ahead (fs ++ above) l p su (x .now) h (x .moves)) q k)
-    where
-      go : (n : Tree) → ((q : Path) → samePlace q p ≡ false → ahead s (part n q) ≡ ahead s (part l q)) → (q : Path) → samePlace q (left p) ≡ false → ahead s (part (join fs a e n r) q) ≡ ahead s (part (join fs a e l r) q)
-      go n f here k = refl
-      go n f (left q) k = f q k
-      go n f (right q) k = refl
-  others-ahead above (join fs a e l r) (right p) su u h m q k =
-      let x = right-side {fs = fs} {a = a} {e = e} {l = l} (moveAt s room st [] r p) m in
-      rw (x .whole) (go (x .now) (others-ahead [] r p su (x .now) h (x .moves)) q k)
-    where
-      go : (n : Tree) → ((q : Path) → samePlace q p ≡ false → ahead s (part n q) ≡ ahead s (part r q)) → (q : Path) → samePlace q (right p) ≡ false → ahead s (part (join fs a e l n) q) ≡ ahead s (part (join fs a e l r) q)
-      go n f here k = refl
-      go n f (left q) k = refl
-      go n f (right q) k = f q k
+  silent-now : (above fs : List Frame) (e : ℕ) (a : Point) (n : Node) {su : Stores} {u : Tree} → s .view a ≡ n → quiet n ≡ true → runNode s room st above fs e a n ≡ moved su u
+      → SilentMove s (running a e fs) u
+  silent-now above fs e a n-null {u = u} i q m = let z : u ≡ returning nil fs = cc in rw z (null-value i)
+  silent-now above fs e a (n-var x) i q m = absurd (let z : _≡_ {A = ℕ} 0 1 = cc in omega arith)
+  silent-now above fs e a (n-select x f) i q m = absurd (let z : _≡_ {A = ℕ} 0 1 = cc in omega arith)
+  silent-now above fs e a (n-update x f b) i q m = rw (descended st fs e (awaits a e) b (room .frames) m) (into-write i)
+  silent-now above fs e a (n-call x g b) i q m = rw (descended st fs e (awaits a e) b (room .frames) m) (into-call i)
+  silent-now above fs e a (n-bind x b c) i q m = rw (descended st fs e (awaits a e) b (room .frames) m) (into-let i)
+  silent-now above fs e a (n-new c) i q m = absurd (let z : _≡_ {A = ℕ} 0 1 = cc in omega arith)
+  silent-now above fs e a (n-cast t b) i q m = rw (descended st fs e (casts a) b (room .frames) m) (into-cast i)
+  silent-now above fs e a (n-fork b c d) i q m = absurd (let z : _≡_ {A = ℕ} 0 1 = cc in omega arith)
+  silent-now above fs e a (n-lock x b) i q m = absurd (let z : _≡_ {A = ℕ} 0 1 = cc in omega arith)
+
+  pub silent-at : (above : List Frame) (t : Tree) (p : Path) (su : Stores) (u : Tree) → quietIn s (part t p) ≡ true → moveAt s room st above t p ≡ moved su u → SilentAt s p t u
+  silent-at above (running a e fs) here su u q m = silent-here (silent-now above fs e a (s .view a) refl q m)
+  silent-at above (running a e fs) (left p) su u q m = absurd (let z : _≡_ {A = ℕ} 0 1 = cc in omega arith)
+  silent-at above (running a e fs) (right p) su u q m = absurd (let z : _≡_ {A = ℕ} 0 1 = cc in omega arith)
+  silent-at above (returning v fs) here su u q m = absurd (let z : _≡_ {A = ℕ} 0 1 = cc in omega arith)
+  silent-at above (returning v fs) (left p) su u q m = absurd (let z : _≡_ {A = ℕ} 0 1 = cc in omega arith)
+  silent-at above (returning v fs) (right p) su u q m = absurd (let z : _≡_ {A = ℕ} 0 1 = cc in omega arith)
+  silent-at above failed here su u q m = absurd (let z : _≡_ {A = ℕ} 0 1 = cc in omega arith)
+  silent-at above failed (left p) su u q m = absurd (let z : _≡_ {A = ℕ} 0 1 = cc in omega arith)
+  silent-at above failed (right p) su u q m = absurd (let z : _≡_ {A = ℕ} 0 1 = cc in omega arith)
+  silent-at above (join fs a e l r) here su u q m = absurd (let z : _≡_ {A = ℕ} 0 1 = cc in omega arith)
+  silent-at above (join fs a e l r) (left p) su u q m =
+      let k = left-side {fs = fs} {a = a} {e = e} {r = r} (moveAt s room st (fs ++ above) l p) m in
+      rw (k .whole) (silent-left (silent-at (fs ++ above) l p su (k .now) q (k .moves)))
+  silent-at above (join fs a e l r) (right p) su u q m =
+      let k = right-side {fs = fs} {a = a} {e = e} {l = l} (moveAt s room st [] r p) m in
+      rw (k .whole) (silent-right (silent-at [] r p su (k .now) q (k .moves)))
+
+-- and goes to a larger node,
+later : {s : Code} {a b : Point} {e d : ℕ} {fs gs : List Frame} → LaterPart s a b → Nearer s (some (running a e fs)) (some (running b d gs))
+later l = record { node = l .there; less = omega (arith, l .after, l .there) }
+
+module _ {s : Code} {start : ℕ} (acc : AcceptedCode s start) where
+  first-later : {a : Point} {n : Node} (b : Point) → a < s .size → s .view a ≡ n → b ∈ parts n → LaterPart s a b
+  first-later {a} b h i m = acc .in-order a h b (rw i m)
+
+  silent-nearer : {t u : Tree} → SilentMove s t u → OnNode s (some t) → Nearer s (some t) (some u)
+  silent-nearer (null-value i) h = record { node = tt; less = omega arith }
+  silent-nearer (into-write {b = b} i) h = later (first-later b h i first)
+  silent-nearer (into-call {b = b} i) h = later (first-later b h i first)
+  silent-nearer (into-let {b = b} i) h = later (first-later b h i first)
+  silent-nearer (into-cast {b = b} i) h = later (first-later b h i first)
+
+  place-nearer : {p : Path} {t u : Tree} → SilentAt s p t u → OnNode s (part t p) → Nearer s (part t p) (part u p)
+  place-nearer (silent-here x) h = silent-nearer x h
+  place-nearer (silent-left x) h = place-nearer x h
+  place-nearer (silent-right x) h = place-nearer x h
+
+  pub move-nearer : (room : Places) (st : Stores) (above : List Frame) (t : Tree) (p : Path) (su : Stores) (u : Tree) → OnNode s (part t p) → quietIn s (part t p) ≡ true
+      → moveAt s room st above t p ≡ moved su u → Nearer s (part t p) (part u p)
+  move-nearer room st above t p su u h q m = place-nearer (silent-at s room st above t p su u q m) h
+
+-- while every other place stays as near as it was.
+leaf-below : {s : Code} {t u : Tree} → SilentMove s t u → (q : Path) → (part u (left q) ≡ part t (left q)) × (part u (right q) ≡ part t (right q))
+leaf-below (null-value i) q = (refl, refl)
+leaf-below (into-write i) q = (refl, refl)
+leaf-below (into-call i) q = (refl, refl)
+leaf-below (into-let i) q = (refl, refl)
+leaf-below (into-cast i) q = (refl, refl)
+
+others-stay : {s : Code} {p : Path} {t u : Tree} → SilentAt s p t u → (q : Path) → samePlace q p ≡ false → ahead s (part u q) ≡ ahead s (part t q)
+others-stay (silent-here x) here k = absurd (let z : _≡_ {A = ℕ} 0 1 = cc in omega arith)
+others-stay {s} (silent-here x) (left q) k = ap (ahead s) (leaf-below x q .0)
+others-stay {s} (silent-here x) (right q) k = ap (ahead s) (leaf-below x q .1)
+others-stay (silent-left x) here k = refl
+others-stay (silent-left x) (left q) k = others-stay x q k
+others-stay (silent-left x) (right q) k = refl
+others-stay (silent-right x) here k = refl
+others-stay (silent-right x) (left q) k = refl
+others-stay (silent-right x) (right q) k = others-stay x q k
+
+pub others-ahead : (s : Code) (room : Places) (st : Stores) (above : List Frame) (t : Tree) (p : Path) (su : Stores) (u : Tree) → quietIn s (part t p) ≡ true
+    → moveAt s room st above t p ≡ moved su u → (q : Path) → samePlace q p ≡ false → ahead s (part u q) ≡ ahead s (part t q)
+others-ahead s room st above t p su u h m = others-stay (silent-at s room st above t p su u h m)
 
 module _ {s : Code} {start : ℕ} (acc : AcceptedCode s start) (lim : Places) (p : Path) where
   row-ahead : {c : Config} {n : ℕ} → InARow s lim p c n → OnNode s (part (c .tree) p) → n ≤ ahead s (part (c .tree) p)

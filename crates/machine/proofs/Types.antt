@@ -11,7 +11,8 @@ use Rattle.script.proofs.Lists.{named-unique}
 use Rattle.script.proofs.Declarations.{is-class, a-class-at}
 use Rattle.typing.specs.declared.Answer.the-variants.{Typed}
 use Rattle.typing.specs.Members.{typeIn, fieldIn, fieldsOf, definedIn}
-use Rattle.typing.specs.Typing.{bodyEnv, inferred}
+use Rattle.typing.specs.Environments.{bodyEnv}
+use Rattle.typing.specs.Typing.{inferred}
 use Rattle.typing.specs.Published.{WfType, Sub, T-SUB-CLASS, T-SUB-INTERFACE-LEFT, T-SUB-INTERFACE-RIGHT, T-SUB-TRANS, T-SUB-EQ, WfEnv, WF-ENV, MsigIn, msigs-left, msigs-right, msigs-class, FieldIn, fields-class, Infer, BD-INFER-VAR, BD-INFER-LET, BD-INFER-CALL, BD-INFER-CAST, BD-INFER-SELECT, BD-INFER-UPDATE, BD-INFER-NEW, BD-INFER-LOCK, BD-INFER-FJ, Check, BD-CHECK-NULL, BD-CHECK-SUB, WfMethod, WF-METHOD, DefIn, WfClass, WF-CLASS, MsigsFunction, WfProgram, WF-PROGRAM}
 use Rattle.typing.proofs.Types.{type-wf, parent-types}
 use Rattle.typing.proofs.Members.{field-in, msig-from}

@@ -10,7 +10,7 @@ use Rattle.script.specs.Reading.{viewAt, exprAt, programOf}
 use Rattle.machine.specs.declared.Value.{Value}
 use Rattle.machine.specs.declared.Frame.{Frame}
 
--- A script as the machine sees it: its program, its nodes, and the expression at each. "Program points are the script's nodes."
+-- A script as the machine sees it: its program, its nodes, which are the program points, and the expression at each.
 pub record Code : Type 0 where
   pub program : Program
   pub size : ℕ

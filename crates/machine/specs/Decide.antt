@@ -6,6 +6,7 @@ use mathlib.Core.List.{List, [], _∷_, _++_}
 use mathlib.Core.Option.{Option, none, some}
 use lib.Dec.{eqb, leb, ltb}
 use lib.ListN.{length}
+use Rattle.words.specs.Word.{WORD}
 use Rattle.script.specs.Questions.{allOf}
 use Rattle.script.specs.Syntax.{Point, Node, n-null, n-var, n-select, n-update, n-call, n-bind, n-new, n-cast, n-fork, n-lock, Expr, isNull, Slot}
 use Rattle.typing.specs.declared.Answer.{Answer}
@@ -70,7 +71,7 @@ fieldsTest s xs (d ∷ ds) (v ∷ l) = valueFitsTest s xs v (upto (d .type)) && 
 
 abbrev pub bindingTest : Code → List Object → ℕ → Binding → Bool
 bindingTest s xs older b =
-    ltb (b .name) 65536
+    ltb (b .name) WORD
     && (leb (b .type) (length (s .program .interfaces) + length (s .program .classes))
     && (leb (b .link) older && valueFitsTest s xs (b .value) (upto (b .type))))
 

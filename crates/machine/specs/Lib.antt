@@ -13,3 +13,4 @@ pub mod Short
 pub mod Decide
 pub mod Promise
 pub mod Calls
+pub mod AllMoves

@@ -1,4 +1,4 @@
--- Moves: what a thread or a join does when it is chosen. "Program points are the script's nodes", so the machine goes from node to node.
+-- Moves: what a thread or a join does when it is chosen. Program points are the script's nodes, so the machine goes from node to node.
 use Prim.Native.Nat.{ℕ, zero, suc, _+_, _-_}
 use mathlib.Core.Bool.{Bool, true, false, cond}
 use mathlib.Core.List.{List, [], _∷_, _++_, map}
@@ -108,7 +108,7 @@ abbrev pub give : Stores → List Frame → Option Binding → Outcome
 give st fs none = still
 give st fs (some b) = moved st (returning (b .value) fs)
 
--- "kinds 3, 4, 5 and 7 descend into their first-run part and leave a frame". Here and below the last number of a move that takes places is how many are left.
+-- "kinds 3, 4, 5 and 7 descend into their first-run part and leave a frame". Here and below k, or zero and suc k, is how many places the store has left.
 abbrev pub descend : Stores → List Frame → ℕ → Frame → Point → ℕ → Outcome
 descend st fs e f a zero = full Frames
 descend st fs e f a (suc k) = moved st (running a e (f ∷ fs))

@@ -5,6 +5,7 @@ use mathlib.Core.Path.{_≡_}
 use mathlib.Core.List.{List, [], _∷_}
 use mathlib.Core.Option.{some}
 use lib.ListN.{length}
+use Rattle.words.specs.Word.{WORD}
 use Rattle.script.specs.Syntax.{Point, Node, n-bind, n-cast, n-update, n-call, Expr, null, Slot}
 use Rattle.script.specs.Regular.{IsType, IsClass}
 use Rattle.typing.specs.Members.{typeIn, fieldsOf}
@@ -45,7 +46,7 @@ pub record NodeGives (s : Code) (Γ : List Slot) (a : Point) (w : Want) : Type 0
 -- One binding; `older` are there before it.
 pub record BindingOk (s : Code) (xs : List Object) (older : ℕ) (b : Binding) : Type 0 where
   -- "All words are unsigned 16-bit"
-  pub name : b .name < 65536
+  pub name : b .name < WORD
   -- WF-ENV: ⊢ t for each x : t ∈ Γ
   pub type : IsType (s .program) (b .type)
   -- "links run to earlier bindings"
@@ -136,10 +137,9 @@ shutAt (x ∷ xs) (suc o) = shutAt xs o
 pub record WfConfig (s : Code) (w : Want) (c : Config) : Type 0 where
   pub stores : StoresOk s (c .stores)
   pub tree : TreeOk s (c .stores) w (c .tree)
-  -- H ⊢lock T, in one line: an object has at most one lock frame in the whole tree, and that only if it is there and shut. That is distinctLocks(e) of
-  -- WF-L-THREAD and WF-L-ASYNC, the disjoint held locks of WF-L-ASYNC, and H(ι) = (C, F, locked) of WF-L-THREAD: "all lock frames name distinct objects, each
-  -- of them shut". That locks(e) are held by the thread, or by the first thread of an async, is how `heldBy` is defined: "A thread holds exactly the objects of
-  -- the lock frames it will resume". WF-L-EXN asks nothing.
+  -- "all lock frames name distinct objects, each of them shut": an object has at most one lock frame in the whole tree, and that only if it is there and shut.
+  -- The crate published proves (proofs/LockRules) that this is so exactly when it is so of the lockedι of the reading (`lock-frames-ok`), and that H ⊢lock T of
+  -- the reading follows (`locks-formed`): WF-L-THREAD, WF-L-ASYNC and WF-L-EXN, premise for premise, with document 01's rule for a failed leftmost thread.
   pub distinct : (o : ℕ) → lockCount o (c .tree) ≤ shutAt (c .stores .objects) o
   -- added to Figure 7: "With no failed thread no other objects are shut."
   pub covered : failures (c .tree) ≡ 0 → (o : ℕ) → shutAt (c .stores .objects) o ≤ lockCount o (c .tree)

@@ -6,6 +6,7 @@ mod subtyping;
 
 pub use classes::field_place;
 pub use classes::method_record;
+use limits::Limits;
 pub use lookup::field_type;
 pub use lookup::find_own;
 pub use lookup::meanings;
@@ -13,6 +14,9 @@ pub use lookup::method_of;
 pub use starts::fill_starts;
 pub use subtyping::declared_as;
 pub use subtyping::is_below;
+
+// A place for each run of signatures, fields and methods.
+pub const RUNS: usize = Limits::INTERFACES + Limits::CLASSES + Limits::CLASSES;
 
 // What a method look-up finds: the types of the parameter and the result.
 pub enum Member {

@@ -3,11 +3,11 @@ use mathlib.Core.Path.{_≡_, refl, sym, ap, _∙_}
 use mathlib.Core.Bool.{false}
 use mathlib.Core.List.{List, [], _∷_, _++_, flatMap}
 use mathlib.Core.Option.{Option, none, some}
-use Prim.Native.Nat.{ℕ, suc, _+_, _*_, _-_, _<_, _≤_}
+use Prim.Native.Nat.{ℕ, suc, _+_, _-_, _<_, _≤_}
 use native.Mathlib.Omega.{arith}
 use lib.ListN.{length, length-append, replicate}
 use Rattle.words.specs.Word.{bytes}
-use Rattle.limits.specs.Limits.{OBJECTS, FRAMES, THREADS, POSITIONS}
+use Rattle.limits.specs.Limits.{OBJECTS, FRAMES, THREADS}
 use Rattle.machine.specs.declared.Value.{Value}
 use Rattle.machine.specs.declared.Value.the-variants.{Null as nil, Ref as ref}
 use Rattle.machine.specs.declared.Frame.{Frame}
@@ -23,11 +23,8 @@ use Rattle.representation.specs.Changed.{withObjects}
 use Rattle.tree.specs.declared.Tree.{Tree}
 use Rattle.tree.specs.declared.Fold.{Fold}
 use Rattle.tree.specs.declared.Fold.the-variants.{Still as stays, GoesOn as goes-on, Fails as fails}
-use Rattle.tree.specs.Entries.{Is}
 use Rattle.tree.specs.Parts.{Stands}
 use Rattle.tree.specs.Phases.{outcomeOf, FoldAt}
-use Rattle.tree.proofs.Trees.{entries-length, size-threads}
-use Rattle.tree.proofs.Parts.{used-length}
 use Rattle.environments.specs.declared.Lookup.{Lookup}
 use Rattle.environments.specs.declared.Lookup.the-variants.{Unbound, Bound}
 use Rattle.environments.specs.Chains.{bindingsIn, lookupOf}
@@ -91,10 +88,6 @@ pub looked : {b : List ℕ} {self : Tree} {i : ℕ} {x : Else} {st : Stores} {u 
     → found ≡ lookupOf (find (scope (bindingsIn b) env) n) → found ≡ lookupOf (find (scope (st .bindings) env) n)
 looked env n found s e = e ∙ ap (λ (bs : List Binding). lookupOf (find (scope bs env) n)) (scope-read s)
 
--- n threads take 2 * n - 1 positions
-many : {self : Tree} {t : machine.Tree} → Is self t → suc (self .len) ≡ 2 * threadCount t
-many {self} {t} is = omega (arith, used-length self (is .tidy), ap length (is .same), entries-length t, size-threads t)
-
 -- where a join goes on, both sides are finished, so no frame waits there
 pub finished-empty : (u : machine.Tree) → phase u ≡ finished → framesOf u ≡ []
 unfolding framesOf preorder flatMap
@@ -155,13 +148,13 @@ module _ {b : List ℕ} {self : Tree} {i : ℕ} {x : Else} (st : Stores) where
   makes-not s fs c n h l = let z : OBJECTS - counted b Objects ≡ 0 = omega arith in rw z came-full
 
   -- a fork, or no place for a thread
-  pub forks-not : (t : machine.Tree) (fs : List Frame) (e a d k : ℕ) → Is self t → POSITIONS < self .len + 2
+  pub forks-not : (t : machine.Tree) (fs : List Frame) (e a d k : ℕ) → THREADS ≤ threadCount t
       → Came b self i x (spawn st fs e a d k (THREADS - threadCount t)) b (record { effect = Full threads; tree = self })
-  forks-not t fs e a d k is l = let z : THREADS - threadCount t ≡ 0 = omega (arith, many is) in rw z came-full
+  forks-not t fs e a d k l = let z : THREADS - threadCount t ≡ 0 = omega arith in rw z came-full
 
-  pub forks : {r : Tree} (t : machine.Tree) (fs : List Frame) (e a d k : ℕ) → Is self t → self .len + 2 ≤ POSITIONS
+  pub forks : {r : Tree} (t : machine.Tree) (fs : List Frame) (e a d k : ℕ) → threadCount t < THREADS
       → Seen b r i x st (join fs k e (running a e []) (running d e [])) → Came b self i x (spawn st fs e a d k (THREADS - threadCount t)) b (record { effect = Moved; tree = r })
-  forks t fs e a d k is l s = let z : THREADS - threadCount t ≡ suc (THREADS - threadCount t - 1) = omega (arith, many is) in rw z (came-moved s)
+  forks t fs e a d k l s = let z : THREADS - threadCount t ≡ suc (THREADS - threadCount t - 1) = omega arith in rw z (came-moved s)
 
   -- a join
   pub stays-joined : (fs : List Frame) (a e : ℕ) (left right : machine.Tree) (how : Fold) → FoldAt self i how → how ≡ stays → Seen b self i x st (join fs a e left right)

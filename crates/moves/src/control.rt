@@ -52,7 +52,7 @@ pub fn become_join(tree: Tree, i: usize, env: u16, a: u16, b: u16, c: u16) -> St
         Came bytes tree i x (spawn st fs env a b c (THREADS - threadCount t)) bytes r)
         ⌝ }
 {
-    if Limits::POSITIONS < tree.len + 2 {
+    if Limits::THREADS <= tree.thread_count() {
         return Step {
             effect: Effect::Full(Store::Threads),
             tree: tree,

@@ -1,4 +1,4 @@
-// Moves that give a value: null, a variable, a field, a new object.
+// Moves that give a value: null, a variable, a new object. A field is read in `fields`.
 use crate::Effect;
 use crate::Step;
 use block::Area;

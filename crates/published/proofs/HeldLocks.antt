@@ -60,7 +60,7 @@ distinct-held (locks p ∷ fs) h =
     (λ b (m : b ∈ held fs) (e : p ≡ b). omega (arith, h b, ap oneIf (eq-eqb b p (sym e)), in-held b fs m))
     (distinct-held fs (λ o. omega (arith, h o)))
 
-shut-locked : (xs : List Object) (o : ℕ) → 1 ≤ shutAt xs o → Locked xs o
+pub shut-locked : (xs : List Object) (o : ℕ) → 1 ≤ shutAt xs o → Locked xs o
 shut-locked [] o h = absurd (omega arith)
 shut-locked (x ∷ xs) zero h = record { it = x; there = refl; shut = is-one (x .shut) h }
   where

@@ -11,6 +11,7 @@ use Rattle.script.specs.Lists.{_∈_}
 use Rattle.script.specs.Syntax.{Point, Node, n-null, n-var, n-select, n-update, n-call, n-bind, n-new, n-cast, n-fork, n-lock, build, parts, Program, Expr}
 use Rattle.script.proofs.Reading.{first}
 use Rattle.typing.specs.Published.{T-SUB-EQ, BD-INFER-VAR, BD-INFER-LET, BD-INFER-CALL, BD-INFER-CAST, BD-INFER-SELECT, BD-INFER-UPDATE, BD-INFER-LOCK}
+use Rattle.typing.proofs.Environments.{type-in}
 use Rattle.machine.specs.declared.Store.{Store}
 use Rattle.machine.specs.declared.Store.the-variants.{Frames}
 use Rattle.machine.specs.declared.Value.{Value}
@@ -35,7 +36,7 @@ use Rattle.machine.proofs.Move.{Judged, no-move, a-move, run-good, resume-good}
 use Rattle.machine.proofs.Ends.{frames-append, fold-broken}
 use Rattle.published.proofs.Names.{variable, read-grow}
 use Rattle.machine.proofs.Locks.{in-held}
-use Rattle.published.proofs.Steps.{Exact, published, give-step, make-step, spawn-step, lock-step, select-step, resume-step, last-grow}
+use Rattle.published.proofs.Steps.{thread-join, site-thread, Exact, published, give-step, make-step, spawn-step, lock-step, select-step, resume-step, last-grow}
 use Rattle.published.proofs.Unplug.{outs, unplug, Redex, r-var, r-new, r-fork, r-lock, r-select, r-hole, tag, fill-tag, value-stuck, only-reduce, redex-active, determined}
 
 -- So many silent moves, at places of this kind.
@@ -175,16 +176,16 @@ module _ {s : Code} {start : ℕ} {st : Stores} (ok : StoresOk s st) (acc : Acce
         first-silent (ap (runNode s (spare lim st (running a e fs)) st above fs e a) i) (rw i) (at-most k (omega arith) (resume-reach fs nil v r fits-nil d (rw b at h)))
     node-reach k (n-var x) i t (gives-type (BD-INFER-VAR z j) m) d rec h =
         at-most (suc k) (omega arith)
-        (redex-reach (n-var x) i t (gives-type (BD-INFER-VAR z j) m) r-var refl (give-step ok acc (spare lim st (running a e fs)) above fs v r e a x _ (node-expr acc a y (n-var x) i) j) h)
+        (redex-reach (n-var x) i t (gives-type (BD-INFER-VAR z j) m) r-var refl (give-step ok acc (spare lim st (running a e fs)) above fs v r e a x _ (node-expr acc a y (n-var x) i) (type-in j)) h)
     node-reach k (n-select x f) i t (gives-type (BD-INFER-SELECT (BD-INFER-VAR z j) p) m) d rec h =
         at-most (suc k) (omega arith)
-        (redex-reach (n-select x f) i t (gives-type (BD-INFER-SELECT (BD-INFER-VAR {n = a} z j) p) m) r-select refl (select-step ok acc (spare lim st (running a e fs)) above fs v r e a x f _ _ (node-expr acc a y (n-select x f) i) j p) h)
+        (redex-reach (n-select x f) i t (gives-type (BD-INFER-SELECT (BD-INFER-VAR {n = a} z j) p) m) r-select refl (select-step ok acc (spare lim st (running a e fs)) above fs v r e a x f _ _ (node-expr acc a y (n-select x f) i) (type-in j) p) h)
     node-reach k (n-update x f b) i t (gives-type (BD-INFER-UPDATE {t = u} (BD-INFER-VAR z j) q p) m) d rec h =
         descend-reach k b (awaits a e) (n-update x f b) i refl refl (rw i) refl
-        (rec b (awaits a e) (upto u) (t b first) (a-node {t = u} y le (rw i (a-write j p)) m r) (record { node = t b first .there; gives = check-gives q }) (λ o. refl)) h
+        (rec b (awaits a e) (upto u) (t b first) (a-node {t = u} y le (rw i (a-write (type-in j) p)) m r) (record { node = t b first .there; gives = check-gives q }) (λ o. refl)) h
     node-reach k (n-call x c b) i t (gives-type (BD-INFER-CALL {t₂ = u} (BD-INFER-VAR z j) q p) m) d rec h =
         descend-reach k b (awaits a e) (n-call x c b) i refl refl (rw i) refl
-        (rec b (awaits a e) (upto u) (t b first) (a-node {t = u} y le (rw i (a-call j p)) m r) (record { node = t b first .there; gives = check-gives q }) (λ o. refl)) h
+        (rec b (awaits a e) (upto u) (t b first) (a-node {t = u} y le (rw i (a-call (type-in j) p)) m r) (record { node = t b first .there; gives = check-gives q }) (λ o. refl)) h
     node-reach k (n-bind x b c) i t (gives-type (BD-INFER-LET {t₁ = n} {t = u} p q) m) d rec h =
         descend-reach k b (awaits a e) (n-bind x b c) i refl refl (rw i) refl
         (rec b (awaits a e) (upto n) (t b first) (a-node {t = n} {u = u} y le (rw i (a-let p q)) m r) (record { node = t b first .there; gives = gives-type p (meets-type (T-SUB-EQ (let-type q))) }) (λ o. refl)) h
@@ -199,7 +200,7 @@ module _ {s : Code} {start : ℕ} {st : Stores} (ok : StoresOk s st) (acc : Acce
         (redex-reach (n-fork p q c) i t g r-fork refl (spawn-step ok acc (spare lim st (running a e fs)) above fs v r e a p q c (node-expr acc a y (n-fork p q c) i) (spare lim st (running a e fs) .threads)) h)
     node-reach k (n-lock x b) i t (gives-type (BD-INFER-LOCK (BD-INFER-VAR z j) p) m) d rec h =
         at-most (suc k) (omega arith)
-        (redex-reach (n-lock x b) i t (gives-type (BD-INFER-LOCK (BD-INFER-VAR {n = a} z j) p) m) r-lock refl (lock-step ok acc (spare lim st (running a e fs)) above fs v r e a x _ b (node-expr acc a y (n-lock x b) i) j d) h)
+        (redex-reach (n-lock x b) i t (gives-type (BD-INFER-LOCK (BD-INFER-VAR {n = a} z j) p) m) r-lock refl (lock-step ok acc (spare lim st (running a e fs)) above fs v r e a x _ b (node-expr acc a y (n-lock x b) i) (type-in j) d) h)
 
   run-reach : {w : Want} (k : ℕ) (a : Point) (fs : List Frame) (e : ℕ) (v : Want) → s .size ≤ a + k → FramesOk s (st .bindings) w fs v → e ≤ length (st .bindings)
       → NodeGives s (context (st .bindings) e) a v → ((o : ℕ) → lockFrames o above + lockFrames o fs ≤ shutAt (st .objects) o)
@@ -309,21 +310,7 @@ ready {s} {st = st} acc above (returning x fs) L v ok h =
 ready acc above failed L v ok h = absurd (let z : _≡_ {A = ℕ} 0 1 = cc in omega arith)
 ready acc above (join fs a e l r) L v ok h = absurd (let z : _≡_ {A = ℕ} 0 1 = cc in omega arith)
 
--- a step of a thread is made at its root, and a failed tree has none
-thread-join : {L : List ℕ} {a c : PExpr} {P Q : PTree} → p-thread L a ≡ p-join P Q c → ⊥
-thread-join h = let z : _≡_ {A = ℕ} 0 1 = cc in omega arith
-
-site-thread : {p : Program} {W X : World} {L : List ℕ} {a : PExpr} {P T : PTree} → P ≡ p-thread L a → (h : Step p W P X T) → site h ≡ here
-site-thread e (reduces h) = refl
-site-thread e (DYN-EVAL-CONTEXT E c h) = refl
-site-thread e (DYN-EVAL-SPAWN-CONTEXT E c h) = refl
-site-thread e (DYN-EXCEPTION-CONTEXT E c h) = refl
-site-thread e (DYN-EVAL-ASYNC-LEFT h) = absurd (thread-join (sym e))
-site-thread e (DYN-EVAL-ASYNC-RIGHT h) = absurd (thread-join (sym e))
-site-thread e DYN-EVAL-ASYNC-JOIN = refl
-site-thread e DYN-EXCEPTION-ASYNC-LEFT = refl
-site-thread e DYN-EXCEPTION-ASYNC-RIGHT = refl
-
+-- a failed tree has no step
 failed-stuck : {p : Program} {W X : World} {T : PTree} → Step p W p-failed X T → ⊥
 failed-stuck h = elim h [ ]
 

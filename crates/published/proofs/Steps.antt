@@ -8,10 +8,11 @@ use mathlib.Core.Option.{some}
 use lib.Dec.{eqb}
 use lib.ListN.{length}
 use borrow.Author.Tests.{eq-eqb}
-use Rattle.script.specs.Syntax.{Point, Node, n-null, n-var, n-select, n-update, n-call, n-bind, n-new, n-cast, n-fork, n-lock, build, pointOf, var, select, new, fork, lock}
+use Rattle.script.specs.Syntax.{Point, Node, n-null, n-var, n-select, n-update, n-call, n-bind, n-new, n-cast, n-fork, n-lock, build, pointOf, var, select, new, fork, lock, Program}
 use Rattle.typing.specs.declared.Answer.the-variants.{Typed}
 use Rattle.typing.specs.Members.{typeIn, fieldsOf}
 use Rattle.typing.specs.Published.{FieldIn, MsigIn, BD-INFER-VAR, BD-INFER-SELECT, BD-INFER-LOCK}
+use Rattle.typing.proofs.Environments.{type-in}
 use Rattle.machine.specs.declared.Store.{Store}
 use Rattle.machine.specs.declared.Value.{Value}
 use Rattle.machine.specs.declared.Value.the-variants.{Null as nil, Ref as ref}
@@ -25,8 +26,10 @@ use Rattle.machine.specs.WellFormed.{meets-type, ValueFits, fits-ref, Gives, gi
 use Rattle.machine.specs.Accepted.{AcceptedCode}
 use Rattle.published.specs.Steps.{fresh, PExpr, p-value, fill, PTree, p-thread, p-join, p-failed, World, remove, entryValue, DYN-EVAL-VAR, DYN-EVAL-LET, DYN-EVAL-CALL, DYN-EVAL-CAST, DYN-EVAL-SELECT, DYN-EVAL-UPDATE, DYN-EVAL-NEW, DYN-EVAL-LOCK, DYN-EVAL-LOCK-REENTRANT, DYN-EVAL-LOCK-RELEASE, DYN-EVAL-SPAWN, DYN-NPE-SELECT, DYN-NPE-UPDATE, DYN-NPE-CALL, DYN-NPE-LOCK, Step, reduces, DYN-EVAL-CONTEXT, DYN-EVAL-SPAWN-CONTEXT, DYN-EXCEPTION-CONTEXT, DYN-EVAL-ASYNC-LEFT, DYN-EVAL-ASYNC-RIGHT, DYN-EVAL-ASYNC-JOIN, DYN-EXCEPTION-ASYNC-LEFT, DYN-EXCEPTION-ASYNC-RIGHT}
 use Rattle.published.specs.ReadAs.{entries, names, hole, plug, world, said, read}
-use Rattle.machine.specs.Silent.{quiet, quietIn}
+use Rattle.machine.specs.Silent.{quiet, quietIn, SilentAt}
 use Rattle.published.specs.Means.{Means, silently, publicly}
+use Rattle.published.specs.Reach.{site}
+use Rattle.published.specs.Traces.{Transition, published-step, silent-move}
 use Rattle.machine.proofs.Types.{below-class, below-method, infer-computes, field-declared, Defined, defined}
 use Rattle.machine.proofs.Stores.{seen, field-seen, shutAt-le, shutAt-object}
 use Rattle.machine.proofs.Grow.{Grows, grows-binding, grows-call}
@@ -34,6 +37,7 @@ use Rattle.machine.proofs.Move.{Judged, a-move}
 use Rattle.machine.proofs.Trees.{move-good}
 use Rattle.machine.proofs.Ends.{is-broken, frames-append}
 use Rattle.machine.proofs.Locks.{held-in, in-held}
+use Rattle.machine.proofs.Silent.{silent-at}
 use Rattle.published.proofs.Names.{variable, entry-new, entry-count, let-reading, call-reading, entry-older, plug-grow, read-grow, said-grow}
 
 -- a step inside frames
@@ -50,6 +54,21 @@ plug-spawn : (s : Code) (bs : List Binding) {W : World} {L : List ℕ} {a b c d 
     → Step (s .program) W (p-thread L (plug s bs fs a)) W (p-join (p-thread L b) (p-thread [] c) (plug s bs fs d))
 plug-spawn s bs [] h = h
 plug-spawn s bs (f ∷ fs) h = plug-spawn s bs fs (DYN-EVAL-SPAWN-CONTEXT (hole s bs f) refl h)
+
+-- a step of a thread is made at its root
+pub thread-join : {L : List ℕ} {a c : PExpr} {P Q : PTree} → p-thread L a ≡ p-join P Q c → ⊥
+thread-join h = let z : _≡_ {A = ℕ} 0 1 = cc in omega arith
+
+pub site-thread : {p : Program} {W X : World} {L : List ℕ} {a : PExpr} {P T : PTree} → P ≡ p-thread L a → (h : Step p W P X T) → site h ≡ here
+site-thread e (reduces h) = refl
+site-thread e (DYN-EVAL-CONTEXT E c h) = refl
+site-thread e (DYN-EVAL-SPAWN-CONTEXT E c h) = refl
+site-thread e (DYN-EXCEPTION-CONTEXT E c h) = refl
+site-thread e (DYN-EVAL-ASYNC-LEFT h) = absurd (thread-join (sym e))
+site-thread e (DYN-EVAL-ASYNC-RIGHT h) = absurd (thread-join (sym e))
+site-thread e DYN-EVAL-ASYNC-JOIN = refl
+site-thread e DYN-EXCEPTION-ASYNC-LEFT = refl
+site-thread e DYN-EXCEPTION-ASYNC-RIGHT = refl
 
 -- a lock that is not held
 remove-other : (o p n : ℕ) (L : List ℕ) (q : Bool) → eqb o p ≡ q → oneIf q + n ≡ 0 → (n ≡ 0 → remove o L ≡ L) → cond q (remove o L) (p ∷ remove o L) ≡ p ∷ L
@@ -68,11 +87,23 @@ pub data Exact (s : Code) (st : Stores) (above : List Frame) (t : Tree) : Outcom
   no-place : {k : Store} → Exact s st above t (full k)
   published : {su : Stores} {u : Tree} → Step (s .program) (world st) (read s (st .bindings) above t) (world su) (read s (su .bindings) above u) → Exact s st above t (moved su u)
 
--- The flag says that the move due is silent.
-pub data Faithful (s : Code) (st : Stores) (above : List Frame) (t : Tree) : Bool → Outcome → Type 0 where
-  silent : {u : Tree} → read s (st .bindings) above u ≡ read s (st .bindings) above t → Faithful s st above t true (moved st u)
-  silent-full : {k : Store} → Faithful s st above t true (full k)
-  exact : {o : Outcome} → Exact s st above t o → Faithful s st above t false o
+-- A published step made at this place.
+abbrev StepAt : Code → Stores → List Frame → Tree → Path → Stores → Tree → Type 0
+StepAt s st above t p su u = (k : Step (s .program) (world st) (read s (st .bindings) above t) (world su) (read s (su .bindings) above u)) × (site k ≡ p)
+
+-- What the move at a place is; the flag says that the move due is silent.
+data Faithful (s : Code) (st : Stores) (above : List Frame) (t : Tree) (p : Path) : Bool → Outcome → Type 0 where
+  silent : {u : Tree} → read s (st .bindings) above u ≡ read s (st .bindings) above t → Faithful s st above t p true (moved st u)
+  silent-full : {k : Store} → Faithful s st above t p true (full k)
+  stays : Faithful s st above t p false still
+  step-full : {k : Store} → Faithful s st above t p false (full k)
+  steps : {su : Stores} {u : Tree} → StepAt s st above t p su u → Faithful s st above t p false (moved su u)
+
+of-thread : {s : Code} {st : Stores} {above : List Frame} {t : Tree} {L : List ℕ} {a : PExpr} {o : Outcome} → read s (st .bindings) above t ≡ p-thread L a
+    → Exact s st above t o → Faithful s st above t here false o
+of-thread e no-change = stays
+of-thread e no-place = step-full
+of-thread e (published k) = steps (k, site-thread e k)
 
 module _ {s : Code} {w : Want} {st : Stores} (ok : StoresOk s st) {start : ℕ} (acc : AcceptedCode s start) (room : Places) (above fs : List Frame) where
   module _ (v : Want) (r : FramesOk s (st .bindings) w fs v) (e : ℕ) (p : Point) where
@@ -151,23 +182,23 @@ module _ {s : Code} {w : Want} {st : Stores} (ok : StoresOk s st) {start : ℕ} 
 
     -- a part is run first: the reading stays
     descend-step : (a : Point) (f : Frame) → said s (st .bindings) e p ≡ fill (hole s (st .bindings) f) (said s (st .bindings) e a) → held (f ∷ (fs ++ above)) ≡ held (fs ++ above) → (k : ℕ)
-        → Faithful s st above (running p e fs) true (descend st fs e f a k)
+        → Faithful s st above (running p e fs) here true (descend st fs e f a k)
     descend-step a f h i zero = silent-full
     descend-step a f h i (suc k) = silent (λ j. p-thread (i j) (plug s (st .bindings) fs (sym h j)))
 
     run-step : (n : Node) → s .view p ≡ n → s .expr p ≡ build p (s .expr) n → Gives s (context (st .bindings) e) (build p (s .expr) n) v
         → ((o : ℕ) → lockFrames o above + lockFrames o fs ≤ shutAt (st .objects) o)
-        → Faithful s st above (running p e fs) (quiet n) (runNode s room st above fs e p n)
+        → Faithful s st above (running p e fs) here (quiet n) (runNode s room st above fs e p n)
     run-step n-null i b g d = silent {u = returning nil fs} (rw b)
-    run-step (n-var x) i b (gives-type (BD-INFER-VAR w h) m) d = exact (give-step x _ b h)
-    run-step (n-select x f) i b (gives-type (BD-INFER-SELECT (BD-INFER-VAR w h) k) m) d = exact (select-step x f _ _ b h k)
+    run-step (n-var x) i b (gives-type (BD-INFER-VAR w h) m) d = of-thread refl (give-step x _ b (type-in h))
+    run-step (n-select x f) i b (gives-type (BD-INFER-SELECT (BD-INFER-VAR w h) k) m) d = of-thread refl (select-step x f _ _ b (type-in h) k)
     run-step (n-update x f a) i b g d = descend-step a (awaits p e) (rw (i, b)) refl (room .frames)
     run-step (n-call x n a) i b g d = descend-step a (awaits p e) (rw (i, b)) refl (room .frames)
     run-step (n-bind x a c) i b g d = descend-step a (awaits p e) (rw (i, b)) refl (room .frames)
-    run-step (n-new c) i b g d = exact (make-step c b (room .objects))
+    run-step (n-new c) i b g d = of-thread refl (make-step c b (room .objects))
     run-step (n-cast t a) i b g d = descend-step a (casts p) (rw (i, b)) refl (room .frames)
-    run-step (n-fork a b c) i j g d = exact (spawn-step a b c j (room .threads))
-    run-step (n-lock x a) i b (gives-type (BD-INFER-LOCK (BD-INFER-VAR w h) k) m) d = exact (lock-step x _ a b h d)
+    run-step (n-fork a b c) i j g d = of-thread refl (spawn-step a b c j (room .threads))
+    run-step (n-lock x a) i b (gives-type (BD-INFER-LOCK (BD-INFER-VAR w h) k) m) d = of-thread refl (lock-step x _ a b (type-in h) d)
 
   module _ (p : Point) (e : ℕ) (v : Want) (x : Value) (r : FramesOk s (st .bindings) w fs v) where
     bind-step : (n t : ℕ) (a b : Point) → s .view p ≡ n-bind n a b → (k : ℕ)
@@ -286,49 +317,50 @@ is-finished failed h = (nil, cc)
 is-finished (join fs a e l r) h = (nil, cc)
 
 module _ {s : Code} {st : Stores} (above fs : List Frame) (a : Point) (e : ℕ) (l r : Tree) where
-  fold-step : (p q : Phase) → phase l ≡ p → phase r ≡ q → Exact s st above (join fs a e l r) (fold st fs a e p q)
-  fold-step finished finished h k =
-      published {su = st} {u = running a e fs} (rw (is-finished l h .1, is-finished r k .1) DYN-EVAL-ASYNC-JOIN)
-  fold-step finished broken h k = published {su = st} {u = failed} (rw (is-broken r k) DYN-EXCEPTION-ASYNC-RIGHT)
-  fold-step finished busy h k = no-change
-  fold-step broken q h k = published {su = st} {u = failed} (rw (is-broken l h) DYN-EXCEPTION-ASYNC-LEFT)
-  fold-step busy finished h k = no-change
-  fold-step busy broken h k = published {su = st} {u = failed} (rw (is-broken r k) DYN-EXCEPTION-ASYNC-RIGHT)
-  fold-step busy busy h k = no-change
+  fold-step : (p q : Phase) → phase l ≡ p → phase r ≡ q → Faithful s st above (join fs a e l r) here false (fold st fs a e p q)
+  fold-step finished finished h k = steps {su = st} {u = running a e fs} (rw (is-finished l h .1, is-finished r k .1) (DYN-EVAL-ASYNC-JOIN, refl))
+  fold-step finished broken h k = steps {su = st} {u = failed} (rw (is-broken r k) (DYN-EXCEPTION-ASYNC-RIGHT, refl))
+  fold-step finished busy h k = stays
+  fold-step broken q h k = steps {su = st} {u = failed} (rw (is-broken l h) (DYN-EXCEPTION-ASYNC-LEFT, refl))
+  fold-step busy finished h k = stays
+  fold-step busy broken h k = steps {su = st} {u = failed} (rw (is-broken r k) (DYN-EXCEPTION-ASYNC-RIGHT, refl))
+  fold-step busy busy h k = stays
 
   module _ {w v : Want} (le : e ≤ length (st .bindings)) (k : FramesOk s (st .bindings) w fs v) where
     pub last-grow : {su : Stores} → Grows st su → plug s (su .bindings) fs (said s (su .bindings) e a) ≡ plug s (st .bindings) fs (said s (st .bindings) e a)
     last-grow g = plug-grow g k _ ∙ ap (plug s (st .bindings) fs) (said-grow s g e a le)
 
-    left-step : TreeOk s st any r → {q : Bool} {o : Outcome} → Judged s any st l (Unit {0}) o → Faithful s st (fs ++ above) l q o → Faithful s st above (join fs a e l r) q (inLeft fs a e r o)
-    left-step y j (exact no-change) = exact no-change
-    left-step y j (exact no-place) = exact no-place
-    left-step y j silent-full = silent-full
+    left-step : TreeOk s st any r → {p : Path} {q : Bool} {o : Outcome} → Judged s any st l (Unit {0}) o → Faithful s st (fs ++ above) l p q o
+        → Faithful s st above (join fs a e l r) (left p) q (inLeft fs a e r o)
     left-step y j (silent h) = silent (ap (λ (z : PTree). p-join z (read s (st .bindings) [] r) (plug s (st .bindings) fs (said s (st .bindings) e a))) h)
-    left-step y (a-move f) (exact (published {su = su} {u = u} h)) =
-        exact (published {su = su} {u = join fs a e u r} (rw (read-grow (f .grows) [] y, last-grow (f .grows)) (DYN-EVAL-ASYNC-LEFT h)))
+    left-step y j silent-full = silent-full
+    left-step y j stays = stays
+    left-step y j step-full = step-full
+    left-step y (a-move f) (steps {su = su} {u = u} h) =
+        steps {su = su} {u = join fs a e u r} (rw (read-grow (f .grows) [] y, last-grow (f .grows)) (DYN-EVAL-ASYNC-LEFT (h .0), ap left (h .1)))
 
-    right-step : TreeOk s st any l → {q : Bool} {o : Outcome} → Judged s any st r (Unit {0}) o → Faithful s st [] r q o → Faithful s st above (join fs a e l r) q (inRight fs a e l o)
-    right-step y j (exact no-change) = exact no-change
-    right-step y j (exact no-place) = exact no-place
-    right-step y j silent-full = silent-full
+    right-step : TreeOk s st any l → {p : Path} {q : Bool} {o : Outcome} → Judged s any st r (Unit {0}) o → Faithful s st [] r p q o
+        → Faithful s st above (join fs a e l r) (right p) q (inRight fs a e l o)
     right-step y j (silent h) = silent (ap (λ (z : PTree). p-join (read s (st .bindings) (fs ++ above) l) z (plug s (st .bindings) fs (said s (st .bindings) e a))) h)
-    right-step y (a-move f) (exact (published {su = su} {u = u} h)) =
-        exact (published {su = su} {u = join fs a e l u} (rw (read-grow (f .grows) (fs ++ above) y, last-grow (f .grows)) (DYN-EVAL-ASYNC-RIGHT h)))
+    right-step y j silent-full = silent-full
+    right-step y j stays = stays
+    right-step y j step-full = step-full
+    right-step y (a-move f) (steps {su = su} {u = u} h) =
+        steps {su = su} {u = join fs a e l u} (rw (read-grow (f .grows) (fs ++ above) y, last-grow (f .grows)) (DYN-EVAL-ASYNC-RIGHT (h .0), ap right (h .1)))
 
 move-step : {s : Code} {w : Want} {st : Stores} {start : ℕ} (acc : AcceptedCode s start) (room : Places) (above : List Frame) (t : Tree) (p : Path)
     → StoresOk s st → TreeOk s st w t → ((o : ℕ) → lockFrames o above + lockCount o t ≤ shutAt (st .objects) o)
-    → Faithful s st above t (quietIn s (part t p)) (moveAt s room st above t p)
+    → Faithful s st above t p (quietIn s (part t p)) (moveAt s room st above t p)
 move-step {s} acc room above (running a e fs) here ok (running-ok le g r) k = run-step ok acc room above fs _ r e a (s .view a) refl (acc .built a (g .node)) (rw (acc .built a (g .node)) at (g .gives)) k
-move-step acc room above (running a e fs) (left p) ok x k = exact no-change
-move-step acc room above (running a e fs) (right p) ok x k = exact no-change
-move-step acc room above (returning v fs) here ok (returning-ok f r) k = exact (resume-step ok acc room above fs v _ r k)
-move-step acc room above (returning v fs) (left p) ok x k = exact no-change
-move-step acc room above (returning v fs) (right p) ok x k = exact no-change
-move-step acc room above failed here ok x k = exact no-change
-move-step acc room above failed (left p) ok x k = exact no-change
-move-step acc room above failed (right p) ok x k = exact no-change
-move-step acc room above (join fs a e l r) here ok x k = exact (fold-step above fs a e l r (phase l) (phase r) refl refl)
+move-step acc room above (running a e fs) (left p) ok x k = stays
+move-step acc room above (running a e fs) (right p) ok x k = stays
+move-step acc room above (returning v fs) here ok (returning-ok f r) k = of-thread refl (resume-step ok acc room above fs v _ r k)
+move-step acc room above (returning v fs) (left p) ok x k = stays
+move-step acc room above (returning v fs) (right p) ok x k = stays
+move-step acc room above failed here ok x k = stays
+move-step acc room above failed (left p) ok x k = stays
+move-step acc room above failed (right p) ok x k = stays
+move-step acc room above (join fs a e l r) here ok x k = fold-step above fs a e l r (phase l) (phase r) refl refl
 move-step acc room above (join fs a e l r) (left p) ok (join-ok le g h x y) k =
     left-step above fs a e l r le h y (move-good acc room (fs ++ above) l p ok x (λ o. omega (arith, k o)))
     (move-step acc room (fs ++ above) l p ok x (λ o. omega (arith, k o, frames-append o fs above)))
@@ -338,16 +370,28 @@ move-step acc room above (join fs a e l r) (right p) ok (join-ok le g h x y) k =
 
 -- Every move of a well-formed configuration leaves the stores and the reading as they were where it is silent by its kind, else it is one published step.
 faithful : {s : Code} {start : ℕ} (acc : AcceptedCode s start) (lim : Places) {w : Want} {c : Config} (p : Path) → WfConfig s w c
-    → Faithful s (c .stores) [] (c .tree) (quietIn s (part (c .tree) p)) (move s lim c p)
+    → Faithful s (c .stores) [] (c .tree) p (quietIn s (part (c .tree) p)) (move s lim c p)
 unfolding move
 faithful acc lim {c = c} p h = move-step acc (spare lim (c .stores) (c .tree)) [] (c .tree) p (h .stores) (h .tree) (λ o. omega (arith, h .distinct o))
 
 -- what that says of a move made
-meant : {s : Code} {c : Config} {su : Stores} {u : Tree} {q : Bool} → Faithful s (c .stores) [] (c .tree) q (moved su u) → Means s c (record { stores = su; tree = u }) q
+meant : {s : Code} {c : Config} {p : Path} {su : Stores} {u : Tree} {q : Bool} → Faithful s (c .stores) [] (c .tree) p q (moved su u) → Means s c (record { stores = su; tree = u }) q
 meant {s} {c} (silent h) = silently refl (λ i. record { world = world (c .stores); threads = h i })
-meant (exact (published h)) = publicly h
+meant (steps h) = publicly (h .0)
 
 -- Moves are published: a move is one of the listed silent ones and leaves the reading as it was, or is one published step from reading to reading.
 pub moves-published : {s : Code} {start : ℕ} (acc : AcceptedCode s start) (lim : Places) {w : Want} {c : Config} (p : Path) {su : Stores} {u : Tree} → WfConfig s w c → move s lim c p ≡ moved su u
     → Means s c (record { stores = su; tree = u }) (quietIn s (part (c .tree) p))
 moves-published acc lim p h e = meant (rw e at (faithful acc lim p h))
+
+-- And the same with its place: the published step is made where the move is, and the silent move is the one listed for the node of the thread there.
+placed : {s : Code} {c : Config} {p : Path} {su : Stores} {u : Tree} {q : Bool} → Faithful s (c .stores) [] (c .tree) p q (moved su u) → (q ≡ true → SilentAt s p (c .tree) u)
+    → Transition s c p (record { stores = su; tree = u })
+placed {s} {c} (silent h) f = silent-move (f refl) refl (λ i. record { world = world (c .stores); threads = h i })
+placed (steps h) f = published-step (h .0) (h .1)
+
+pub moves-transitions : {s : Code} {start : ℕ} (acc : AcceptedCode s start) (lim : Places) {w : Want} {c : Config} (p : Path) {su : Stores} {u : Tree} → WfConfig s w c → move s lim c p ≡ moved su u
+    → Transition s c p (record { stores = su; tree = u })
+unfolding move
+moves-transitions {s} acc lim {c = c} p {su} {u} h e =
+    placed (rw e at (faithful acc lim p h)) (λ q. silent-at s (spare lim (c .stores) (c .tree)) (c .stores) [] (c .tree) p su u q e)

@@ -80,3 +80,7 @@ reading s c = record { world = world (c .stores); threads = read s (c .stores .b
 -- ⟨H; V; T⟩ ↪ ⟨H'; V'; T'⟩
 abbrev pub Steps : Program → Reading → Reading → Type 0
 Steps p r q = Step p (r .world) (r .threads) (q .world) (q .threads)
+
+-- ⟨ε; ε; (∅, e)⟩, where e is the start expression of the program: no object, no variable, and one thread that holds no lock.
+abbrev pub initialReading : Program → Reading
+initialReading p = record { world = record { heap = []; vars = [] }; threads = p-thread [] (close static (p .start)) }

@@ -15,7 +15,7 @@ use Rattle.machine.specs.Config.{Object}
 use Rattle.typing.specs.Members.{fieldsOf, definedIn}
 use Rattle.machine.specs.Machine.{object, setShut, setFields, fieldValue, setField, nulls}
 
--- A variable of the program text, or one that a step made. "Fresh" is the next number, as in the mechanised version.
+-- A variable of the program text, or one that a step made. A fresh one is the next number, as in the mechanised version.
 pub data PVar : Type 0 where
   static : ℕ → PVar
   fresh : ℕ → PVar

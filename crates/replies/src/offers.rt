@@ -1,8 +1,8 @@
 // Offer.
-use crate::FEW_NAMES;
-use crate::NAMES;
-use crate::RUNS;
+use inference::FEW_NAMES;
 use limits::Limits;
+use members::RUNS;
+use sharing::NAMES;
 use wellformed::well_formed;
 ghost use mathlib.Core.Path.{_≡_};
 ghost use lib.ListN.{length};
@@ -10,7 +10,8 @@ ghost use Rattle.limits.specs.Limits.{BLOCK, FLAGS};
 ghost use Rattle.script.specs.Statements.{WithinLayout};
 ghost use Rattle.typing.specs.declared.Verdict.the-variants.{Accepted};
 ghost use Rattle.typing.specs.Check.{checkOf};
-ghost use Rattle.inference.specs.Tables.{Named};
+ghost use Rattle.sharing.specs.Free.{NAMES};
+ghost use Rattle.inference.specs.Tables.{FEW-NAMES, Named};
 ghost use Rattle.environments.specs.Chains.{Zeros};
 ghost use Rattle.calls.specs.Calls.{askForm, configOf, offeredFrom};
 ghost use Rattle.calls.specs.Answers.{found};
@@ -40,7 +41,7 @@ fn flag(s: &[u8], table: &mut [u16], t: u16, block: &[u8], flags: &mut [u8]) -> 
 
 // With a table for the variables below 1,024, which most scripts are content with.
 fn offer_few(s: &[u8], t: u16, block: &[u8], flags: &mut [u8]) -> bool
-    requires { ⌜ WithinLayout (now s) × Named (now s) 1024 × (checkOf (now s) ≡ Accepted t) ⌝ }
+    requires { ⌜ WithinLayout (now s) × Named (now s) FEW-NAMES × (checkOf (now s) ≡ Accepted t) ⌝ }
     requires { ⌜ (length (now block) ≡ BLOCK) × (length (now flags) ≡ FLAGS) ⌝ }
     ensures formed { λ r. ⌜ r ≡ found (configOf (now (s .entry)) t (now (block .entry))) ⌝ }
     ensures flags { λ r. ⌜
@@ -54,7 +55,7 @@ fn offer_few(s: &[u8], t: u16, block: &[u8], flags: &mut [u8]) -> bool
 
 // With a table for every variable.
 fn offer_many(s: &[u8], t: u16, block: &[u8], flags: &mut [u8]) -> bool
-    requires { ⌜ WithinLayout (now s) × Named (now s) 65536 × (checkOf (now s) ≡ Accepted t) ⌝ }
+    requires { ⌜ WithinLayout (now s) × Named (now s) NAMES × (checkOf (now s) ≡ Accepted t) ⌝ }
     requires { ⌜ (length (now block) ≡ BLOCK) × (length (now flags) ≡ FLAGS) ⌝ }
     ensures formed { λ r. ⌜ r ≡ found (configOf (now (s .entry)) t (now (block .entry))) ⌝ }
     ensures flags { λ r. ⌜

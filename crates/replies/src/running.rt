@@ -1,9 +1,9 @@
 // Run.
-use crate::FEW_NAMES;
-use crate::NAMES;
 use crate::Played;
-use crate::RUNS;
+use inference::FEW_NAMES;
 use limits::Limits;
+use members::RUNS;
+use sharing::NAMES;
 ghost use mathlib.Core.Path.{_≡_};
 ghost use Prim.Native.Nat.{_≤_};
 ghost use lib.ListN.{length};
@@ -11,7 +11,8 @@ ghost use Rattle.limits.specs.Limits.{BLOCK, CHOICES};
 ghost use Rattle.script.specs.Statements.{WithinLayout};
 ghost use Rattle.typing.specs.declared.Verdict.the-variants.{Accepted};
 ghost use Rattle.typing.specs.Check.{checkOf};
-ghost use Rattle.inference.specs.Tables.{Named};
+ghost use Rattle.sharing.specs.Free.{NAMES};
+ghost use Rattle.inference.specs.Tables.{FEW-NAMES, Named};
 ghost use Rattle.inference.specs.At.{Blank};
 ghost use Rattle.machine.specs.Config.{codeOf};
 ghost use Rattle.machine.specs.Machine.{limits};
@@ -74,7 +75,7 @@ fn play(s: &[u8], table: &mut [u16], t: u16, block: &mut [u8], choices: &[u8]) -
 
 // With a table for the variables below 1,024, which most scripts are content with.
 fn run_few(s: &[u8], t: u16, block: &mut [u8], choices: &[u8]) -> Played
-    requires { ⌜ WithinLayout (now s) × Named (now s) 1024 × (checkOf (now s) ≡ Accepted t) ⌝ }
+    requires { ⌜ WithinLayout (now s) × Named (now s) FEW-NAMES × (checkOf (now s) ≡ Accepted t) ⌝ }
     requires { ⌜ (length (now block) ≡ BLOCK) × (length (now choices) ≤ CHOICES) ⌝ }
     ensures { λ r. ⌜
         Plays (now (s .entry)) (now (block .entry)) (now (choices .entry)) (configOf (now (s .entry)) t (now (block .entry))) (now (block .exit)) r
@@ -86,7 +87,7 @@ fn run_few(s: &[u8], t: u16, block: &mut [u8], choices: &[u8]) -> Played
 
 // With a table for every variable.
 fn run_many(s: &[u8], t: u16, block: &mut [u8], choices: &[u8]) -> Played
-    requires { ⌜ WithinLayout (now s) × Named (now s) 65536 × (checkOf (now s) ≡ Accepted t) ⌝ }
+    requires { ⌜ WithinLayout (now s) × Named (now s) NAMES × (checkOf (now s) ≡ Accepted t) ⌝ }
     requires { ⌜ (length (now block) ≡ BLOCK) × (length (now choices) ≤ CHOICES) ⌝ }
     ensures { λ r. ⌜
         Plays (now (s .entry)) (now (block .entry)) (now (choices .entry)) (configOf (now (s .entry)) t (now (block .entry))) (now (block .exit)) r

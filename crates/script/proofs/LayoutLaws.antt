@@ -4,7 +4,7 @@ use mathlib.Core.Bool.{false}
 use mathlib.Core.List.{List, [], _∷_}
 use mathlib.Core.Logic.{⊎-elim, inl, inr}
 use mathlib.Core.Option.{Option, none, some}
-use Prim.Native.Nat.{ℕ, zero, suc, _+_, _-_, _<_, _≤_}
+use Prim.Native.Nat.{ℕ, zero, suc, _+_, _*_, _-_, _<_, _≤_}
 use native.Mathlib.Omega.{arith}
 use native.Mathlib.Nat.{eq-or-lt-of-le, le-of-suc-le-suc}
 use lib.Dec.{eqb}
@@ -14,7 +14,7 @@ use Rattle.limits.specs.Limits.{CONTENTS, FILE, CLASS-FIELDS}
 use Rattle.script.specs.declared.Question.{Question}
 use Rattle.script.specs.declared.Question.the-variants.{Length, Counts, Places, Interfaces, Owners, Types, Nodes, Names, Joins}
 use Rattle.script.specs.Lists.{sumBelow, countIn}
-use Rattle.script.specs.Section.{Section, interfaces, signatures, classes, fields, methods, nodes, sections, mostOf, bodyAt, countOf, endOf, nodeWord}
+use Rattle.script.specs.Section.{Section, interfaces, signatures, classes, fields, methods, nodes, sections, mostOf, sizeOf, bodyAt, countOf, endOf, nodeWord}
 use Rattle.script.specs.Syntax.{Point, Node, n-null, n-var, n-select, n-update, n-call, n-bind, n-new, n-cast, n-fork, n-lock, parts}
 use Rattle.script.specs.Reading.{Kind, null-kind, var-kind, select-kind, update-kind, call-kind, bind-kind, new-kind, cast-kind, fork-kind, lock-kind, unknown-kind, kindOf, viewAt, ownSignatures, ownFields, ownMethods}
 use Rattle.script.specs.Asking.{Refusal, firstNo, lowestOut, Decides, holds, fails, Each, Lowest, lowest-at}
@@ -362,3 +362,15 @@ layout-passes s w = go (layout-says s)
     go : {o : Option Refusal} → LayoutSays s o → o ≡ none
     go (all-yes b) = refl
     go (first-no n) = absurd (none-refused w n)
+
+-- The longest file: the contents, and each section with its most records.
+pub longest-file :
+    FILE
+    ≡ CONTENTS
+    + (sizeOf interfaces * mostOf interfaces
+    + (sizeOf signatures * mostOf signatures
+    + (sizeOf classes * mostOf classes
+    + (sizeOf fields * mostOf fields
+    + (sizeOf methods * mostOf methods
+    + sizeOf nodes * mostOf nodes)))))
+longest-file = refl

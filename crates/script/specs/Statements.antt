@@ -141,7 +141,7 @@ NamesAre s fields i = Fresh (λ j. recordWord s fields j 0) (ownFields s) (count
 NamesAre s methods i = Fresh (λ j. recordWord s methods j 0) (ownMethods s) (countOf s classes) i
 NamesAre s nodes i = Unit {0}
 
--- A yes to questions 1 to 8: what demand 2 calls "a script within layout and limits".
+-- A yes to questions 1 to 8: what demand 2 calls a script "within layout and limits".
 pub record WithinLayout (s : List ℕ) : Type 0 where
   pub length-is : LengthIs s
   pub counts-are : CountsAre s

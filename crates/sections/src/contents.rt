@@ -4,6 +4,7 @@ use script::Section;
 ghost use mathlib.Core.Path.{_≡_};
 ghost use Prim.Native.Nat.{_+_, _*_, _<_, _≤_};
 ghost use lib.ListN.{length};
+ghost use Rattle.words.specs.Word.{WORD};
 ghost use Rattle.limits.specs.Limits.{CONTENTS, FILE};
 ghost use Rattle.script.specs.Section.{entryOf, mostOf, sizeOf, bodyAt, countOf, recordAt, recordWord};
 ghost use Rattle.sections.specs.Laid.{Laid};
@@ -53,7 +54,7 @@ pub fn most_of(k: Section) -> usize
 // Where a section's body stands, as the contents say.
 pub fn body_at(s: &[u8], k: Section) -> usize
     requires { ⌜ CONTENTS ≤ length (now s) ⌝ }
-    ensures { λ r. ⌜ (r ≡ bodyAt (now (s .entry)) k) × (r < 65536) ⌝ }
+    ensures { λ r. ⌜ (r ≡ bodyAt (now (s .entry)) k) × (r < WORD) ⌝ }
 {
     let e = entry_of(k);
     slices::word_at(s, 4 * e) as usize
@@ -62,7 +63,7 @@ pub fn body_at(s: &[u8], k: Section) -> usize
 // How many records a section has, as the contents say.
 pub fn count_of(s: &[u8], k: Section) -> usize
     requires { ⌜ CONTENTS ≤ length (now s) ⌝ }
-    ensures { λ r. ⌜ (r ≡ countOf (now (s .entry)) k) × (r < 65536) ⌝ }
+    ensures { λ r. ⌜ (r ≡ countOf (now (s .entry)) k) × (r < WORD) ⌝ }
 {
     let e = entry_of(k);
     slices::word_at(s, 4 * e + 2) as usize
@@ -81,7 +82,7 @@ pub fn record_at(s: &[u8], k: Section, i: usize) -> usize
 // Word j of record i of a section.
 pub fn record_word(s: &[u8], k: Section, i: usize, j: usize) -> u16
     requires { ⌜ Laid (now s) × (i < countOf (now s) k) × (2 * j + 1 < sizeOf k) ⌝ }
-    ensures { λ r. ⌜ (r ≡ recordWord (now (s .entry)) k i j) × (r < 65536) ⌝ }
+    ensures { λ r. ⌜ (r ≡ recordWord (now (s .entry)) k i j) × (r < WORD) ⌝ }
 {
     let at = record_at(s, k, i);
     slices::word_at(s, at + 2 * j)

@@ -10,6 +10,7 @@ ghost use mathlib.Core.Path.{_≡_};
 ghost use Prim.Native.Nat.{_<_, _≤_};
 ghost use lib.Dec.{leb};
 ghost use lib.ListN.{length};
+ghost use Rattle.words.specs.Word.{WORD};
 ghost use Rattle.limits.specs.Limits.{CONTENTS};
 ghost use Rattle.script.specs.Section.{mostOf, countOf, endOf};
 ghost use Rattle.script.specs.Questions.{lengthTest, countsTest, placesTest, ownersTest};
@@ -110,7 +111,7 @@ pub fn owner_of(k: Section) -> Section
 // How many records of section k belong to owner o.
 pub fn own_count(s: &[u8], k: Section, o: usize) -> usize
     requires { ⌜ Laid (now s) × (o < countOf (now s) (ownerOf k)) ⌝ }
-    ensures { λ r. ⌜ (r ≡ ownOf (now (s .entry)) k o) × (r < 65536) ⌝ }
+    ensures { λ r. ⌜ (r ≡ ownOf (now (s .entry)) k o) × (r < WORD) ⌝ }
 {
     match k {
         Section::Signatures => {

@@ -4,6 +4,7 @@ use mathlib.Core.Path.{_≡_}
 use mathlib.Core.Bool.{true}
 use mathlib.Core.List.{List}
 use lib.ListN.{length, getD}
+use Rattle.words.specs.Word.{WORD}
 use Rattle.limits.specs.Limits.{NODES}
 use Rattle.script.specs.declared.Section.the-variants.{Nodes as nodes}
 use Rattle.script.specs.Section.{countOf}
@@ -19,7 +20,7 @@ SPAN = 64
 
 -- A variable's name is a word, so this is past every name.
 abbrev pub NAMES : ℕ
-NAMES = 65536
+NAMES = WORD
 
 -- Bit k of a mask.
 unfoldable pub bitOf : ℕ → ℕ → ℕ

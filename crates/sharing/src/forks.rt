@@ -1,6 +1,6 @@
-// Which forks share a variable. The free variables of every node are gathered from the last node to the first, as one
-// bit each for a span of 64 names at a time, so that no node is visited more than once for a span, however deep forks
-// are nested; spans in which no variable is used are passed over.
+// Which forks share a variable. For a span of 64 names at a time, the free variables of every node are gathered from the last node to the first, as one bit
+// each, and each node is visited once, however deep forks are nested. Spans in which no variable is used are passed over: another pass finds the next in use.
+use crate::NAMES;
 use limits::Limits;
 use script::Section;
 ghost use mathlib.Core.Path.{_≡_};
@@ -21,9 +21,6 @@ ghost use Rattle.sharing.specs.Free.{SPAN, NAMES, MaskOf, FreeMask, Alon
 
 // The variables of a mask, a bit each.
 const SPAN: usize = 64;
-
-// A variable's name is a word, so this is past every name.
-const NAMES: usize = 65536;
 
 // Word j of node n.
 fn node_word(s: &[u8], n: usize, j: usize) -> usize

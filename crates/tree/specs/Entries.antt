@@ -1,11 +1,12 @@
 -- The thread tree as the code has it: one entry for each position. "a tree position, preorder, root 0, left before right"
-use Prim.Native.Nat.{ℕ, _-_, _+_, _≤_}
+use Prim.Native.Nat.{ℕ, _-_, _+_, _*_, _≤_}
 use mathlib.Core.Path.{_≡_}
 use mathlib.Core.List.{List, [], _∷_, map}
 use lib.ListN.{length, take, drop, replicate}
 use Rattle.limits.specs.Limits.{POSITIONS}
 use Rattle.machine.specs.Config as machine
 use Rattle.machine.specs.Config.{running, returning, failed, join}
+use Rattle.machine.specs.Machine.{threadCount}
 use Rattle.block.specs.Block.{preorder, waiting}
 use Rattle.tree.specs.declared.Cell.{Cell}
 use Rattle.tree.specs.declared.Cell.the-variants.{Failed, Running, Returning, Join}
@@ -58,6 +59,7 @@ pub record Is (self : Tree) (t : machine.Tree) : Type 0 where
   pub tidy : Tidy self
   pub same : used self ≡ entries t
 
--- r is the number that f says of the tree that `self` stands for.
-abbrev pub NumberOf : (machine.Tree → ℕ) → Tree → ℕ → Type 0
-NumberOf f self r = (t : machine.Tree) → Is self t → r ≡ f t
+-- r is how many threads the tree has that `self` stands for; whatever it stands for, r threads have places for all its positions.
+pub record ThreadsOf (self : Tree) (r : ℕ) : Type 0 where
+  pub exact : (t : machine.Tree) → Is self t → r ≡ threadCount t
+  pub room : self .len + 1 ≤ 2 * r

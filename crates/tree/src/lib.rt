@@ -6,8 +6,7 @@ ghost use Prim.Native.Nat.{_+_, _-_, _≤_, _<_};
 ghost use lib.ListN.{take};
 ghost use lib.Seq.{slice};
 ghost use Rattle.limits.specs.Limits.{POSITIONS};
-ghost use Rattle.tree.specs.Entries.{beneathCell, frameSum, used, Tidy, NumberOf};
-ghost use Rattle.machine.specs.Machine.{frameCount, threadCount};
+ghost use Rattle.tree.specs.Entries.{beneathCell, frameSum, used, Tidy, ThreadsOf};
 ghost use Rattle.tree.specs.Parts.{Stands, Ends, Room, Spliced, Replaced, Placed, Forked, Failing, Joined, FramesWithin, Leftmost};
 ghost use Rattle.tree.specs.Phases.{PhaseIs, FoldIs, FoldAt};
 
@@ -267,20 +266,12 @@ impl Tree {
         self.frames_from(i, end)
     }
 
-    // How many frames wait in the whole tree.
-    pub fn frames_in_all(self) -> usize
-        requires { ⌜ Tidy self ⌝ }
-        ensures { λ r. ⌜ NumberOf frameCount self r ⌝ }
-    {
-        self.frames_from(0, self.len)
-    }
-
-    // How many threads the tree has: the joins above them are one fewer.
+    // How many threads the tree has: one more than joins, and there are two positions more for each join.
     pub fn thread_count(self) -> usize
         requires { ⌜ Tidy self ⌝ }
-        ensures { λ r. ⌜ NumberOf threadCount self r ⌝ }
+        ensures { λ r. ⌜ ThreadsOf self r ⌝ }
     {
-        (self.len + 1) / 2
+        self.len / 2 + 1
     }
 
     // Where the joins begin of which the thread at `i` is the leftmost thread.

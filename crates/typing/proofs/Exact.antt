@@ -29,12 +29,13 @@ use Rattle.typing.specs.declared.Verdict.the-variants.{Accepted, Refused
 use Rattle.typing.specs.Typing.{Body, bodiesOf, walk}
 use Rattle.typing.specs.Check.{joinsTest, classesTest, memberQuestions, refusedOr, walked, checkOf}
 use Rattle.typing.specs.Published.{MsigsFunction, Infer, WfInterface, WF-INTERFACE, WF-INTERFACE-EXTENDS, WF-FIELD, WF-METHOD, WfMethod, WfClass, WF-CLASS, WfProgram, WF-PROGRAM}
-use Rattle.typing.specs.Refusals.{JoinIs, JoinsAre, ClassIs, ClassesAre, WalkNo, of-walk, statementOf, Yes, No, NodeNo, FirstNo}
+use Rattle.typing.specs.Refusals.{JoinIs, JoinsAre, ClassIs, ClassesAre, of-walk, statementOf, Yes, No, NodeNo, FirstNo}
 use Rattle.typing.proofs.First.{Order, before-walk, on-walk, order, number-same, one-more, before, low, first, walk-no-walk, all-before, yes-no, same-place}
 use Rattle.typing.proofs.Types.{type-wf}
 use Rattle.typing.proofs.Joins.{decides-join, joins-function, function-joins, decides-class}
 use Rattle.typing.proofs.Bodies.{body-in, in-bodies}
-use Rattle.typing.proofs.Walk.{BodyChecks, Walked, walks, halts, walked-by, walk-complete, walk-no-complete}
+use Rattle.typing.proofs.Walk.{BodyChecks, ListNo, Walked, walks, halts, walked-by, walk-complete, walk-no-complete}
+use Rattle.typing.proofs.MethodOrder.{walk-no-exactly}
 
 module _ (s : List ℕ) (w : WithinLayout s) where
   join-at : (t i : ℕ) (j : Interface) → t ≡ suc i → j ≡ interfaceAt s i → JoinsAre s interfaces i → JoinIs (programOf s) t j
@@ -143,11 +144,11 @@ pub data Says (s : List ℕ) : Verdict → Type 0 where
 
 module _ (s : List ℕ) (w : WithinLayout s) (b : Before s Joins) where
   -- a no of the walk, after a yes to questions 1 to 10
-  walk-first : (q : Question) (k : Point) → Each s (JoinsAre s) → Each s (ClassesAre s) → WalkNo (programOf s) (bodiesOf (programOf s)) q k → FirstNo s q (recordAt s nodes k)
+  walk-first : (q : Question) (k : Point) → Each s (JoinsAre s) → Each s (ClassesAre s) → ListNo (programOf s) (bodiesOf (programOf s)) q k → FirstNo s q (recordAt s nodes k)
   walk-first q k joins covers n =
       record {
         before = λ r h. all-before s (one-more s Classes covers (one-more s Joins joins (before s b))) r;
-        no = rw (walk-no-walk n s) (record { node = k; no = n; there = refl });
+        no = rw (walk-no-walk n s) (record { node = k; no = walk-no-exactly s w q k .0 n; there = refl });
       }
 
   walk-says : {r : Answer} → Each s (JoinsAre s) → Each s (ClassesAre s) → Walked (programOf s) (bodiesOf (programOf s)) r → Says s (walked s r)
@@ -216,7 +217,7 @@ module _ (s : List ℕ) where
   walk-refuses q place f n =
       let w = layout-before f in
       let one = one-meaning s w (f Joins (omega arith)) in
-      rw (layout-passes s w, lowest-none (joins-lowest s w) (f Joins (omega arith)), lowest-none (classes-lowest s w one) (f Classes (omega arith)), walk-no-complete (programOf s) (regular s w) one (n .no), n .there)
+      rw (layout-passes s w, lowest-none (joins-lowest s w) (f Joins (omega arith)), lowest-none (classes-lowest s w one) (f Classes (omega arith)), walk-no-complete (programOf s) (regular s w) one (walk-no-exactly s w q (n .node) .1 (n .no)), n .there)
 
   -- an accepted script gets a yes to questions 1 to 10
   accepted-yes : {t : ℕ} → WithinLayout s → WfProgram (programOf s) t → (q : Question) → Yes s q

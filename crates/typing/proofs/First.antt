@@ -15,7 +15,8 @@ use Rattle.script.proofs.Lowest.{fault-not}
 use Rattle.script.proofs.LayoutLaws.{Before, at-first, length-is, counts-are, places-are, interfaces-are, owners-are, types-are, nodes-are, names-are, LayoutNo, length-no, counts-no, places-no, interfaces-no, owners-no, types-no, nodes-no, names-no}
 use Rattle.script.specs.Syntax.{Point, Expr, Slot, Program}
 use Rattle.typing.specs.Typing.{Body}
-use Rattle.typing.specs.Refusals.{InferNo, null-inferred, var-unbound, select-unbound, update-unbound, call-unbound, lock-unbound, select-missing, update-missing, call-missing, fork-shares, update-part, call-part, cast-part, lock-part, let-first, let-last, fork-left, fork-right, fork-last, CheckNo, not-inferred, not-below, WalkNo, in-start, in-body, after-body, Statement, of-whole, of-records, of-walk, statementOf, YesTo, Yes, NoTo, LowestNo, FirstNo}
+use Rattle.typing.specs.Refusals.{InferNo, null-inferred, var-unbound, select-unbound, update-unbound, call-unbound, lock-unbound, select-missing, update-missing, call-missing, fork-shares, update-part, call-part, cast-part, lock-part, let-first, let-last, fork-left, fork-right, fork-last, CheckNo, not-inferred, not-below, Statement, of-whole, of-records, of-walk, statementOf, YesTo, Yes, NoTo, LowestNo, FirstNo}
+use Rattle.typing.proofs.Walk.{ListNo, after-all, in-body, after-body}
 
 -- the question with a number
 numbered : ℕ → Question
@@ -132,8 +133,8 @@ mutual
   check-no-walk (not-inferred n c) = infer-no-walk c
   check-no-walk (not-below n h s e) = λ s. refl
 
-pub walk-no-walk : {p : Program} {l : List Body} {q : Question} {k : Point} → WalkNo p l q k → (s : List ℕ) → statementOf s q ≡ of-walk
-walk-no-walk (in-start c) = infer-no-walk c
+pub walk-no-walk : {p : Program} {l : List Body} {q : Question} {k : Point} → ListNo p l q k → (s : List ℕ) → statementOf s q ≡ of-walk
+walk-no-walk (after-all c) = infer-no-walk c
 walk-no-walk (in-body c) = check-no-walk c
 walk-no-walk (after-body h c) = walk-no-walk c
 

@@ -1,4 +1,4 @@
--- The sample of sixty-three joins, by computation: no look-up takes exponential time.
+-- The sample of sixty-three joins, by computation: the definition looks a method up in them in few steps. Of the subtype walk in code this says nothing.
 use mathlib.Core.Path.{_≡_, refl}
 use Rattle.words.specs.Word.{wordAt, bytes}
 use Rattle.script.specs.Lists.{run, sumBelow, named, countIn}

@@ -2,11 +2,14 @@ pub mod Types
 pub mod Values
 pub mod Subtype
 pub mod Members
+pub mod Environments
 pub mod Joins
+pub mod Free
 pub mod Sharing
 pub mod Rules
 pub mod Bodies
 pub mod Walk
+pub mod MethodOrder
 pub mod First
 pub mod Exact
 pub mod Points

@@ -17,9 +17,9 @@ use Rattle.script.proofs.Reading.{first, second, third, expr-at, every-node}
 use Rattle.typing.specs.declared.Answer.{Answer}
 use Rattle.typing.specs.declared.Answer.the-variants.{Faulty}
 use Rattle.typing.specs.Typing.{Body, bodiesOf, walk}
-use Rattle.typing.specs.Refusals.{InferNo, null-inferred, var-unbound, select-unbound, update-unbound, call-unbound, lock-unbound, select-missing, update-missing, call-missing, fork-shares, update-part, call-part, cast-part, lock-part, let-first, let-last, fork-left, fork-right, fork-last, CheckNo, not-inferred, not-below, WalkNo, in-start, in-body, after-body}
+use Rattle.typing.specs.Refusals.{InferNo, null-inferred, var-unbound, select-unbound, update-unbound, call-unbound, lock-unbound, select-missing, update-missing, call-missing, fork-shares, update-part, call-part, cast-part, lock-part, let-first, let-last, fork-left, fork-right, fork-last, CheckNo, not-inferred, not-below}
 use Rattle.typing.proofs.Bodies.{body-in}
-use Rattle.typing.proofs.Walk.{Walked, walks, halts, walked-by}
+use Rattle.typing.proofs.Walk.{ListNo, after-all, in-body, after-body, Walked, walks, halts, walked-by}
 
 -- Every node of an expression is below a bound.
 abbrev pub Below : ℕ → Expr → Type 0
@@ -91,8 +91,8 @@ mutual
   check-below (not-below {e = e} n h s at) m b = rw (← at) (own-node m e b)
 
 -- So is that of the walk's refusal, where bodies and start are such expressions.
-pub walk-below : {p : Program} {l : List Body} {q : Question} {k : Point} → WalkNo p l q k → (m : ℕ) → ((b : Body) → b ∈ l → Below m (b .method .body)) → Below m (p .start) → k < m
-walk-below (in-start c) m f g = no-below c m g
+pub walk-below : {p : Program} {l : List Body} {q : Question} {k : Point} → ListNo p l q k → (m : ℕ) → ((b : Body) → b ∈ l → Below m (b .method .body)) → Below m (p .start) → k < m
+walk-below (after-all c) m f g = no-below c m g
 walk-below (in-body {b = b} c) m f g = check-below c m (f b (List·Memᴰ·head refl))
 walk-below (after-body h c) m f g = walk-below c m (λ d i. f d (List·Memᴰ·tail i)) g
 

@@ -15,11 +15,13 @@ use Rattle.script.proofs.Declarations.{a-class-at}
 use Rattle.script.proofs.Tests.{no-said, yes-said}
 use Rattle.typing.specs.declared.Answer.{Answer}
 use Rattle.typing.specs.declared.Answer.the-variants.{Typed, Faulty}
+use Rattle.typing.specs.Environments.{TypeOf}
 use Rattle.typing.specs.Members.{below, typeIn, fieldIn, methodIn}
 use Rattle.typing.specs.Typing.{fv, shares, andThen, orFaulty, unlessShared, fits, judge, inferred, checked}
 use Rattle.typing.specs.Published.{T-WF-CLASS, Sub, WfEnv, WF-ENV, MsigsFunction, Disjoint, Infer, BD-INFER-VAR, BD-INFER-LET, BD-INFER-CALL, BD-INFER-CAST, BD-INFER-SELECT, BD-INFER-UPDATE, BD-INFER-NEW, BD-INFER-LOCK, BD-INFER-FJ, Check, BD-CHECK-NULL, BD-CHECK-SUB}
 use Rattle.typing.specs.Refusals.{InferNo, null-inferred, var-unbound, select-unbound, update-unbound, call-unbound, lock-unbound, select-missing, update-missing, call-missing, fork-shares, update-part, call-part, cast-part, lock-part, let-first, let-last, fork-left, fork-right, fork-last, CheckNo, not-inferred, not-below}
-use Rattle.typing.proofs.Sharing.{Shared, decides-shares}
+use Rattle.typing.proofs.Environments.{type-in, typed-exactly, untyped-exactly}
+use Rattle.typing.proofs.Sharing.{SharedVariable, decides-sharing}
 use Rattle.typing.proofs.Types.{type-wf}
 use Rattle.typing.proofs.Subtype.{sub-types, decides-below, below-sub}
 use Rattle.typing.proofs.Members.{found-some, found-not, type-found, field-found, field-in, field-none, field-type, method-found, method-in, method-none, method-only, signature-types}
@@ -43,6 +45,13 @@ by-found :
 by-found P q n none k f g = f refl
 by-found P q n (some a) k f g = g a refl
 
+by-variable :
+    (P : Answer → Type 0) (n : Point) (Γ : List Slot) (x : ℕ) (k : ℕ → Answer)
+    → (((t : ℕ) → TypeOf Γ x t → ⊥) → P (Faulty Variables n))
+    → ((t : ℕ) → TypeOf Γ x t → P (k t))
+    → P (orFaulty Variables n (typeIn Γ x) k)
+by-variable P n Γ x k f g = by-found P Variables n (typeIn Γ x) k (λ h. f (untyped-exactly Γ x .0 h)) (λ t h. g t (typed-exactly Γ x t .0 h))
+
 by-judged :
     {p : Program} {Γ : List Slot} {e : Expr} {r : Answer} (P : Answer → Type 0) (k : ℕ → Answer)
     → Judged p Γ e r
@@ -63,12 +72,12 @@ by-checked P k (stops {q} {k = n} h) f g = f q n h
 
 by-sharing :
     (P : Answer → Type 0) (n : Point) (r : Answer) (e₁ e₂ : Expr) {b : Bool}
-    → Decides (Shared (fv e₁) (fv e₂)) b
-    → (Shared (fv e₁) (fv e₂) → P (Faulty Sharing n))
+    → Decides (SharedVariable e₁ e₂) b
+    → (SharedVariable e₁ e₂ → P (Faulty Sharing n))
     → (Disjoint e₁ e₂ → P r)
     → P (unlessShared b n r)
 by-sharing P n r e₁ e₂ (holds h) f g = f h
-by-sharing P n r e₁ e₂ (fails h) f g = g (λ x l m. h (record { element = x; left = l; right = m }))
+by-sharing P n r e₁ e₂ (fails h) f g = g (λ x l m. absurd (h (record { variable = x; left = l; right = m })))
 
 -- a null, or not
 null-is : (P : Expr → Type 0) (e : Expr) → isNull e ≡ true → ((n : Point) → P (null n)) → P e
@@ -85,8 +94,8 @@ null-is P (lock n x e) h f = absurd (let z : _≡_ {A = ℕ} 0 1 = cc in omega a
 
 module _ (p : Program) where
   -- a variable's type is a type
-  variable-type : (Γ : List Slot) (x t : ℕ) → WfEnv p Γ → typeIn Γ x ≡ some t → IsType p t
-  variable-type Γ x t (WF-ENV w) e = type-wf p t .1 (w (record { name = x; type = t }) (found-some t (type-found Γ x) e))
+  variable-type : (Γ : List Slot) (x t : ℕ) → WfEnv p Γ → TypeOf Γ x t → IsType p t
+  variable-type Γ x t (WF-ENV w) e = type-wf p t .1 (w (record { name = x; type = t }) (found-some t (type-found Γ x) (type-in e)))
 
   -- one more variable
   pub env-more : (Γ : List Slot) (x t : ℕ) → WfEnv p Γ → IsType p t → WfEnv p (record { name = x; type = t } ∷ Γ)
@@ -122,14 +131,14 @@ module _ (p : Program) (ok : Regular p) where
   unfolding inferred
   judged Γ (null n) w f = refuses null-inferred
   judged Γ (var n x) w f =
-      by-found (Judged p Γ (var n x)) Variables n (typeIn Γ x) _ (λ h. refuses (var-unbound h)) (λ t h. types (BD-INFER-VAR w h) (variable-type p Γ x t w h))
+      by-variable (Judged p Γ (var n x)) n Γ x _ (λ h. refuses (var-unbound h)) (λ t h. types (BD-INFER-VAR w h) (variable-type p Γ x t w h))
   judged Γ (select n x g) w f =
-      by-found (Judged p Γ (select n x g)) Variables n (typeIn Γ x) _ (λ h. refuses (select-unbound h))
+      by-variable (Judged p Γ (select n x g)) n Γ x _ (λ h. refuses (select-unbound h))
       (λ t h. by-found (Judged p Γ (select n x g)) Members n (fieldIn p t g) _
       (λ k. refuses (select-missing h (field-none p ok t g k)))
       (λ u k. let l = field-in p ok t g u .0 k in types (BD-INFER-SELECT (BD-INFER-VAR w h) l) (field-type p ok l)))
   judged Γ (update n x g e) w f =
-      by-found (Judged p Γ (update n x g e)) Variables n (typeIn Γ x) _ (λ h. refuses (update-unbound h))
+      by-variable (Judged p Γ (update n x g e)) n Γ x _ (λ h. refuses (update-unbound h))
       (λ t h. by-found (Judged p Γ (update n x g e)) Members n (fieldIn p t g) _
       (λ k. refuses (update-missing h (field-none p ok t g k)))
       (λ u k. let l = field-in p ok t g u .0 k in
@@ -137,7 +146,7 @@ module _ (p : Program) (ok : Regular p) where
       (λ q i c. refuses (update-part h l c))
       (λ c. types (BD-INFER-UPDATE (BD-INFER-VAR w h) c l) (omega arith))))
   judged Γ (call n x m e) w f =
-      by-found (Judged p Γ (call n x m e)) Variables n (typeIn Γ x) _ (λ h. refuses (call-unbound h))
+      by-variable (Judged p Γ (call n x m e)) n Γ x _ (λ h. refuses (call-unbound h))
       (λ t h. by-found (Judged p Γ (call n x m e)) Members n (methodIn p t m) _
       (λ k. refuses (call-missing h (method-none p ok t m k)))
       (λ g k. let l = method-in p ok t m g k in
@@ -159,7 +168,7 @@ module _ (p : Program) (ok : Regular p) where
       then-cast (passes c) = types (BD-INFER-CAST c) (f .0)
       then-cast (stops c) = refuses (cast-part c)
   judged Γ (fork n e₁ e₂ e₃) w f =
-      by-sharing (Judged p Γ (fork n e₁ e₂ e₃)) n _ e₁ e₂ (decides-shares (fv e₁) (fv e₂))
+      by-sharing (Judged p Γ (fork n e₁ e₂ e₃)) n _ e₁ e₂ (decides-sharing e₁ e₂)
       (λ h. refuses (fork-shares (h .left) (h .right)))
       (λ d. by-judged (Judged p Γ (fork n e₁ e₂ e₃)) _ (judged Γ e₁ w (f .0))
       (λ q k h. refuses (fork-left d h))
@@ -171,15 +180,15 @@ module _ (p : Program) (ok : Regular p) where
       then-fork d h l (types k i) = types (BD-INFER-FJ d h l k) i
       then-fork d h l (refuses k) = refuses (fork-last d h l k)
   judged Γ (lock n x e) w f =
-      by-found (Judged p Γ (lock n x e)) Variables n (typeIn Γ x) _ (λ h. refuses (lock-unbound h)) (λ t h. then-lock h (judged Γ e w f))
+      by-variable (Judged p Γ (lock n x e)) n Γ x _ (λ h. refuses (lock-unbound h)) (λ t h. then-lock h (judged Γ e w f))
     where
-      then-lock : {t : ℕ} {r : Answer} → typeIn Γ x ≡ some t → Judged p Γ e r → Judged p Γ (lock n x e) r
+      then-lock : {t : ℕ} {r : Answer} → TypeOf Γ x t → Judged p Γ e r → Judged p Γ (lock n x e) r
       then-lock h (types k i) = types (BD-INFER-LOCK (BD-INFER-VAR w h) k) i
       then-lock h (refuses k) = refuses (lock-part h k)
 
 module _ (p : Program) (ok : Regular p) (one : MsigsFunction p) where
   apart : (e₁ e₂ : Expr) → Disjoint e₁ e₂ → shares (fv e₁) (fv e₂) ≡ false
-  apart e₁ e₂ d = no-said (decides-shares (fv e₁) (fv e₂)) (λ h. d (h .element) (h .left) (h .right))
+  apart e₁ e₂ d = no-said (decides-sharing e₁ e₂) (λ h. d (h .variable) (h .left) (h .right))
 
   below-true : {t u : ℕ} → Sub p t u → below p t u ≡ true
   below-true {t} {u} h = below-sub p ok t u (type-wf p t .1 (sub-types p ok h .0)) .1 h
@@ -202,14 +211,14 @@ module _ (p : Program) (ok : Regular p) (one : MsigsFunction p) where
 
     -- Every type that the rules give is the walk's answer.
     pub infer-complete : {Γ : List Slot} {e : Expr} {t : ℕ} → Infer p Γ e t → inferred p Γ e ≡ Typed t
-    infer-complete (BD-INFER-VAR w h) = rw h
+    infer-complete (BD-INFER-VAR w h) = rw (type-in h)
     infer-complete (BD-INFER-LET {x = x} h k) = rw (infer-complete h) (infer-complete k)
-    infer-complete (BD-INFER-CALL (BD-INFER-VAR w h) c m) = rw (h, method-only p ok one _ _ m, check-complete c)
+    infer-complete (BD-INFER-CALL (BD-INFER-VAR w h) c m) = rw (type-in h, method-only p ok one _ _ m, check-complete c)
     infer-complete (BD-INFER-CAST c) = check-complete c
-    infer-complete (BD-INFER-SELECT (BD-INFER-VAR w h) g) = rw (h, field-in p ok _ _ _ .1 g)
-    infer-complete (BD-INFER-UPDATE (BD-INFER-VAR w h) c g) = rw (h, field-in p ok _ _ _ .1 g, check-complete c)
+    infer-complete (BD-INFER-SELECT (BD-INFER-VAR w h) g) = rw (type-in h, field-in p ok _ _ _ .1 g)
+    infer-complete (BD-INFER-UPDATE (BD-INFER-VAR w h) c g) = rw (type-in h, field-in p ok _ _ _ .1 g, check-complete c)
     infer-complete (BD-INFER-NEW w h) = refl
-    infer-complete (BD-INFER-LOCK (BD-INFER-VAR w h) k) = rw h (infer-complete k)
+    infer-complete (BD-INFER-LOCK (BD-INFER-VAR w h) k) = rw (type-in h) (infer-complete k)
     infer-complete (BD-INFER-FJ {e₁ = e₁} {e₂ = e₂} d h k l) = rw (apart e₁ e₂ d, infer-complete h, infer-complete k) (infer-complete l)
 
     pub check-complete : {Γ : List Slot} {e : Expr} {t : ℕ} → Check p Γ e t → checked p Γ e t ≡ Typed t
@@ -222,19 +231,19 @@ module _ (p : Program) (ok : Regular p) (one : MsigsFunction p) where
     -- Every first no is the walk's answer, so there is only one.
     pub no-complete : {Γ : List Slot} {e : Expr} {q : Question} {k : Point} → InferNo p Γ e q k → inferred p Γ e ≡ Faulty q k
     no-complete null-inferred = refl
-    no-complete (var-unbound h) = rw h
-    no-complete (select-unbound h) = rw h
-    no-complete (update-unbound h) = rw h
-    no-complete (call-unbound h) = rw h
-    no-complete (lock-unbound h) = rw h
-    no-complete (select-missing {f = f} {t = t} h m) = rw (h, found-not (field-found p ok t f) m)
-    no-complete (update-missing {f = f} {t = t} h m) = rw (h, found-not (field-found p ok t f) m)
-    no-complete (call-missing {m = m} {t = t} h n) = rw (h, found-not (method-found p ok t m) (λ g k. n g (k .0) (k .1)))
-    no-complete (fork-shares {e₁ = e₁} {e₂ = e₂} l r) = rw (yes-said (decides-shares (fv e₁) (fv e₂)) (record { element = _; left = l; right = r }))
-    no-complete (update-part h g c) = rw (h, field-in p ok _ _ _ .1 g, no-check-complete c)
-    no-complete (call-part h g e c) = rw (h, ← e, method-only p ok one _ _ g, no-check-complete c)
+    no-complete (var-unbound {Γ = Γ} {x = x} h) = rw (untyped-exactly Γ x .1 h)
+    no-complete (select-unbound {Γ = Γ} {x = x} h) = rw (untyped-exactly Γ x .1 h)
+    no-complete (update-unbound {Γ = Γ} {x = x} h) = rw (untyped-exactly Γ x .1 h)
+    no-complete (call-unbound {Γ = Γ} {x = x} h) = rw (untyped-exactly Γ x .1 h)
+    no-complete (lock-unbound {Γ = Γ} {x = x} h) = rw (untyped-exactly Γ x .1 h)
+    no-complete (select-missing {f = f} {t = t} h m) = rw (type-in h, found-not (field-found p ok t f) m)
+    no-complete (update-missing {f = f} {t = t} h m) = rw (type-in h, found-not (field-found p ok t f) m)
+    no-complete (call-missing {m = m} {t = t} h n) = rw (type-in h, found-not (method-found p ok t m) (λ g k. n g (k .0) (k .1)))
+    no-complete (fork-shares {e₁ = e₁} {e₂ = e₂} l r) = rw (yes-said (decides-sharing e₁ e₂) (record { variable = _; left = l; right = r }))
+    no-complete (update-part h g c) = rw (type-in h, field-in p ok _ _ _ .1 g, no-check-complete c)
+    no-complete (call-part h g e c) = rw (type-in h, ← e, method-only p ok one _ _ g, no-check-complete c)
     no-complete (cast-part c) = no-check-complete c
-    no-complete (lock-part h k) = rw h (no-complete k)
+    no-complete (lock-part h k) = rw (type-in h) (no-complete k)
     no-complete (let-first h) = rw (no-complete h)
     no-complete (let-last h k) = rw (infer-complete h) (no-complete k)
     no-complete (fork-left {e₁ = e₁} {e₂ = e₂} d h) = rw (apart e₁ e₂ d, no-complete h)

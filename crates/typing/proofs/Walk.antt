@@ -10,9 +10,10 @@ use Rattle.script.specs.Regular.{Regular}
 use Rattle.script.proofs.Declarations.{is-class}
 use Rattle.typing.specs.declared.Answer.{Answer}
 use Rattle.typing.specs.declared.Answer.the-variants.{Typed, Faulty}
-use Rattle.typing.specs.Typing.{andThen, checked, Body, bodyEnv, walk}
+use Rattle.typing.specs.Environments.{bodyEnv}
+use Rattle.typing.specs.Typing.{andThen, checked, Body, walk}
 use Rattle.typing.specs.Published.{WfEnv, WF-ENV, MsigsFunction, Infer, Check}
-use Rattle.typing.specs.Refusals.{WalkNo, in-start, in-body, after-body}
+use Rattle.typing.specs.Refusals.{InferNo, CheckNo}
 use Rattle.typing.proofs.Rules.{Judged, types, refuses, CheckJudged, passes, stops, env-more, judged, check-judged, infer-complete, check-complete, no-complete, no-check-complete}
 use Rattle.typing.proofs.Bodies.{BodyIn}
 
@@ -20,10 +21,19 @@ use Rattle.typing.proofs.Bodies.{BodyIn}
 abbrev pub BodyChecks : Program → Body → Type 0
 BodyChecks p b = Check p (bodyEnv (b .class) (b .method .signature)) (b .method .body) (b .method .signature .result)
 
+abbrev pub BodyNo : Program → Body → Question → Point → Type 0
+BodyNo p b q k = CheckNo p (bodyEnv (b .class) (b .method .signature)) (b .method .body) (b .method .signature .result) q k
+
+-- The first no of the walk over a list of bodies, and then the start.
+pub data ListNo (p : Program) : List Body → Question → Point → Type 0 where
+  after-all : {q : Question} {k : Point} → InferNo p [] (p .start) q k → ListNo p [] q k
+  in-body : {b : Body} {l : List Body} {q : Question} {k : Point} → BodyNo p b q k → ListNo p (b ∷ l) q k
+  after-body : {b : Body} {l : List Body} {q : Question} {k : Point} → BodyChecks p b → ListNo p l q k → ListNo p (b ∷ l) q k
+
 -- What the walk's answer says: every body passes and the start has this type, or the first no.
 pub data Walked (p : Program) (l : List Body) : Answer → Type 0 where
   walks : {t : ℕ} → ((b : Body) → b ∈ l → BodyChecks p b) → Infer p [] (p .start) t → Walked p l (Typed t)
-  halts : {q : Question} {k : Point} → WalkNo p l q k → Walked p l (Faulty q k)
+  halts : {q : Question} {k : Point} → ListNo p l q k → Walked p l (Faulty q k)
 
 no-env : (p : Program) → WfEnv p []
 no-env p = WF-ENV (λ b m. absurd (List·Memᴰ·not-nil m))
@@ -39,7 +49,7 @@ module _ (p : Program) (ok : Regular p) where
 
   start-walked : {r : Answer} → Judged p [] (p .start) r → Walked p [] r
   start-walked (types h i) = walks (λ b m. absurd (List·Memᴰ·not-nil m)) h
-  start-walked (refuses h) = halts (in-start h)
+  start-walked (refuses h) = halts (after-all h)
 
   -- The walk answers by the rules.
   pub walked-by : (l : List Body) → ((b : Body) → b ∈ l → BodyIn p b) → Walked p l (walk p l)
@@ -62,8 +72,8 @@ module _ (p : Program) (ok : Regular p) (one : MsigsFunction p) where
   walk-complete [] t f h = infer-complete p ok one h
   walk-complete (b ∷ l) t f h = rw (check-complete p ok one (f b (List·Memᴰ·head refl))) (walk-complete l t (λ c m. f c (List·Memᴰ·tail m)) h)
 
-  pub walk-no-complete : {l : List Body} {q : Question} {k : Point} → WalkNo p l q k → walk p l ≡ Faulty q k
+  pub walk-no-complete : {l : List Body} {q : Question} {k : Point} → ListNo p l q k → walk p l ≡ Faulty q k
   unfolding walk
-  walk-no-complete (in-start h) = no-complete p ok one h
+  walk-no-complete (after-all h) = no-complete p ok one h
   walk-no-complete (in-body c) = rw (no-check-complete p ok one c)
   walk-no-complete (after-body c h) = rw (check-complete p ok one c) (walk-no-complete h)

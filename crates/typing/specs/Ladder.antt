@@ -1,4 +1,5 @@
--- "63 joins, each naming its predecessor twice, are judged in ordinary time". (The starred samples are the table of the crate `calls`.)
+-- "63 joins, each naming its predecessor twice": a script whose method look-up goes through them all. The subtype question that walks them all is asked of the
+-- engine by samples/refuse-14-joins.words; the starred samples are the table of the crate `calls`.
 use Prim.Native.Nat.{ℕ, zero, suc}
 use mathlib.Core.List.{List, [], _∷_, _++_}
 use Rattle.words.specs.Word.{bytes}

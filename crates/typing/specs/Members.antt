@@ -59,7 +59,7 @@ methodFrom p t m no-type = none
 unfoldable pub methodIn : Program → ℕ → ℕ → Option Signature
 methodIn p t m = methodFrom p t m (declarationAt p t)
 
--- The type under a name in an environment, "the nearest binding counts", or among fields.
+-- The type under a name in an environment, which is Γ(x) by `typed-exactly`, or among fields.
 unfoldable pub typeIn : List Slot → ℕ → Option ℕ
 typeIn l x = Option·map (λ b. b .type) (named (λ (b : Slot). b .name) x l)
 

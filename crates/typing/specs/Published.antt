@@ -1,15 +1,14 @@
 -- The published typing rules: Figures 3 and 4, Figure 11 (which takes the place of Figure 5 in a checker) and appendix A.3. Each rule keeps its name.
--- Types are numbers, so "class C .. ∈ P" and "interface I .. ∈ P" are said by what the program declares under a number.
+-- Types are numbers, so "class C .. ∈ P" and "interface I .. ∈ P" are said by what the program declares under a number: `declarationAt`, of script's Syntax.
+-- Nothing here comes from the walk's files (Members, Typing, Check). WF-FRAME of Figure 4 serves WF-FJ of Figure 5 alone, so it is not here.
 use Prim.Native.Nat.{ℕ}
 use mathlib.Core.Path.{_≡_}
 use mathlib.Core.Bool.{false}
 use mathlib.Core.List.{List, [], _∷_}
-use mathlib.Core.Option.{some}
 use Rattle.script.specs.Lists.{_∈_}
 use Rattle.script.specs.Syntax.{Expr, null, var, select, update, call, bind, new, cast, fork, lock, isNull, Slot, Signature, Method, Interface}
 use Rattle.script.specs.Syntax.{lists, extends, Class, Program, an-interface, a-class, declarationAt}
-use Rattle.typing.specs.Members.{typeIn}
-use Rattle.typing.specs.Typing.{fv, bodyEnv}
+use Rattle.typing.specs.Environments.{TypeOf, bodyEnv}
 
 -- ⊢ t, Figure 4
 pub data WfType (p : Program) : ℕ → Type 0 where
@@ -26,7 +25,7 @@ pub data Sub (p : Program) : ℕ → ℕ → Type 0 where
   T-SUB-TRANS : {t₁ t₂ t₃ : ℕ} → Sub p t₁ t₂ → Sub p t₂ t₃ → Sub p t₁ t₃
   T-SUB-EQ : {t : ℕ} → WfType p t → Sub p t t
 
--- ⊢ Γ, Figure 4. Γ(x) is `typeIn`: "the nearest binding counts".
+-- ⊢ Γ, Figure 4, without its premise about locations: a program that does not run has none.
 pub data WfEnv (p : Program) (Γ : List Slot) : Type 0 where
   WF-ENV : ((b : Slot) → b ∈ Γ → WfType p (b .type)) → WfEnv p Γ
 
@@ -41,14 +40,32 @@ pub data MsigIn (p : Program) : ℕ → Signature → Type 0 where
 pub data FieldIn (p : Program) : ℕ → ℕ → ℕ → Type 0 where
   fields-class : {t f u : ℕ} {c : Class} → declarationAt p t ≡ a-class c → record { name = f; type = u } ∈ c .fields → FieldIn p t f u
 
+-- x ∈ fv(e): x occurs in e, and no let of e around that place binds it. A let binds its variable in its last part only.
+pub data Free (x : ℕ) : Expr → Type 0 where
+  free-var : {n : ℕ} → Free x (var n x)
+  free-select : {n f : ℕ} → Free x (select n x f)
+  free-update-target : {n f : ℕ} {e : Expr} → Free x (update n x f e)
+  free-update-part : {n y f : ℕ} {e : Expr} → Free x e → Free x (update n y f e)
+  free-call-target : {n m : ℕ} {e : Expr} → Free x (call n x m e)
+  free-call-part : {n y m : ℕ} {e : Expr} → Free x e → Free x (call n y m e)
+  free-let-first : {n y : ℕ} {e₁ e₂ : Expr} → Free x e₁ → Free x (bind n y e₁ e₂)
+  free-let-last : {n y : ℕ} {e₁ e₂ : Expr} → (y ≡ x → ⊥) → Free x e₂ → Free x (bind n y e₁ e₂)
+  free-cast : {n t : ℕ} {e : Expr} → Free x e → Free x (cast n t e)
+  free-fork-left : {n : ℕ} {e₁ e₂ e : Expr} → Free x e₁ → Free x (fork n e₁ e₂ e)
+  free-fork-right : {n : ℕ} {e₁ e₂ e : Expr} → Free x e₂ → Free x (fork n e₁ e₂ e)
+  free-fork-last : {n : ℕ} {e₁ e₂ e : Expr} → Free x e → Free x (fork n e₁ e₂ e)
+  free-lock-target : {n : ℕ} {e : Expr} → Free x (lock n x e)
+  free-lock-part : {n y : ℕ} {e : Expr} → Free x e → Free x (lock n y e)
+
 -- fv(e₁) ∩ fv(e₂) = ∅
 abbrev pub Disjoint : Expr → Expr → Type 0
-Disjoint e₁ e₂ = (x : ℕ) → x ∈ fv e₁ → x ∈ fv e₂ → ⊥
+Disjoint e₁ e₂ = (x : ℕ) → Free x e₁ → Free x e₂ → ⊥
 
--- Γ ⊢ e ⇒ t and Γ ⊢ e ⇐ t, Figure 11. A target x is a variable, inferred by BD-INFER-VAR; it stands at the node that names it.
+-- Γ ⊢ e ⇒ t and Γ ⊢ e ⇐ t, Figure 11. A target x is a variable, inferred by BD-INFER-VAR; it stands at the node that names it. The premise ⊢ C of BD-INFER-NEW
+-- is that of T-WF-CLASS.
 mutual
   pub data Infer (p : Program) : List Slot → Expr → ℕ → Type 0 where
-    BD-INFER-VAR : {Γ : List Slot} {n x t : ℕ} → WfEnv p Γ → typeIn Γ x ≡ some t → Infer p Γ (var n x) t
+    BD-INFER-VAR : {Γ : List Slot} {n x t : ℕ} → WfEnv p Γ → TypeOf Γ x t → Infer p Γ (var n x) t
     BD-INFER-LET : {Γ : List Slot} {n x t₁ t : ℕ} {e₁ e₂ : Expr} → Infer p Γ e₁ t₁ → Infer p (record { name = x; type = t₁ } ∷ Γ) e₂ t
         → Infer p Γ (bind n x e₁ e₂) t
     BD-INFER-CALL : {Γ : List Slot} {n x m t₁ t₂ t : ℕ} {e : Expr} → Infer p Γ (var n x) t₁ → Check p Γ e t₂
@@ -65,7 +82,7 @@ mutual
     BD-CHECK-NULL : {Γ : List Slot} {n t : ℕ} → WfEnv p Γ → WfType p t → Check p Γ (null n) t
     BD-CHECK-SUB : {Γ : List Slot} {e : Expr} {t′ t : ℕ} → Infer p Γ e t′ → Sub p t′ t → isNull e ≡ false → Check p Γ e t
 
--- ⊢ Id, Figure 3
+-- ⊢ Id, Figure 3. That the parents of a join are interfaces is question 4.
 pub data WfInterface (p : Program) : Interface → Type 0 where
   WF-INTERFACE : {gs : List Signature} → ((g : Signature) → g ∈ gs → WfType p (g .param) × WfType p (g .result)) → WfInterface p (lists gs)
   WF-INTERFACE-EXTENDS : {i₁ i₂ : ℕ} → WfType p i₁ → WfType p i₂ → WfInterface p (extends i₁ i₂)

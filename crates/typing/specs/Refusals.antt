@@ -1,25 +1,23 @@
--- Questions 9 to 15 as plain statements, and what a refusal says.
-use Prim.Native.Nat.{ℕ, suc, _<_, _≤_}
+-- Questions 9 to 15 as plain statements, and what a refusal says. As in Published, nothing here comes from the walk's files.
+use Prim.Native.Nat.{ℕ, suc, _+_, _<_, _≤_}
 use mathlib.Core.Path.{_≡_}
 use mathlib.Core.Bool.{false}
 use mathlib.Core.List.{List, [], _∷_}
-use mathlib.Core.Option.{none, some}
 use Rattle.script.specs.declared.Question.{Question}
 use Rattle.script.specs.declared.Question.the-variants.{Length, Counts, Places, Interfaces, Owners, Types, Nodes, Names, Joins, Classes, Variables}
 use Rattle.script.specs.declared.Question.the-variants.{Nulls, Members, Fits, Sharing}
-use Rattle.script.specs.Lists.{_∈_}
 use Rattle.script.specs.declared.Section.{Section}
 use Rattle.script.specs.declared.Section.the-variants.{Interfaces as interfaces, Signatures as signatures, Classes as classes, Fields as fields}
 use Rattle.script.specs.declared.Section.the-variants.{Methods as methods, Nodes as nodes}
-use Rattle.script.specs.Section.{recordAt}
+use Rattle.script.specs.Lists.{sumBelow}
+use Rattle.script.specs.Section.{countOf, recordAt}
 use Rattle.script.specs.Syntax.{Point, Expr, null, var, select, update, call, bind, cast, fork, lock, pointOf, isNull, Slot, Signature, Interface}
 use Rattle.script.specs.Syntax.{lists, extends, Class, Program}
-use Rattle.script.specs.Reading.{interfaceAt, classAt, programOf}
+use Rattle.script.specs.Reading.{interfaceAt, ownMethods, methodAt, classAt, programOf}
 use Rattle.script.specs.Asking.{numberOf, FaultAt, Each}
 use Rattle.script.specs.Statements.{LengthIs, CountsAre, PlacesAre, InterfacesAre, OwnersAre, TypesAre, NodesAre, NamesAre}
-use Rattle.typing.specs.Members.{typeIn}
-use Rattle.typing.specs.Typing.{fv, Body, bodyEnv, bodiesOf}
-use Rattle.typing.specs.Published.{Sub, MsigIn, FieldIn, Disjoint, Infer, Check, DefIn}
+use Rattle.typing.specs.Environments.{TypeOf, bodyEnv}
+use Rattle.typing.specs.Published.{Sub, MsigIn, FieldIn, Free, Disjoint, Infer, Check, DefIn}
 
 -- 9. "Do all meanings of a method name in a join have the same types?" The interface has type t.
 abbrev pub JoinIs : Program → ℕ → Interface → Type 0
@@ -53,25 +51,25 @@ mutual
     -- 12. "Is no null inferred?"
     null-inferred : {Γ : List Slot} {n : ℕ} → InferNo p Γ (null n) Nulls n
     -- 11. "Is each variable bound?"
-    var-unbound : {Γ : List Slot} {n x : ℕ} → typeIn Γ x ≡ none → InferNo p Γ (var n x) Variables n
-    select-unbound : {Γ : List Slot} {n x f : ℕ} → typeIn Γ x ≡ none → InferNo p Γ (select n x f) Variables n
-    update-unbound : {Γ : List Slot} {n x f : ℕ} {e : Expr} → typeIn Γ x ≡ none → InferNo p Γ (update n x f e) Variables n
-    call-unbound : {Γ : List Slot} {n x m : ℕ} {e : Expr} → typeIn Γ x ≡ none → InferNo p Γ (call n x m e) Variables n
-    lock-unbound : {Γ : List Slot} {n x : ℕ} {e : Expr} → typeIn Γ x ≡ none → InferNo p Γ (lock n x e) Variables n
+    var-unbound : {Γ : List Slot} {n x : ℕ} → ((t : ℕ) → TypeOf Γ x t → ⊥) → InferNo p Γ (var n x) Variables n
+    select-unbound : {Γ : List Slot} {n x f : ℕ} → ((t : ℕ) → TypeOf Γ x t → ⊥) → InferNo p Γ (select n x f) Variables n
+    update-unbound : {Γ : List Slot} {n x f : ℕ} {e : Expr} → ((t : ℕ) → TypeOf Γ x t → ⊥) → InferNo p Γ (update n x f e) Variables n
+    call-unbound : {Γ : List Slot} {n x m : ℕ} {e : Expr} → ((t : ℕ) → TypeOf Γ x t → ⊥) → InferNo p Γ (call n x m e) Variables n
+    lock-unbound : {Γ : List Slot} {n x : ℕ} {e : Expr} → ((t : ℕ) → TypeOf Γ x t → ⊥) → InferNo p Γ (lock n x e) Variables n
     -- 13. "Has the target's type the field or method?"
-    select-missing : {Γ : List Slot} {n x f t : ℕ} → typeIn Γ x ≡ some t → ((u : ℕ) → FieldIn p t f u → ⊥) → InferNo p Γ (select n x f) Members n
-    update-missing : {Γ : List Slot} {n x f t : ℕ} {e : Expr} → typeIn Γ x ≡ some t → ((u : ℕ) → FieldIn p t f u → ⊥) → InferNo p Γ (update n x f e) Members n
-    call-missing : {Γ : List Slot} {n x m t : ℕ} {e : Expr} → typeIn Γ x ≡ some t → ((g : Signature) → MsigIn p t g → g .name ≡ m → ⊥)
+    select-missing : {Γ : List Slot} {n x f t : ℕ} → TypeOf Γ x t → ((u : ℕ) → FieldIn p t f u → ⊥) → InferNo p Γ (select n x f) Members n
+    update-missing : {Γ : List Slot} {n x f t : ℕ} {e : Expr} → TypeOf Γ x t → ((u : ℕ) → FieldIn p t f u → ⊥) → InferNo p Γ (update n x f e) Members n
+    call-missing : {Γ : List Slot} {n x m t : ℕ} {e : Expr} → TypeOf Γ x t → ((g : Signature) → MsigIn p t g → g .name ≡ m → ⊥)
         → InferNo p Γ (call n x m e) Members n
     -- 15. "Do the asyncs share no variable?"
-    fork-shares : {Γ : List Slot} {n x : ℕ} {e₁ e₂ e : Expr} → x ∈ fv e₁ → x ∈ fv e₂ → InferNo p Γ (fork n e₁ e₂ e) Sharing n
+    fork-shares : {Γ : List Slot} {n x : ℕ} {e₁ e₂ e : Expr} → Free x e₁ → Free x e₂ → InferNo p Γ (fork n e₁ e₂ e) Sharing n
     -- "parts in running order"
-    update-part : {Γ : List Slot} {n x f t u k : ℕ} {e : Expr} {q : Question} → typeIn Γ x ≡ some t → FieldIn p t f u → CheckNo p Γ e u q k
+    update-part : {Γ : List Slot} {n x f t u k : ℕ} {e : Expr} {q : Question} → TypeOf Γ x t → FieldIn p t f u → CheckNo p Γ e u q k
         → InferNo p Γ (update n x f e) q k
-    call-part : {Γ : List Slot} {n x m t k : ℕ} {g : Signature} {e : Expr} {q : Question} → typeIn Γ x ≡ some t → MsigIn p t g → g .name ≡ m
+    call-part : {Γ : List Slot} {n x m t k : ℕ} {g : Signature} {e : Expr} {q : Question} → TypeOf Γ x t → MsigIn p t g → g .name ≡ m
         → CheckNo p Γ e (g .param) q k → InferNo p Γ (call n x m e) q k
     cast-part : {Γ : List Slot} {n t k : ℕ} {e : Expr} {q : Question} → CheckNo p Γ e t q k → InferNo p Γ (cast n t e) q k
-    lock-part : {Γ : List Slot} {n x t k : ℕ} {e : Expr} {q : Question} → typeIn Γ x ≡ some t → InferNo p Γ e q k → InferNo p Γ (lock n x e) q k
+    lock-part : {Γ : List Slot} {n x t k : ℕ} {e : Expr} {q : Question} → TypeOf Γ x t → InferNo p Γ e q k → InferNo p Γ (lock n x e) q k
     let-first : {Γ : List Slot} {n x k : ℕ} {e₁ e₂ : Expr} {q : Question} → InferNo p Γ e₁ q k → InferNo p Γ (bind n x e₁ e₂) q k
     let-last : {Γ : List Slot} {n x t k : ℕ} {e₁ e₂ : Expr} {q : Question} → Infer p Γ e₁ t → InferNo p (record { name = x; type = t } ∷ Γ) e₂ q k
         → InferNo p Γ (bind n x e₁ e₂) q k
@@ -92,13 +90,27 @@ mutual
         → pointOf e ≡ k
         → CheckNo p Γ e t Fits k
 
+-- Method record k is one of class record c: "Runs of signatures, fields and methods belong to their owners in order."
+pub record MethodOf (s : List ℕ) (c k : ℕ) : Type 0 where
+  pub class : c < countOf s classes
+  pub from : sumBelow (ownMethods s) c ≤ k
+  pub upto : k < sumBelow (ownMethods s) c + ownMethods s c
+
+-- "classes I+1 to I+C"
+abbrev pub classType : List ℕ → ℕ → ℕ
+classType s c = suc (countOf s interfaces + c)
+
+-- The body of method record k, for an object of class record c: "Bodies are checked against the result type".
+abbrev pub MethodChecks : List ℕ → ℕ → ℕ → Type 0
+MethodChecks s c k = let m = methodAt s k in Check (programOf s) (bodyEnv (classType s c) (m .signature)) (m .body) (m .signature .result)
+
+abbrev pub MethodNo : List ℕ → ℕ → ℕ → Question → Point → Type 0
+MethodNo s c k q n = let m = methodAt s k in CheckNo (programOf s) (bodyEnv (classType s c) (m .signature)) (m .body) (m .signature .result) q n
+
 -- "Questions 11 to 15 go through bodies in method order, then the start."
-pub data WalkNo (p : Program) : List Body → Question → Point → Type 0 where
-  in-start : {q : Question} {k : Point} → InferNo p [] (p .start) q k → WalkNo p [] q k
-  in-body : {b : Body} {l : List Body} {q : Question} {k : Point}
-      → CheckNo p (bodyEnv (b .class) (b .method .signature)) (b .method .body) (b .method .signature .result) q k → WalkNo p (b ∷ l) q k
-  after-body : {b : Body} {l : List Body} {q : Question} {k : Point}
-      → Check p (bodyEnv (b .class) (b .method .signature)) (b .method .body) (b .method .signature .result) → WalkNo p l q k → WalkNo p (b ∷ l) q k
+pub data WalkNo (s : List ℕ) (q : Question) (n : Point) : Type 0 where
+  in-method : {c k : ℕ} → MethodOf s c k → ((d j : ℕ) → MethodOf s d j → j < k → MethodChecks s d j) → MethodNo s c k q n → WalkNo s q n
+  in-start : ((d j : ℕ) → MethodOf s d j → MethodChecks s d j) → InferNo (programOf s) [] (programOf s .start) q n → WalkNo s q n
 
 -- What each question asks, as a plain statement: of the script as a whole, of each of its records, or on the walk.
 pub data Statement : Type 1 where
@@ -143,7 +155,7 @@ pub record LowestNo (s : List ℕ) (Good : Section → ℕ → Type 0) (place : 
 
 pub record NodeNo (s : List ℕ) (q : Question) (place : ℕ) : Type 0 where
   pub node : Point
-  pub no : WalkNo (programOf s) (bodiesOf (programOf s)) q node
+  pub no : WalkNo s q node
   pub there : place ≡ recordAt s nodes node
 
 abbrev pub NoTo : List ℕ → Question → ℕ → Statement → Type 0
@@ -154,7 +166,7 @@ NoTo s q place of-walk = NodeNo s q place
 abbrev pub No : List ℕ → Question → ℕ → Type 0
 No s q place = NoTo s q place (statementOf s q)
 
--- The refusal is the first no: every question before it gets a yes, and it gets a no with this place.
+-- The refusal is the first no: every question before it gets a yes, the five of the walk counting as one, and it gets a no with this place.
 pub record FirstNo (s : List ℕ) (q : Question) (place : ℕ) : Type 0 where
   pub before : (r : Question) → numberOf r < numberOf q → Yes s r
   pub no : No s q place

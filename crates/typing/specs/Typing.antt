@@ -8,13 +8,13 @@ use lib.Dec.{eqb}
 use lib.ListN.{length}
 use Rattle.script.specs.declared.Question.{Question}
 use Rattle.script.specs.declared.Question.the-variants.{Variables, Nulls, Members, Fits, Sharing}
-use Rattle.script.specs.Syntax.{Point, Expr, null, var, select, update, call, bind, new, cast, fork, lock, pointOf, isNull, Slot, Signature, Method}
-use Rattle.script.specs.Syntax.{Class, Program}
+use Rattle.script.specs.Syntax.{Point, Expr, null, var, select, update, call, bind, new, cast, fork, lock, pointOf, isNull, Slot, Method, Class, Program}
 use Rattle.typing.specs.declared.Answer.{Answer}
 use Rattle.typing.specs.declared.Answer.the-variants.{Typed, Faulty}
+use Rattle.typing.specs.Environments.{bodyEnv}
 use Rattle.typing.specs.Members.{below, typeIn, fieldIn, methodIn}
 
--- fv(e): the free variables.
+-- fv(e): the free variables, those that are `Free` by `free-exactly`.
 unfoldable pub without : ℕ → List ℕ → List ℕ
 without x [] = []
 without x (y ∷ l) = let r = without x l in cond (eqb y x) r (y ∷ r)
@@ -97,13 +97,9 @@ unfoldable pub bodiesFrom : ℕ → List Class → List Body
 bodiesFrom t [] = []
 bodiesFrom t (c ∷ l) = map (λ m. record { class = t; method = m }) (c .methods) ++ bodiesFrom (t + 1) l
 
--- Every body, "in method order".
+-- Every body, "in method order" by `in-method-order`.
 unfoldable pub bodiesOf : Program → List Body
 bodiesOf p = bodiesFrom (length (p .interfaces) + 1) (p .classes)
-
--- this : C, x : t
-abbrev pub bodyEnv : ℕ → Signature → List Slot
-bodyEnv c g = record { name = 1; type = g .param } ∷ record { name = 0; type = c } ∷ []
 
 -- "Bodies are checked against the result type; the start is inferred with no variable."
 unfoldable pub walk : Program → List Body → Answer

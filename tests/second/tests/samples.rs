@@ -204,8 +204,7 @@ fn sixty_three_joins() {
     script.interfaces.extend((1..64).map(|predecessor| [1, predecessor, predecessor]));
     script.classes[0][0] = 64;
     assert_eq!(check(&script.encode()), Reply { number: 0, place: 0, ty: 1 });
-    // Not below a type that no chain meets: every chain has been walked.
-    script.classes.push([1, 0, 0]);
-    script.nodes[0][1] = 66;
-    assert_eq!(check(&script.encode()), Reply { number: 14, place: script.place(Section::Nodes, 1), ty: 0 });
+    // Not below Unit, which no chain meets: every chain has been walked.
+    script.nodes[0][1] = 0;
+    assert_eq!(check(&script.encode()), Reply { number: 14, place: 422, ty: 0 });
 }

@@ -1,4 +1,5 @@
 use borrow.Author.Needs.{needs}
+use mathlib.Core.Path.{refl}
 use Rattle.engine.proofs.Replies.{script-refused, block-refused, started}
 use Rattle.engine.proofs.start.oolong_start.Statement.{statement}
 use Rattle.engine.proofs.start.oolong_start.Tie as tie
@@ -7,17 +8,17 @@ returns : tie.Need-returns
 returns c =
     let s = c .before .before .before .before .before in
     let check = c .before .before .oolong-check in
-    script-refused (s .args .script .now) (s .args .block .now) _ _ (check .ensures .0) (check .ensures .1 .0) (c .if1 .taken)
+    (refl, script-refused (s .args .script .now) (s .args .block .now) _ _ (check .ensures .1 .0) (check .ensures .1 .1 .0) (c .if1 .taken))
 
 returns-2 : tie.Need-returns-2
 returns-2 c =
     let s = c .before .before .before .before .before .before .before in
-    block-refused (s .args .script .now) (s .args .block .now) _ _ (c .before .before .before .before .oolong-check .ensures .0) (c .before .before .if1 .left) (c .before .if2 .taken) (c .lent-number .ensures)
+    (refl, block-refused (s .args .script .now) (s .args .block .now) _ _ (c .before .before .before .before .oolong-check .ensures .1 .0) (c .before .before .if1 .left) (c .before .if2 .taken) (c .lent-number .ensures))
 
 returns-3 : tie.Need-returns-3
 returns-3 c =
     let s = c .before .before .before .before .before .before .before .before .before .before in
-    started (s .args .script .now) (s .args .block .now) _ _ (c .before .before .before .before .before .before .before .oolong-check .ensures .0) (c .before .before .before .before .before .if1 .left) (c .before .before .before .before .if2 .left) (c .before .before .start .ensures)
+    (refl, started (s .args .script .now) (s .args .block .now) _ _ (c .before .before .before .before .before .before .before .oolong-check .ensures .1 .0) (c .before .before .before .before .before .if1 .left) (c .before .before .before .before .if2 .left) (c .before .before .start .ensures))
 
 pub oolong-start-spec : {M : Type 1} → statement M
 oolong-start-spec =

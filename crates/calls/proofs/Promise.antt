@@ -1,0 +1,34 @@
+-- The promise holds of every script of bytes.
+use Prim.Native.Nat.{ℕ, _<_}
+use mathlib.Core.List.{List}
+use lib.ListN.{getD}
+use Rattle.typing.proofs.Exact.{exact, outside-refused, refused-exact}
+use Rattle.published.proofs.Traces.{initial-reads}
+use Rattle.calls.specs.Promise.{Promise}
+use Rattle.calls.proofs.Answers.{accepts, start-answers, offer-answers, run-answers}
+use Rattle.calls.proofs.Replies.{start-writes}
+use Rattle.calls.proofs.Runs.{run-left, run-trace-bytes}
+use Rattle.calls.proofs.Reached.{steps-reached-bytes}
+use Rattle.calls.proofs.Lists.{demand-three-bytes}
+
+pub promise : (s : List ℕ) → ((i : ℕ) → getD s i 0 < 256) → Promise s
+promise s bytes =
+    record {
+      one =
+          record {
+            check = refused-exact s;
+            start = start-answers s;
+            offer = offer-answers s bytes;
+            run = run-answers s bytes;
+          };
+      two =
+          record {
+            accepted = exact s;
+            within = outside-refused s;
+            begins = λ t acc b l. (start-writes s bytes t acc b l, initial-reads (accepts s bytes t acc));
+            runs = run-left s bytes;
+            moves = run-trace-bytes s bytes;
+            reached = λ acc h k. steps-reached-bytes s bytes _ acc h k;
+          };
+      three = λ acc x calls. demand-three-bytes s bytes _ acc calls (x .holds);
+    }

@@ -1,0 +1,53 @@
+-- The whole promise, of the four calls on bytes, a field to each sentence of docs/DEMANDS.md. By the contracts of the crate `engine` the four calls from C are
+-- `checkOf`, `startOf`, `offerOf` and `runOf`, so each sentence is about what they return and leave.
+use Prim.Native.Nat.{ℕ}
+use mathlib.Core.Path.{_≡_}
+use mathlib.Core.List.{List}
+use mathlib.Core.Logic.{_↔_}
+use lib.ListN.{length}
+use Rattle.limits.specs.Limits.{BLOCK}
+use Rattle.script.specs.declared.Question.{Question}
+use Rattle.script.specs.Reading.{programOf}
+use Rattle.script.specs.Statements.{WithinLayout}
+use Rattle.typing.specs.declared.Verdict.the-variants.{Accepted, Refused}
+use Rattle.typing.specs.Published.{WfProgram}
+use Rattle.typing.specs.Refusals.{FirstNo}
+use Rattle.typing.specs.Check.{checkOf}
+use Rattle.machine.specs.Config.{Config, codeOf}
+use Rattle.machine.specs.Machine.{initial}
+use Rattle.published.specs.ReadAs.{Reading, reading, Steps, initialReading}
+use Rattle.published.specs.Reach.{site}
+use Rattle.calls.specs.Calls.{startOf, offerOf, runOf}
+use Rattle.calls.specs.Answers.{Holds, Stands, StartAnswers, OfferAnswers, RunAnswers, Left, TraceOf, ReachedBy}
+use Rattle.calls.specs.Lists.{Lent, DemandThreeOf}
+
+-- Demand 1: "The converter gets a reply from every call .., without checking them first; a bad one gets document 01's refusal number and changes no lent byte."
+-- That a reply comes is the contracts': they ask nothing, and every function ends.
+pub record DemandOneOf (s : List ℕ) : Type 0 where
+  -- Check is refused with the first no and its place, and by no other
+  pub check : (q : Question) (place : ℕ) → (checkOf s ≡ Refused q place) ↔ FirstNo s q place
+  -- Start, Offer and Run, whatever is lent to them: refused with their first no, with the lent bytes as they were, or done
+  pub start : (b : List ℕ) → StartAnswers s b (startOf s b)
+  pub offer : (b fl : List ℕ) → OfferAnswers s b fl (offerOf s b fl)
+  pub run : (b ns : List ℕ) → RunAnswers s b ns (runOf s b ns)
+
+pub record DemandTwoOf (s : List ℕ) : Type 0 where
+  -- "A script within layout and limits is accepted exactly when OOlong's published typing rules give it a type", and no other script is
+  pub accepted : WithinLayout s → (t : ℕ) → (checkOf s ≡ Accepted t) ↔ WfProgram (programOf s) t
+  pub within : (t : ℕ) → checkOf s ≡ Accepted t → WithinLayout s
+  -- the published semantics begins at what Start writes
+  pub begins : (t : ℕ) → checkOf s ≡ Accepted t → (b : List ℕ) → length b ≡ BLOCK
+      → Holds s t (startOf s b .block) initial × (reading (codeOf s) initial ≡ initialReading (programOf s))
+  -- "A run makes the moves its choices name and reports how many": choices are read until one of the three ends, a full store, or the last of them
+  pub runs : (b ns : List ℕ) → runOf s b ns .number ≡ 0 → Left s b ns
+  -- "each move is one published step or a listed silent one"
+  pub moves : (b ns : List ℕ) → runOf s b ns .number ≡ 0 → TraceOf s b ns
+  -- "each open published step can be reached by choices, unless a store is full"
+  pub reached : {t : ℕ} → checkOf s ≡ Accepted t → {b : List ℕ} {c : Config} {q : Reading} → Holds s t b c
+      → (k : Steps (codeOf s .program) (reading (codeOf s) c) q) → ReachedBy s t b c q (site k)
+
+-- The three demands, of a script of bytes. Demand 3: "For any accepted script, any well-formed block and any list of Start, Offer and Run calls on it".
+pub record Promise (s : List ℕ) : Type 0 where
+  pub one : DemandOneOf s
+  pub two : DemandTwoOf s
+  pub three : {t : ℕ} → checkOf s ≡ Accepted t → {b : List ℕ} → Stands s t b → (calls : List Lent) → DemandThreeOf s t b calls

@@ -1,0 +1,2 @@
+pub mod LetLaws
+pub mod WaitingLaws
