@@ -13,7 +13,7 @@ use Rattle.script.specs.Reading.{ownSignatures, ownFields, ownMethods}
 use Rattle.members.specs.declared.Member.{Member}
 use Rattle.members.specs.declared.Member.the-variants.{Types, Missing}
 
--- Where the run of each owner begins: signatures of interface o at o, fields of class c at 64 + c, methods of class c at 128 + c.
+-- Where the run of each owner begins: signatures of interface o at o, fields of class c at INTERFACES + c, methods of class c at INTERFACES + CLASSES + c.
 pub record Starts (s table : List ℕ) : Type 0 where
   pub size : length table ≡ INTERFACES + CLASSES + CLASSES
   pub signatures : (o : ℕ) → o < countOf s interfaces → getD table o 0 ≡ sumBelow (ownSignatures s) o

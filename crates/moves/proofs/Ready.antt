@@ -1,10 +1,10 @@
 -- What a well-formed configuration gives the moves' contracts, where it is seen in a block.
 use mathlib.Core.Path.{_≡_, ap}
-use mathlib.Core.List.{List, _∷_, List·Memᴰ·not-nil}
+use mathlib.Core.List.{List, List·Memᴰ·not-nil}
 use Prim.Native.Nat.{ℕ, zero, suc, _<_, _≤_}
 use native.Mathlib.Omega.{arith}
 use native.Mathlib.Decide.{decLt}
-use lib.ListN.{length, getD}
+use lib.ListN.{length}
 use Rattle.words.specs.Word.{WORD}
 use Rattle.script.specs.declared.Section.the-variants.{Interfaces as interfaces, Classes as classes, Nodes as nodes}
 use Rattle.script.specs.Section.{countOf}
@@ -22,7 +22,6 @@ use Rattle.inference.specs.Tables.{Named}
 use Rattle.inference.specs.At.{Blank}
 use Rattle.machine.specs.declared.Value.{Value}
 use Rattle.machine.specs.declared.Want.{Want}
-use Rattle.machine.specs.declared.Frame.{Frame}
 use Rattle.machine.specs.Config as machine
 use Rattle.machine.specs.Config.{Code, codeOf, Object, Binding, Stores}
 use Rattle.machine.specs.Machine.{context}
@@ -30,13 +29,12 @@ use Rattle.machine.specs.WellFormed.{ValueFits, fits-nil, fits-ref, BindingOk, 
 use Rattle.machine.proofs.Stores.{object-below, fields-long}
 use Rattle.machine.proofs.Decide.{context-wf}
 use Rattle.block.specs.declared.Area.the-variants.{Objects, Bindings}
-use Rattle.block.specs.Block.{valueWord, waiting}
+use Rattle.block.specs.Block.{valueWord}
 use Rattle.tree.specs.declared.Tree.{Tree}
-use Rattle.tree.specs.Entries.{blank}
 use Rattle.environments.specs.Chains.{bindingCount, bindingAt, newest, bindingsIn, Chain, Typed, Zeros}
 use Rattle.environments.proofs.ChainLaws.{length-newest}
 use Rattle.state.specs.Hand.{Else, Seen}
-use Rattle.state.proofs.Seeing.{seen-length, seen-few, objects-counted, bindings-counted, seen-waiting}
+use Rattle.state.proofs.Seeing.{seen-length, seen-few, objects-counted, bindings-counted}
 use Rattle.moves.specs.Came.{OwnFields}
 use Rattle.moves.proofs.Laws.{scope-read}
 
@@ -70,10 +68,6 @@ newest-ok f (suc n) i h (a-binding k ok) =
     ]
 
 module _ {b : List ℕ} {self : Tree} {i : ℕ} {x : Else} {st : Stores} {u : machine.Tree} (seen : Seen b self i x st u) where
-  -- the innermost frame is there
-  pub frame-there : {g : Frame} {fs : List Frame} → waiting u ≡ g ∷ fs → 0 < getD (self .entries) i blank .frames
-  frame-there e = omega (arith, seen-waiting seen, ap length e)
-
   -- a value of the stores is a word
   pub value-word : {s : Code} {v : Value} {w : Want} → ValueFits s (st .objects) v w → valueWord v < WORD
   value-word fits-nil = omega arith

@@ -14,7 +14,7 @@ use Rattle.machine.specs.declared.Frame.{Frame}
 use Rattle.machine.specs.Config as machine
 use Rattle.machine.specs.Config.{running, returning, failed, join, Stores, Config}
 use Rattle.machine.specs.Machine.{Path, here, left, right, size, locate, part}
-use Rattle.block.specs.declared.Area.the-variants.{Objects, Bindings, Positions, Frames}
+use Rattle.block.specs.declared.Area.the-variants.{Positions}
 use Rattle.block.specs.Layout.{width, begins}
 use Rattle.block.specs.Block.{preorder, waiting, positionWords, framesOf, partsOf, laid, blockWords}
 use Rattle.representation.specs.Changed.{frameStart}
@@ -27,7 +27,7 @@ use Rattle.tree.specs.declared.Entry.{Entry}
 use Rattle.tree.specs.declared.Tree.{Tree}
 use Rattle.tree.specs.Entries.{entryOf, entries, frameSum, blank, used}
 use Rattle.tree.proofs.Trees.{entries-length, sum-append, sum-start}
-use Rattle.state.specs.Hand.{partsIn, InHand, Else, Seen, Sight}
+use Rattle.state.specs.Hand.{partsIn, InHand, Else, Seen}
 use Rattle.state.specs.Positions.{entryFrom, valueIn, Worded}
 use Rattle.state.proofs.Taking.{entry-back}
 use Rattle.state.proofs.Putting.{records-many}
@@ -108,13 +108,6 @@ below : (t : machine.Tree) (n : ℕ) (p : Path) → locate t n ≡ some p → n 
 below t n p h = named-below t n .0 (p, h)
 
 module _ {b : List ℕ} {self : Tree} {c : Config} (h : InHand b self c) where
-  -- The positions too are few, so the configuration in hand fits a block.
-  pub hand-few : Few (partsOf c)
-  hand-few Objects = h .few Objects
-  hand-few Bindings = h .few Bindings
-  hand-few Positions = omega (arith, records-many self (c .tree) (h .tree), h .tree .tidy .small)
-  hand-few Frames = h .few Frames
-
   -- If the words of its block are words, so are those of the values in hand: what put_tree asks.
   pub hand-worded : AllWords (blockWords c) → Worded self
   hand-worded words k =
@@ -178,6 +171,3 @@ module _ {b : List ℕ} {self : Tree} {c : Config} (h : InHand b self c) where
           block = s .block ∙ ap (λ (fs : List Frame). bytes (laid (partsIn st (h .positions) fs))) (sym (frames-there w));
           few = subst (λ (fs : List Frame). Few (partsIn st (h .positions) fs)) (sym (frames-there w)) (s .few);
         }
-
-    pub sight-there : Sight b self n
-    sight-there = record { rest = around n u; stores = c .stores; part = u; seen = seen-there }

@@ -25,7 +25,7 @@ use Rattle.tree.specs.declared.Entry.{Entry}
 use Rattle.tree.specs.declared.Tree.{Tree}
 use Rattle.tree.specs.Entries.{entryOf, entries, blank, Is}
 use Rattle.tree.proofs.Parts.{used-length}
-use Rattle.tree.proofs.Whole.{cellWords, entryWords, words-entry}
+use Rattle.tree.proofs.EntryWords.{cellWords, entryWords, words-entry}
 use Rattle.state.specs.Hand.{partsIn, InHand}
 use Rattle.state.specs.Positions.{valueIn, Worded, rowAt}
 

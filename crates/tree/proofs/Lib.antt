@@ -5,5 +5,4 @@ pub mod Phases
 pub mod Walks
 pub mod Changes
 pub mod Folds
-pub mod Whole
-pub mod Leftmost
+pub mod EntryWords
