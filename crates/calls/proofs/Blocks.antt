@@ -43,7 +43,7 @@ use Rattle.calls.specs.Calls.{askForm, configOf, blockAsked, offeredFrom
 use Rattle.calls.specs.Samples.{configured, variable}
 use Rattle.calls.specs.Blocks.{blockScript, BlockCase, formNumber, Judged, objectC, blockCases, BlocksJudged}
 use Rattle.calls.proofs.Answers.{accepts}
-use Rattle.calls.proofs.Samples.{in-map}
+use Rattle.calls.proofs.Tables.{in-map}
 
 -- the script is bytes and accepted, with type I
 block-script : checkOf blockScript ≡ Accepted 2

@@ -6,6 +6,7 @@ pub mod Runs
 pub mod Still
 pub mod Reached
 pub mod Bytes
+pub mod Tables
 pub mod Samples
 pub mod Blocks
 pub mod Promise

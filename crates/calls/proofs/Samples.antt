@@ -1,7 +1,7 @@
 -- Every sample of the table gets its answers: by computation from Check and from the machine's run, and from there on bytes. Buffers that do not fit get theirs.
 use mathlib.Core.Path.{_≡_, refl, sym, ap, _∙_}
 use mathlib.Core.Bool.{Bool, true, _&&_}
-use mathlib.Core.List.{List, [], _∷_, map, List·Memᴰ·cases-cons, List·Memᴰ·not-nil}
+use mathlib.Core.List.{List, _∷_, map, List·Memᴰ·cases-cons, List·Memᴰ·not-nil}
 use mathlib.Core.Logic.{⊎-elim}
 use mathlib.Core.Option.{Option, none, some}
 use Prim.Native.Nat.{ℕ, _<_, _≤_}
@@ -41,6 +41,7 @@ use Rattle.calls.specs.Samples.{Trial, Sample, Tried, Sampled, nodesAlon
 use Rattle.calls.proofs.Answers.{config-holds}
 use Rattle.calls.proofs.Replies.{start-writes, offer-reply, run-reply, run-holds}
 use Rattle.calls.proofs.Runs.{number-some}
+use Rattle.calls.proofs.Tables.{in-map}
 
 -- what a run of the machine shows of a trial, and what the trial says, each with all 63 flags
 abbrev shown : List ℕ → List ℕ → Report → Trial
@@ -69,10 +70,6 @@ ready x y = eqb (verdictNumber (x .verdict)) 0 && (allOf (λ n. ltb n 256) (x .s
 all-ready : map (λ x. map (ready x) (x .trials)) samples ≡ map (λ x. map (λ (y : Trial). true) (x .trials)) samples
 unfolding bytes allOf nodesAlone nodesWithClass nodesWithField nodesWithMethod samples
 all-ready = refl
-
-pub in-map : {A B : Type 0} (f g : A → B) (l : List A) (x : A) → map f l ≡ map g l → x ∈ l → f x ≡ g x
-in-map f g [] x e m = absurd (List·Memᴰ·not-nil m)
-in-map f g (y ∷ l) x e m = ⊎-elim (λ (i : x ≡ y). cc) (λ (k : x ∈ l). in-map f g l x (cc e) k) (List·Memᴰ·cases-cons m)
 
 in-trials : {B : Type 0} (f g : Sample → Trial → B) → map (λ x. map (f x) (x .trials)) samples ≡ map (λ x. map (g x) (x .trials)) samples
     → (x : Sample) → x ∈ samples → (y : Trial) → y ∈ x .trials → f x y ≡ g x y
