@@ -19,9 +19,10 @@ use Rattle.machine.specs.Machine.{initial}
 use Rattle.block.specs.declared.Area.{Area}
 use Rattle.block.specs.declared.Area.the-variants.{Objects, Bindings, Positions, Frames}
 use Rattle.representation.specs.Changed.{putWords, withObjects, withBindings, withFrames, withShut, withField}
-use Rattle.block.specs.Layout.{width, most, begins, END, countByte, wordByte, counted, wordIn, RUNNING, AWAITS, CASTS}
-use Rattle.block.specs.Block.{valueWord, shutWord, objectWords, bindingWords, frameWords, Parts, laid, encode}
-use Rattle.block.specs.Decode.{valueOf, frameOf}
+use Rattle.block.specs.Layout.{width, most, begins, END, countByte, wordByte, counted, wordIn, SHUT, fieldWord, NAME, BOUND, LINK, RUNNING, AWAITS, CASTS}
+use Rattle.block.specs.Values.{valueWord, valueOf, valueWords}
+use Rattle.block.specs.Block.{shutWord, objectWords, bindingWords, frameWords, Parts, laid, encode}
+use Rattle.block.specs.Decode.{frameOf}
 use Rattle.block.proofs.Rows.{row-at}
 use Rattle.block.proofs.Words.{within, area-ends, count-is, word-is}
 use Rattle.block.proofs.Decode.{frame-back}
@@ -47,6 +48,9 @@ word-value (suc n) h = let e : suc n - 1 ≡ n = omega arith in rw e
 
 pub value-word : (v : Value) (o : ℕ) → v ≡ ref o → o + 1 ≡ valueWord v
 value-word v o e = rw e (omega arith)
+
+pub value-put : (b c : List ℕ) (at w : ℕ) (v : Value) → w ≡ valueWord v → c ≡ putWord b at w → c ≡ putWords b at (valueWords v)
+value-put b c at w v h e = e ∙ rw h
 
 -- frames and their words
 pub awaits-said : (k x y : ℕ) → k ≡ AWAITS → awaits x y ≡ frameOf (k ∷ x ∷ y ∷ [])
@@ -154,35 +158,35 @@ module _ (b : List ℕ) (p : Parts) (is : b ≡ bytes (laid p)) where
       let s : n + 1 ≡ suc n = omega arith in
       e ∙ rw (d, s, l, is) (put-fresh-object p class m (omega arith))
 
-  module _ (c : List ℕ) (o : ℕ) (d : Object) (room : o < OBJECTS) (h : o < length (p .objects)) (w : ℕ) where
+  module _ (c : List ℕ) (o : ℕ) (d : Object) (room : o < OBJECTS) (h : o < length (p .objects)) where
     pub object-shut :
-        (s : Bool) → w ≡ shutWord s → c ≡ putWord b (wordByte Objects o 1) w → c ≡ bytes (laid (withObjects p (set (p .objects) o (withShut (getD (p .objects) o d) s))))
-    object-shut s v e = e ∙ rw (v, is) (put-shut p o d room h s)
+        (s : Bool) (w : ℕ) → w ≡ shutWord s → c ≡ putWord b (wordByte Objects o SHUT) w → c ≡ bytes (laid (withObjects p (set (p .objects) o (withShut (getD (p .objects) o d) s))))
+    object-shut s w v e = e ∙ rw (v, is) (put-shut p o d room h s)
 
     pub object-field :
         (k : ℕ) (v : Value)
-        → w ≡ valueWord v
         → k < CLASS-FIELDS
         → k < length (getD (p .objects) o d .fields)
-        → c ≡ putWord b (wordByte Objects o (2 + k)) w
+        → c ≡ putWords b (wordByte Objects o (fieldWord k)) (valueWords v)
         → c ≡ bytes (laid (withObjects p (set (p .objects) o (withField (getD (p .objects) o d) k v))))
-    object-field k v u g l e = e ∙ rw (u, is) (put-field p o d room h k v l g)
+    object-field k v g l e = e ∙ rw is (put-field p o d room h k v l g)
 
   -- one binding more
   pub binding-added :
-      (b₁ b₂ c : List ℕ) (n w : ℕ) (x : Binding)
+      (b₁ b₂ b₃ c : List ℕ) (n : ℕ) (x : Binding)
       → n ≡ counted b Bindings
       → n < BINDINGS
-      → w ≡ valueWord (x .value)
-      → b₁ ≡ putWords b (wordByte Bindings n 0) (x .name ∷ x .type ∷ [])
-      → b₂ ≡ putWords b₁ (wordByte Bindings n 2) (w ∷ x .link ∷ [])
-      → c ≡ putWord b₂ (countByte Bindings) (n + 1)
+      → b₁ ≡ putWords b (wordByte Bindings n NAME) (x .name ∷ x .type ∷ [])
+      → b₂ ≡ putWords b₁ (wordByte Bindings n BOUND) (valueWords (x .value))
+      → b₃ ≡ putWord b₂ (wordByte Bindings n LINK) (x .link)
+      → c ≡ putWord b₃ (countByte Bindings) (n + 1)
       → c ≡ bytes (laid (withBindings p (p .bindings ++ x ∷ [])))
-  binding-added b₁ b₂ c n w x k h v d₁ d₂ e =
+  binding-added b₁ b₂ b₃ c n x k h d₁ d₂ d₃ e =
       let l : n ≡ length (p .bindings) = k ∙ rw is (count-is p Bindings ∙ length-map (p .bindings) bindingWords) in
       let s : n + 1 ≡ suc n = omega arith in
-      let at : wordByte Bindings n 2 ≡ wordByte Bindings n 0 + 2 + 2 = omega arith in
-      e ∙ rw (d₂, d₁, at, s, v) (rw (l, is) (put-new-binding p x (omega arith)))
+      let value : wordByte Bindings n BOUND ≡ wordByte Bindings n NAME + 2 + 2 = omega arith in
+      let link : wordByte Bindings n LINK ≡ wordByte Bindings n NAME + 2 + 2 + 2 = omega arith in
+      e ∙ rw (d₃, d₂, d₁, value, link, s) (rw (l, is) (put-new-binding p x (omega arith)))
 
   -- where the loops begin
   pub cut-none : (n : ℕ) → length (p .frames) ≡ n → b ≡ bytes (laid (withFrames p (take n (p .frames))))

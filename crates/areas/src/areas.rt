@@ -1,6 +1,9 @@
 // The areas of a block: their counts, and the words of their records.
 use block::Area;
-use limits::Limits;
+use block::Layout;
+use block::begins_of;
+use block::count_word_of;
+use block::width_of;
 ghost use mathlib.Core.Path.{_≡_};
 ghost use mathlib.Core.List.{[], _∷_};
 ghost use Prim.Native.Nat.{_+_, _<_};
@@ -10,48 +13,8 @@ ghost use Rattle.slices.specs.Put.{putWord};
 ghost use Rattle.limits.specs.Limits.{BLOCK};
 ghost use Rattle.machine.specs.Machine.{initial};
 ghost use Rattle.representation.specs.Changed.{putWords};
-ghost use Rattle.block.specs.Layout.{countWord, width, most, begins, countByte, wordByte, counted, wordIn};
+ghost use Rattle.block.specs.Layout.{width, most, countByte, wordByte, counted, wordIn};
 ghost use Rattle.block.specs.Block.{encode};
-
-// The word of the header that has an area's count.
-fn count_word_of(a: Area) -> usize
-    ensures { λ r. ⌜ (r ≡ countWord a) × (r < 4) ⌝ }
-{
-    match a {
-        Area::Objects => 0,
-        Area::Bindings => 1,
-        Area::Frames => 2,
-        Area::Positions => 3,
-    }
-}
-
-// The words of a record.
-fn width_of(a: Area) -> usize
-    ensures { λ r. ⌜ r ≡ width a ⌝ }
-{
-    match a {
-        Area::Objects => 2 + Limits::CLASS_FIELDS,
-        Area::Bindings => 4,
-        Area::Positions => 5,
-        Area::Frames => 3,
-    }
-}
-
-// The word at which an area begins.
-fn begins_of(a: Area) -> usize
-    ensures { λ r. ⌜ r ≡ begins a ⌝ }
-{
-    let objects = 4;
-    let bindings = objects + (2 + Limits::CLASS_FIELDS) * Limits::OBJECTS;
-    let positions = bindings + 4 * Limits::BINDINGS;
-    let frames = positions + 5 * Limits::POSITIONS;
-    match a {
-        Area::Objects => objects,
-        Area::Bindings => bindings,
-        Area::Positions => positions,
-        Area::Frames => frames,
-    }
-}
 
 // The byte at which word j of record i stands.
 fn word_byte(a: Area, i: usize, j: usize) -> usize
@@ -114,6 +77,6 @@ pub fn start(block: &mut [u8])
     ensures { λ r. ⌜ now (block .exit) ≡ encode initial ⌝ }
 {
     slices::clear(block);
-    put(block, Area::Positions, 0, 0, 1);
+    put(block, Area::Positions, 0, Layout::KIND, Layout::RUNNING);
     put_count(block, Area::Positions, 1);
 }

@@ -5,6 +5,7 @@ use crate::areas::put_count;
 use crate::areas::put_pair;
 use crate::areas::word;
 use block::Area;
+use block::Layout;
 use machine::Frame;
 ghost use mathlib.Core.Path.{_≡_};
 ghost use mathlib.Core.List.{[], _∷_, _++_};
@@ -15,25 +16,25 @@ ghost use Rattle.limits.specs.Limits.{BLOCK, FRAMES};
 ghost use Rattle.machine.specs.declared.Frame.the-variants.{Awaits as awaits};
 ghost use Rattle.block.specs.declared.Area.the-variants.{Frames};
 ghost use Rattle.representation.specs.Changed.{putWords, withFrames};
-ghost use Rattle.block.specs.Layout.{wordByte, counted};
+ghost use Rattle.block.specs.Layout.{wordByte, counted, KIND, NODE, ENV};
 ghost use Rattle.block.specs.Block.{Parts, frameWords, laid};
 ghost use Rattle.block.specs.Decode.{frameOf};
 ghost use Rattle.areas.specs.Shifts.{raised, lowered};
 
 // What a frame is.
 fn kind_of(f: Frame) -> u16
-    ensures { λ r. ⌜ r ≡ getD (frameWords f) 0 0 ⌝ }
+    ensures { λ r. ⌜ r ≡ getD (frameWords f) KIND 0 ⌝ }
 {
     match f {
-        Frame::Awaits(n, e) => 1,
-        Frame::Casts(n) => 2,
-        Frame::Locks(o) => 3,
+        Frame::Awaits(n, e) => Layout::AWAITS,
+        Frame::Casts(n) => Layout::CASTS,
+        Frame::Locks(o) => Layout::LOCKS,
     }
 }
 
 // Its node or object.
 fn first_of(f: Frame) -> u16
-    ensures { λ r. ⌜ r ≡ getD (frameWords f) 1 0 ⌝ }
+    ensures { λ r. ⌜ r ≡ getD (frameWords f) NODE 0 ⌝ }
 {
     match f {
         Frame::Awaits(n, e) => n,
@@ -44,7 +45,7 @@ fn first_of(f: Frame) -> u16
 
 // Its environment, or 0.
 fn second_of(f: Frame) -> u16
-    ensures { λ r. ⌜ r ≡ getD (frameWords f) 2 0 ⌝ }
+    ensures { λ r. ⌜ r ≡ getD (frameWords f) ENV 0 ⌝ }
 {
     match f {
         Frame::Awaits(n, e) => e,
@@ -57,10 +58,10 @@ fn second_of(f: Frame) -> u16
 fn frame_of(kind: u16, x: u16, y: u16) -> Frame
     ensures { λ r. ⌜ r ≡ frameOf (kind ∷ x ∷ y ∷ []) ⌝ }
 {
-    if kind == 1 {
+    if kind == Layout::AWAITS {
         return Frame::Awaits(x, y);
     }
-    if kind == 2 {
+    if kind == Layout::CASTS {
         return Frame::Casts(x);
     }
     Frame::Locks(x)
@@ -73,25 +74,25 @@ pub fn frame(block: &[u8], i: usize) -> Frame
         ((p : Parts) → now (block .entry) ≡ bytes (laid p) → i < length (p .frames) → r ≡ getD (p .frames) i (awaits 0 0))
         ⌝ }
 {
-    let kind = word(block, Area::Frames, i, 0);
-    let x = word(block, Area::Frames, i, 1);
-    let y = word(block, Area::Frames, i, 2);
+    let kind = word(block, Area::Frames, i, Layout::KIND);
+    let x = word(block, Area::Frames, i, Layout::NODE);
+    let y = word(block, Area::Frames, i, Layout::ENV);
     frame_of(kind, x, y)
 }
 
 // Puts the words of frame i.
 fn put_row(block: &mut [u8], i: usize, kind: u16, x: u16, y: u16)
     requires { ⌜ (length (now block) ≡ BLOCK) × (i < FRAMES) ⌝ }
-    ensures { λ r. ⌜ now (block .exit) ≡ putWords (now (block .entry)) (wordByte Frames i 0) (kind ∷ x ∷ y ∷ []) ⌝ }
+    ensures { λ r. ⌜ now (block .exit) ≡ putWords (now (block .entry)) (wordByte Frames i KIND) (kind ∷ x ∷ y ∷ []) ⌝ }
 {
-    put_pair(block, Area::Frames, i, 0, kind, x);
-    put(block, Area::Frames, i, 2, y);
+    put_pair(block, Area::Frames, i, Layout::KIND, kind, x);
+    put(block, Area::Frames, i, Layout::ENV, y);
 }
 
 // Puts f as frame i.
 pub fn put_frame(block: &mut [u8], i: usize, f: Frame)
     requires { ⌜ (length (now block) ≡ BLOCK) × (i < FRAMES) ⌝ }
-    ensures { λ r. ⌜ now (block .exit) ≡ putWords (now (block .entry)) (wordByte Frames i 0) (frameWords f) ⌝ }
+    ensures { λ r. ⌜ now (block .exit) ≡ putWords (now (block .entry)) (wordByte Frames i KIND) (frameWords f) ⌝ }
     ensures { λ r. ⌜
         ((p : Parts) →
         now (block .entry) ≡ bytes (laid p) →

@@ -3,21 +3,24 @@ use crate::areas::count;
 use crate::areas::put;
 use crate::areas::put_count;
 use crate::areas::put_pair;
-use crate::values::word_of;
+use crate::values::put_value;
+use crate::values::value;
 use block::Area;
+use block::Layout;
 use machine::Value;
 ghost use mathlib.Core.Path.{_≡_};
 ghost use mathlib.Core.Bool.{false};
 ghost use mathlib.Core.List.{[], _∷_, _++_};
 ghost use Prim.Native.Nat.{ℕ, _<_};
 ghost use lib.ListN.{length, getD, set, replicate};
-ghost use Rattle.words.specs.Word.{WORD, bytes};
+ghost use Rattle.words.specs.Word.{bytes};
 ghost use Rattle.limits.specs.Limits.{BLOCK, OBJECTS, BINDINGS, CLASS-FIELDS};
 ghost use Rattle.machine.specs.declared.Value.the-variants.{Null as nil};
 ghost use Rattle.machine.specs.Config.{Object};
 ghost use Rattle.block.specs.declared.Area.the-variants.{Objects, Bindings};
-ghost use Rattle.block.specs.Layout.{counted};
-ghost use Rattle.block.specs.Block.{valueWord, shutWord, Parts, laid};
+ghost use Rattle.block.specs.Layout.{counted, wordIn, fieldWord};
+ghost use Rattle.block.specs.Values.{valueIn, Storable};
+ghost use Rattle.block.specs.Block.{shutWord, Parts, laid};
 ghost use Rattle.representation.specs.Changed.{withObjects, withBindings, withShut, withField};
 
 // "new makes an open object with null fields", whatever number m of them: null is 0, as is all past the last object.
@@ -30,7 +33,7 @@ pub fn new_object(block: &mut [u8], class: u16)
         ⌝ }
 {
     let n = count(block, Area::Objects);
-    put(block, Area::Objects, n, 0, class);
+    put(block, Area::Objects, n, Layout::CLASS, class);
     put_count(block, Area::Objects, (n + 1) as u16);
 }
 
@@ -55,12 +58,20 @@ pub fn set_shut(block: &mut [u8], o: usize, shut: bool)
         ⌝ }
 {
     let w = shut_word(shut);
-    put(block, Area::Objects, o, 1, w);
+    put(block, Area::Objects, o, Layout::SHUT, w);
+}
+
+// Field k of object o.
+pub fn field(block: &[u8], o: usize, k: usize) -> Value
+    requires { ⌜ (length (now block) ≡ BLOCK) × (o < OBJECTS) × (k < CLASS-FIELDS) ⌝ }
+    ensures { λ r. ⌜ r ≡ valueIn (wordIn (now (block .entry)) Objects o) (fieldWord k) ⌝ }
+{
+    value(block, Area::Objects, o, Layout::FIELDS + Layout::VALUE * k)
 }
 
 // v in field k of object o.
 pub fn put_field(block: &mut [u8], o: usize, k: usize, v: Value)
-    requires { ⌜ (length (now block) ≡ BLOCK) × (o < OBJECTS) × (k < CLASS-FIELDS) × (valueWord v < WORD) ⌝ }
+    requires { ⌜ (length (now block) ≡ BLOCK) × (o < OBJECTS) × (k < CLASS-FIELDS) × Storable v ⌝ }
     ensures { λ r. ⌜
         ((p : Parts) (d : Object) →
         now (block .entry) ≡ bytes (laid p) →
@@ -69,13 +80,18 @@ pub fn put_field(block: &mut [u8], o: usize, k: usize, v: Value)
         now (block .exit) ≡ bytes (laid (withObjects p (set (p .objects) o (withField (getD (p .objects) o d) k v)))))
         ⌝ }
 {
-    let w = word_of(v);
-    put(block, Area::Objects, o, 2 + k, w);
+    put_value(
+        block,
+        Area::Objects,
+        o,
+        Layout::FIELDS + Layout::VALUE * k,
+        v,
+    );
 }
 
 // One binding more.
 pub fn add_binding(block: &mut [u8], name: u16, t: u16, value: Value, link: u16)
-    requires { ⌜ (length (now block) ≡ BLOCK) × (counted (now block) Bindings < BINDINGS) × (valueWord value < WORD) ⌝ }
+    requires { ⌜ (length (now block) ≡ BLOCK) × (counted (now block) Bindings < BINDINGS) × Storable value ⌝ }
     ensures { λ r. ⌜
         ((p : Parts) →
         now (block .entry) ≡ bytes (laid p) →
@@ -83,8 +99,8 @@ pub fn add_binding(block: &mut [u8], name: u16, t: u16, value: Value, link: u16)
         ⌝ }
 {
     let n = count(block, Area::Bindings);
-    let w = word_of(value);
-    put_pair(block, Area::Bindings, n, 0, name, t);
-    put_pair(block, Area::Bindings, n, 2, w, link);
+    put_pair(block, Area::Bindings, n, Layout::NAME, name, t);
+    put_value(block, Area::Bindings, n, Layout::BOUND, value);
+    put(block, Area::Bindings, n, Layout::LINK, link);
     put_count(block, Area::Bindings, (n + 1) as u16);
 }

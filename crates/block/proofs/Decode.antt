@@ -1,27 +1,25 @@
 -- The block is canonical: a configuration that fits is got back from its block, and a block is that of the configuration got from it.
-use mathlib.Core.Path.{_≡_, refl, sym, _∙_}
+use mathlib.Core.Path.{_≡_, refl, sym}
 use mathlib.Core.Bool.{Bool, true, false, cond, _&&_}
 use mathlib.Core.List.{List, [], _∷_, map, reverse, reverse-reverse, List·Memᴰ·head, List·Memᴰ·tail}
 use mathlib.Core.Option.{none, some}
 use Prim.Native.Nat.{ℕ, _≤_}
 use native.Mathlib.Omega.{arith}
 use lib.Dec.{eqb}
-use lib.ListN.{length, getD, take, length-map}
+use lib.ListN.{length, getD}
 use borrow.Author.Tests.{eqb-true, eq-eqb}
 use Rattle.limits.specs.Limits.{CLASS-FIELDS}
 use Rattle.script.specs.Lists.{_∈_}
 use Rattle.script.proofs.Tests.{true-false, says-yes, yes-said}
-use Rattle.machine.specs.declared.Value.{Value}
 use Rattle.machine.specs.declared.Frame.{Frame}
 use Rattle.machine.specs.declared.Frame.the-variants.{Awaits as awaits, Casts as casts, Locks as locks}
 use Rattle.machine.specs.Config.{Object, Binding, failed, Config}
-use Rattle.block.specs.Rows.{filled}
 use Rattle.block.specs.Layout.{Area, Objects, Bindings, Positions, Frames, rowsIn}
-use Rattle.block.specs.Block.{valueWord, shutWord, objectWords, bindingWords, framesOf, frameWords, partsOf, rows, encode}
+use Rattle.block.specs.Block.{shutWord, objectWords, bindingWords, framesOf, frameWords, partsOf, rows, encode}
 use Rattle.block.specs.Fits.{Fits, fitsTest}
-use Rattle.block.specs.Decode.{valueOf, objectOf, bindingOf, frameOf, grove, configIn, same, decode}
-use Rattle.block.proofs.Rows.{take-filled}
-use Rattle.block.proofs.Trees.{value-back, tree-back}
+use Rattle.block.specs.Decode.{objectOf, bindingOf, frameOf, forest, configIn, same, decode}
+use Rattle.block.proofs.Values.{value-back, fields-said}
+use Rattle.block.proofs.Trees.{tree-back}
 use Rattle.block.proofs.Words.{rows-read}
 use Rattle.block.proofs.Fits.{decides-fits}
 
@@ -34,14 +32,9 @@ shut-back : (b : Bool) → eqb (shutWord b) 1 ≡ b
 shut-back true = refl
 shut-back false = refl
 
-values-back : (n : ℕ) (vs : List Value) → length vs ≡ n → n ≤ CLASS-FIELDS → map valueOf (take n (filled CLASS-FIELDS (map valueWord vs))) ≡ vs
-values-back n vs e h =
-    let l : length (map valueWord vs) ≡ n = length-map vs valueWord ∙ e in
-    rw (← l, take-filled CLASS-FIELDS (map valueWord vs) (omega arith)) (map-back valueWord valueOf vs (λ v m. value-back v))
-
 object-back : (fieldCount : ℕ → ℕ) (o : Object) → length (o .fields) ≡ fieldCount (o .class) → length (o .fields) ≤ CLASS-FIELDS → objectOf fieldCount (objectWords o) ≡ o
 object-back fieldCount o e h =
-    let vs = values-back (fieldCount (o .class)) (o .fields) e (omega arith) in
+    let vs = fields-said (fieldCount (o .class)) o e (omega arith) in
     λ t. record { class = o .class; shut = shut-back (o .shut) t; fields = vs t }
 
 binding-back : (b : Binding) → bindingOf (bindingWords b) ≡ b
@@ -66,7 +59,7 @@ module _ (fieldCount : ℕ → ℕ) (c : Config) (fit : Fits fieldCount c) where
       bs : reverse (map bindingOf (rowsIn (encode c) Bindings)) ≡ c .stores .bindings
       bs = rw (read Bindings, map-back bindingWords bindingOf (reverse (c .stores .bindings)) (λ b m. binding-back b)) (reverse-reverse (c .stores .bindings))
 
-      tr : getD (grove (rowsIn (encode c) Positions) (reverse (map frameOf (rowsIn (encode c) Frames))) .trees) 0 failed ≡ c .tree
+      tr : getD (forest (rowsIn (encode c) Positions) (reverse (map frameOf (rowsIn (encode c) Frames))) .trees) 0 failed ≡ c .tree
       tr = rw (read Positions, read Frames, map-back frameWords frameOf (framesOf (c .tree)) (λ f m. frame-back f)) (tree-back (c .tree))
 
 both-true : (a b : Bool) → a && b ≡ true → (a ≡ true) × (b ≡ true)

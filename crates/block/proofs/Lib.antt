@@ -1,4 +1,5 @@
 pub mod Rows
+pub mod Values
 pub mod Trees
 pub mod Words
 pub mod Fits

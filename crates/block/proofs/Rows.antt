@@ -4,7 +4,7 @@ use mathlib.Core.List.{List, [], _∷_, _++_, append-assoc, append-nil, map, fla
 use Prim.Native.Nat.{ℕ, zero, suc, _+_, _*_, _<_, _≤_}
 use native.Mathlib.Nat.{mul-suc, mul-zero}
 use native.Mathlib.Omega.{arith}
-use lib.ListN.{length, getD, set, take, replicate, length-append, length-set, List·getD-append}
+use lib.ListN.{length, getD, set, replicate, length-append, length-set, List·getD-append}
 use lib.Seq.{getD-append-add, set-append-left, getD-set-same, set-set, set-getD, sets}
 use Rattle.block.specs.Rows.{filled, cell}
 
@@ -32,13 +32,6 @@ set-filled (suc n) (w ∷ ws) (suc i) v h = ap (λ (l : List ℕ). w ∷ l) (set
 pub sets-filled : (n : ℕ) (ws : List ℕ) (i : ℕ) (vs : List ℕ) → i + length vs ≤ length ws → sets (filled n ws) i vs ≡ filled n (sets ws i vs)
 sets-filled n ws i [] h = refl
 sets-filled n ws i (v ∷ vs) h = rw (set-filled n ws i v (omega arith)) (sets-filled n (set ws i v) (suc i) vs (simp length-set (omega arith)))
-
--- the words of a filled list are got back by their number
-pub take-filled : (n : ℕ) (ws : List ℕ) → length ws ≤ n → take (length ws) (filled n ws) ≡ ws
-unfolding filled
-take-filled n [] h = refl
-take-filled zero (w ∷ ws) h = absurd (omega arith)
-take-filled (suc n) (w ∷ ws) h = ap (λ (l : List ℕ). w ∷ l) (take-filled n ws (omega arith))
 
 -- zeros at the end say nothing
 pub filled-zeros : (n : ℕ) (ws : List ℕ) (m : ℕ) → filled n (ws ++ replicate m 0) ≡ filled n ws

@@ -1,6 +1,6 @@
 -- Laws of access, by area: the length of a block, its counts, and word j of record i.
 use mathlib.Core.Path.{_≡_, refl, sym, ap, _∙_}
-use mathlib.Core.List.{List, [], _∷_, _++_, append-assoc, append-nil, map}
+use mathlib.Core.List.{List, [], _∷_, _++_, append-assoc, append-nil, map, flatten}
 use Prim.Native.Nat.{ℕ, _+_, _*_, _<_, _≤_}
 use native.Mathlib.Nat.{mul-suc, mul-le-mul-left}
 use native.Mathlib.Omega.{arith}
@@ -15,8 +15,9 @@ use Rattle.machine.specs.declared.Frame.{Frame}
 use Rattle.machine.specs.declared.Frame.the-variants.{Awaits as awaits, Casts as casts, Locks as locks}
 use Rattle.machine.specs.Config.{Object, Tree, running, returning, failed, join, Config}
 use Rattle.block.specs.Rows.{filled, cell}
-use Rattle.block.specs.Layout.{Area, Objects, Bindings, Positions, Frames, WORDS, width, most, begins, END, counted, wordIn, rowsIn, countWord}
-use Rattle.block.specs.Block.{valueWord, objectWords, bindingWords, positionWords, frameWords, Parts, partsOf, rows, area, headerWords, laid, encode}
+use Rattle.block.specs.Layout.{Area, Objects, Bindings, Positions, Frames, WORDS, VALUE, width, most, begins, END, counted, wordIn, rowsIn, countWord}
+use Rattle.block.specs.Values.{valueWords}
+use Rattle.block.specs.Block.{objectWords, bindingWords, positionWords, frameWords, Parts, partsOf, rows, area, headerWords, laid, encode}
 use Rattle.block.specs.Fits.{Few}
 use Rattle.block.proofs.Rows.{Wide, wide-map, length-filled, getD-filled, filled-zeros, get-inside, flatten-end, flatten-at}
 
@@ -33,7 +34,7 @@ encode-length c = laid-bytes (partsOf c)
 
 -- a record has as many words as its area asks
 pub object-width : (o : Object) → length (objectWords o) ≡ width Objects
-object-width o = omega (arith, length-filled CLASS-FIELDS (map valueWord (o .fields)))
+object-width o = omega (arith, length-filled (VALUE * CLASS-FIELDS) (flatten (map valueWords (o .fields))))
 
 position-width : (t : Tree) → length (positionWords t) ≡ width Positions
 position-width (running p e fs) = refl

@@ -1,22 +1,18 @@
 -- The one block that stands for a configuration.
-use Prim.Native.Nat.{ℕ, suc, _*_}
+use Prim.Native.Nat.{ℕ, _*_}
 use mathlib.Core.Bool.{Bool, true, false}
 use mathlib.Core.List.{List, [], _∷_, _++_, map, flatMap, flatten, reverse}
 use lib.ListN.{length}
 use Rattle.words.specs.Word.{bytes}
 use Rattle.limits.specs.Limits.{CLASS-FIELDS}
-use Rattle.machine.specs.declared.Value.{Value}
-use Rattle.machine.specs.declared.Value.the-variants.{Null as nil, Ref as ref}
+use Rattle.machine.specs.declared.Value.the-variants.{Null as nil}
 use Rattle.machine.specs.declared.Frame.{Frame}
 use Rattle.machine.specs.declared.Frame.the-variants.{Awaits as awaits, Casts as casts, Locks as locks}
 use Rattle.machine.specs.Config.{Object, Binding, Tree, running, returning, failed, join, Config}
 use Rattle.block.specs.Rows.{filled}
-use Rattle.block.specs.Layout.{Area, Objects, Bindings, Positions, Frames, WORDS, width, most, RUNNING, RETURNING, FAILED, JOIN, AWAITS, CASTS, LOCKS}
-
--- A value: 0 is null, o + 1 is object number o.
-abbrev pub valueWord : Value → ℕ
-valueWord nil = 0
-valueWord (ref o) = suc o
+use Rattle.block.specs.Values.{valueWords}
+use Rattle.block.specs.Layout.{Area, Objects, Bindings, Positions, Frames, WORDS, VALUE, width, most}
+use Rattle.block.specs.Layout.{RUNNING, RETURNING, FAILED, JOIN, AWAITS, CASTS, LOCKS}
 
 -- "open or shut"
 abbrev pub shutWord : Bool → ℕ
@@ -25,11 +21,11 @@ shutWord true = 1
 
 -- "objects (class, open or shut, fields)"
 abbrev pub objectWords : Object → List ℕ
-objectWords o = o .class ∷ shutWord (o .shut) ∷ filled CLASS-FIELDS (map valueWord (o .fields))
+objectWords o = o .class ∷ shutWord (o .shut) ∷ filled (VALUE * CLASS-FIELDS) (flatten (map valueWords (o .fields)))
 
 -- "variable bindings (name, type, value, the binding beneath)"
 abbrev pub bindingWords : Binding → List ℕ
-bindingWords b = b .name ∷ b .type ∷ valueWord (b .value) ∷ b .link ∷ []
+bindingWords b = b .name ∷ b .type ∷ (valueWords (b .value) ++ b .link ∷ [])
 
 -- "a tree position, preorder, root 0, left before right": each position as the tree that begins there.
 unfoldable pub preorder : Tree → List Tree
@@ -45,12 +41,12 @@ waiting (returning v fs) = fs
 waiting failed = []
 waiting (join fs p e l r) = fs
 
--- A position: what it is, its node (of a join, its last part), its environment, its value, and how many frames wait there.
+-- A position: what it is, its node (of a join, its last part), its environment, its value (null where it has none), and how many frames wait there.
 abbrev pub positionWords : Tree → List ℕ
-positionWords (running p e fs) = RUNNING ∷ p ∷ e ∷ 0 ∷ length fs ∷ []
-positionWords (returning v fs) = RETURNING ∷ 0 ∷ 0 ∷ valueWord v ∷ length fs ∷ []
-positionWords failed = FAILED ∷ 0 ∷ 0 ∷ 0 ∷ 0 ∷ []
-positionWords (join fs p e l r) = JOIN ∷ p ∷ e ∷ 0 ∷ length fs ∷ []
+positionWords (running p e fs) = RUNNING ∷ p ∷ e ∷ (valueWords nil ++ length fs ∷ [])
+positionWords (returning v fs) = RETURNING ∷ 0 ∷ 0 ∷ (valueWords v ++ length fs ∷ [])
+positionWords failed = FAILED ∷ 0 ∷ 0 ∷ (valueWords nil ++ 0 ∷ [])
+positionWords (join fs p e l r) = JOIN ∷ p ∷ e ∷ (valueWords nil ++ length fs ∷ [])
 
 -- "waiting frames in all": those of every position, in preorder, the outermost of each first.
 unfoldable pub framesOf : Tree → List Frame
@@ -63,7 +59,7 @@ frameWords (casts p) = CASTS ∷ p ∷ 0 ∷ []
 frameWords (locks o) = LOCKS ∷ o ∷ 0 ∷ []
 
 -- What lies in a block, area by area: objects, bindings in the order in which they were made, positions and frames. While Run moves, frames are those of the
--- tree in hand and positions still those written last, so laws are about parts; those of a configuration are its own.
+-- tree by value and positions still those written last, so laws are about parts; those of a configuration are its own.
 pub record Parts : Type 0 where
   pub objects : List Object
   pub bindings : List Binding

@@ -21,12 +21,62 @@ countWord Bindings = 1
 countWord Frames = 2
 countWord Positions = 3
 
--- The words of a record. An object has a class, whether it is shut, and a value for each field.
+-- The words of a value.
+abbrev pub VALUE : ℕ
+VALUE = 1
+
+-- Which word of its record is what. Of an object: its class, whether it is shut, and from FIELDS on a value for each field.
+abbrev pub CLASS : ℕ
+CLASS = 0
+
+abbrev pub SHUT : ℕ
+SHUT = 1
+
+abbrev pub FIELDS : ℕ
+FIELDS = 2
+
+abbrev pub fieldWord : ℕ → ℕ
+fieldWord k = FIELDS + VALUE * k
+
+-- Of a binding: its name, its type, its value, and the binding beneath.
+abbrev pub NAME : ℕ
+NAME = 0
+
+abbrev pub TYPE : ℕ
+TYPE = 1
+
+abbrev pub BOUND : ℕ
+BOUND = 2
+
+abbrev pub LINK : ℕ
+LINK = BOUND + VALUE
+
+-- Of a position and of a frame: what it is, its node, and its environment. A lock frame has its object for a node.
+abbrev pub KIND : ℕ
+KIND = 0
+
+abbrev pub NODE : ℕ
+NODE = 1
+
+abbrev pub OBJECT : ℕ
+OBJECT = NODE
+
+abbrev pub ENV : ℕ
+ENV = 2
+
+-- Of a position, besides: its value, and how many frames wait there.
+abbrev pub RESULT : ℕ
+RESULT = 3
+
+abbrev pub WAITING : ℕ
+WAITING = RESULT + VALUE
+
+-- The words of a record.
 abbrev pub width : Area → ℕ
-width Objects = 2 + CLASS-FIELDS
-width Bindings = 4
-width Positions = 5
-width Frames = 3
+width Objects = fieldWord CLASS-FIELDS
+width Bindings = LINK + 1
+width Positions = WAITING + 1
+width Frames = ENV + 1
 
 -- The most records: "at most 256 objects .., 2,048 variable bindings .., 2,048 waiting frames in all, and a tree of joins with at most 32 threads".
 abbrev pub most : Area → ℕ

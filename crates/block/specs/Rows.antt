@@ -9,6 +9,9 @@ filled zero ws = []
 filled (suc n) [] = 0 ∷ filled n []
 filled (suc n) (w ∷ ws) = w ∷ filled n ws
 
--- Word j of row i, and 0 where there is no such row.
+-- Word j of a row, and of row i; 0 where there is no such word.
+abbrev pub wordOf : List ℕ → ℕ → ℕ
+wordOf r j = getD r j 0
+
 abbrev pub cell : List (List ℕ) → ℕ → ℕ → ℕ
-cell rows i j = getD (getD rows i []) j 0
+cell rows i j = wordOf (getD rows i []) j

@@ -1,7 +1,7 @@
 -- Every block of the table gets its answer: by computation from the test of a configuration, and from there on bytes.
 use mathlib.Core.Path.{_≡_, refl, sym, ap, _∙_}
 use mathlib.Core.Bool.{Bool, true, false, _&&_}
-use mathlib.Core.List.{List, [], _∷_, _++_, map, flatMap}
+use mathlib.Core.List.{List, [], _∷_, _++_, map, flatMap, flatten}
 use mathlib.Core.Option.{none, some}
 use Prim.Native.Nat.{ℕ, zero, suc, _<_, _≤_}
 use native.Mathlib.Omega.{arith}
@@ -15,11 +15,11 @@ use Rattle.script.specs.Section.{sections, bodyAt, countOf, endOf, recordAt, re
 use Rattle.script.specs.Syntax.{declarationAt}
 use Rattle.script.specs.Reading.{kindOf, viewAt, lastExprs, exprAt, ownSignatures, ownFields, ownMethods, signatureAt, interfaceAt, fieldAt, methodAt, classAt, programOf}
 use Rattle.script.specs.Asking.{Decides, firstNo, firstOut, lowestIn}
-use Rattle.script.specs.Questions.{lengthTest, withinTest, countsTest, placedFrom, placesTest, interfaceTest, interfacesTest, ownersTest, typeTest, interfaceTypeTest, classTypeTest, typesTest, unusedAt, allOf, partsFrom, usesIn, nodeTest, nodesTest, runStart, hasName, freshTest, namesTest, layoutQuestions}
+use Rattle.script.specs.Questions.{lengthTest, withinTest, countsTest, placedFrom, placesTest, interfaceTest, interfacesTest, ownersTest, typeTest, interfaceTypeTest, classTypeTest, typesTest, allOf, partsFrom, usesIn, nodeTest, nodesTest, runStart, hasName, freshTest, namesTest, layoutQuestions}
 use Rattle.script.proofs.Tests.{says-yes, decides-and, decides-eq, decides-le, decides-lt, decides-all}
 use Rattle.typing.specs.declared.Verdict.the-variants.{Accepted}
 use Rattle.typing.specs.Members.{valuesTo, valueAt, reach, below, meaning, ownMethod, methodIn, typeIn, fieldIn}
-use Rattle.typing.specs.Typing.{without, fv, isIn, shares, inferred, checked, bodiesFrom, bodiesOf, walk}
+use Rattle.typing.specs.Typing.{without, fv, isIn, shares, answer, bodiesFrom, bodiesOf, walk}
 use Rattle.typing.specs.Check.{namesIn, joinsTest, classesTest, memberQuestions, checkOf}
 use Rattle.machine.specs.declared.Frame.the-variants.{Awaits as awaits}
 use Rattle.machine.specs.Config.{codeOf, Object, Binding, running, returning, Config}
@@ -34,7 +34,8 @@ use Rattle.block.specs.declared.Area.{Area}
 use Rattle.block.specs.declared.Area.the-variants.{Objects, Bindings, Positions, Frames}
 use Rattle.block.specs.Rows.{filled}
 use Rattle.block.specs.Layout.{most}
-use Rattle.block.specs.Block.{valueWord, objectWords, bindingWords, preorder, positionWords, framesOf, frameWords, rows, partsOf, encode}
+use Rattle.block.specs.Values.{valueWord}
+use Rattle.block.specs.Block.{objectWords, bindingWords, preorder, positionWords, framesOf, frameWords, rows, partsOf, encode}
 use Rattle.block.specs.Fits.{AllWords, Few, Fits}
 use Rattle.block.proofs.Words.{encode-length}
 use Rattle.block.proofs.Fits.{all-small, laid-words}
@@ -47,7 +48,7 @@ use Rattle.calls.proofs.Tables.{in-map}
 
 -- the script is bytes and accepted, with type I
 block-script : checkOf blockScript ≡ Accepted 2
-unfolding wordAt bytes run sumBelow named countIn sections bodyAt countOf endOf recordAt recordWord declarationAt kindOf viewAt lastExprs exprAt ownSignatures ownFields ownMethods signatureAt interfaceAt fieldAt methodAt classAt programOf firstNo firstOut lowestIn lengthTest withinTest countsTest placedFrom placesTest interfaceTest interfacesTest ownersTest typeTest interfaceTypeTest classTypeTest typesTest unusedAt allOf partsFrom usesIn nodeTest nodesTest runStart hasName freshTest namesTest layoutQuestions valuesTo valueAt reach below meaning ownMethod methodIn typeIn fieldIn without fv isIn shares inferred checked bodiesFrom bodiesOf walk namesIn joinsTest classesTest memberQuestions checkOf blockScript
+unfolding wordAt bytes run sumBelow named countIn sections bodyAt countOf endOf recordAt recordWord declarationAt kindOf viewAt lastExprs exprAt ownSignatures ownFields ownMethods signatureAt interfaceAt fieldAt methodAt classAt programOf firstNo firstOut lowestIn lengthTest withinTest countsTest placedFrom placesTest interfaceTest interfacesTest ownersTest typeTest interfaceTypeTest classTypeTest typesTest allOf partsFrom usesIn nodeTest nodesTest runStart hasName freshTest namesTest layoutQuestions valuesTo valueAt reach below meaning ownMethod methodIn typeIn fieldIn without fv isIn shares answer bodiesFrom bodiesOf walk namesIn joinsTest classesTest memberQuestions checkOf blockScript
 block-script = refl
 
 script-small : (i : ℕ) → getD blockScript i 0 < 256
@@ -109,11 +110,11 @@ module _ (count : ℕ → ℕ) (c : Config) where
 
 -- the whole table, as the test of a configuration answers, and that all fit
 all-tested : map (λ x. wellFormedTest (codeOf blockScript) limits 2 (x .config)) blockCases ≡ map (λ x. x .well) blockCases
-unfolding wordAt bytes run sumBelow named bodyAt countOf recordAt recordWord declarationAt kindOf viewAt lastExprs exprAt ownSignatures ownFields ownMethods interfaceAt fieldAt methodAt classAt programOf allOf valuesTo valueAt reach below meaning ownMethod methodIn typeIn fieldIn inferred wellFormedTest blockScript blockCases
+unfolding wordAt bytes run sumBelow named bodyAt countOf recordAt recordWord declarationAt kindOf viewAt lastExprs exprAt ownSignatures ownFields ownMethods interfaceAt fieldAt methodAt classAt programOf allOf valuesTo valueAt reach below meaning ownMethod methodIn typeIn fieldIn answer wellFormedTest blockScript blockCases
 all-tested = refl
 
 all-fit : map (λ x. recordsTest (fieldCount blockScript) (x .config)) blockCases ≡ map (λ x. true) blockCases
-unfolding wordAt bytes run bodyAt countOf recordAt recordWord declarationAt ownFields classAt programOf allOf preorder framesOf filled flatMap blockScript blockCases
+unfolding wordAt bytes run bodyAt countOf recordAt recordWord declarationAt ownFields classAt programOf allOf preorder framesOf filled flatMap flatten blockScript blockCases
 all-fit = refl
 
 -- from the test of a configuration to the calls
@@ -172,7 +173,7 @@ kept-apart [] e = omega (arith, ap (λ (k : List Binding). valueWord (getD k 0 (
 kept-apart (b ∷ l) e = omega (arith, ap (λ (k : List Binding). length k) e, length-append l (variable 2 3 (ref 0) 0 ∷ []))
 
 unlike : (ns : List ℕ) → Unlike ns initial
-unfolding wordAt bytes run sumBelow named bodyAt countOf recordAt recordWord declarationAt kindOf viewAt lastExprs exprAt ownSignatures ownFields ownMethods interfaceAt fieldAt methodAt classAt programOf allOf valuesTo valueAt reach below ownMethod methodIn typeIn fieldIn without fv isIn shares inferred wellFormedTest move choice look blockScript
+unfolding wordAt bytes run sumBelow named bodyAt countOf recordAt recordWord declarationAt kindOf viewAt lastExprs exprAt ownSignatures ownFields ownMethods interfaceAt fieldAt methodAt classAt programOf allOf valuesTo valueAt reach below ownMethod methodIn typeIn fieldIn without fv isIn shares answer wellFormedTest move choice look blockScript
 unlike =
     let c₁ = configured [] [] (running 1 0 (awaits 0 0 ∷ [])) in
     let c₂ = configured (objectC false ∷ []) [] (returning (ref 0) (awaits 0 0 ∷ [])) in

@@ -1,10 +1,10 @@
 -- A well-formed configuration of an accepted script fits in a block: every word of it is a word, and there is a place for every record.
 use mathlib.Core.Path.{_≡_, refl, ap, _∙_}
 use mathlib.Core.Bool.{Bool, true, false}
-use mathlib.Core.List.{List, [], _∷_, _++_, map, flatMap, reverse, reverse-cons, List·Memᴰ·head, List·Memᴰ·tail, List·Memᴰ·append-cases, List·Memᴰ·cases-cons, List·Memᴰ·not-nil}
+use mathlib.Core.List.{List, [], _∷_, _++_, map, flatMap, flatten, reverse, reverse-cons, List·Memᴰ·head, List·Memᴰ·tail, List·Memᴰ·append-cases, List·Memᴰ·cases-cons, List·Memᴰ·not-nil}
 use mathlib.Core.Logic.{⊎-elim}
 use mathlib.Core.Option.{some}
-use Prim.Native.Nat.{ℕ, zero, suc, _+_, _<_, _≤_}
+use Prim.Native.Nat.{ℕ, zero, suc, _+_, _*_, _<_, _≤_}
 use native.Mathlib.Omega.{arith}
 use lib.ListN.{length, length-append, length-map, length-reverse}
 use borrow.Author.Tests.{eq-eqb}
@@ -27,8 +27,9 @@ use Rattle.machine.specs.declared.Want.{Want}
 use Rattle.machine.specs.WellFormed.{ValueFits as FitsWant, fits-nil, fits-ref, BindingsOk, no-bindings, a-binding, FieldsOk, no-fields, a-field, TypedObject, FramesOk, no-frames, a-node, a-cast, a-lock, TreeOk, running-ok, returning-ok, failed-ok, join-ok, lockCount, shutAt, WellFormed}
 use Rattle.machine.proofs.Stores.{object-below, fields-long}
 use Rattle.block.specs.declared.Area.the-variants.{Objects, Bindings, Positions, Frames}
-use Rattle.block.specs.Layout.{RUNNING, RETURNING, FAILED, JOIN, AWAITS, CASTS, LOCKS}
-use Rattle.block.specs.Block.{valueWord, shutWord, objectWords, bindingWords, preorder, positionWords, framesOf, frameWords, partsOf}
+use Rattle.block.specs.Layout.{VALUE, RUNNING, RETURNING, FAILED, JOIN, AWAITS, CASTS, LOCKS}
+use Rattle.block.specs.Values.{valueWord, valueWords, Storable}
+use Rattle.block.specs.Block.{shutWord, objectWords, bindingWords, preorder, positionWords, framesOf, frameWords, partsOf}
 use Rattle.block.specs.Fits.{AllWords, Few, Fits}
 use Rattle.block.proofs.Trees.{positions-threads, frames-join}
 use Rattle.block.proofs.Fits.{cons-words, filled-words, laid-words}
@@ -74,13 +75,14 @@ position : (k p e v n : ℕ) → k ≤ 4 → p < WORD → e < WORD → v < WORD 
 position k p e v n a b c d f = cons-words k _ (omega arith) (cons-words p _ b (cons-words e _ c (cons-words v _ d (cons-words n [] (omega arith) no-words))))
 
 module _ (s : Code) (types : (u : ℕ) → IsType (s .program) u → u < WORD) (most : s .size ≤ NODES) (st : Stores) (objects : length (st .objects) ≤ OBJECTS) (bindings : length (st .bindings) ≤ BINDINGS) where
-  value-small : {v : Value} {w : Want} → FitsWant s (st .objects) v w → valueWord v < WORD
-  value-small fits-nil = omega arith
+  value-small : {v : Value} {w : Want} → FitsWant s (st .objects) v w → Storable v
+  value-small (fits-nil m) = omega arith
   value-small (fits-ref {o = o} {x = x} e m) = omega (arith, object-below (st .objects) o x e)
 
-  fields-small : {ds : List Slot} {l : List Value} → FieldsOk s (st .objects) ds l → AllWords (map valueWord l)
+  fields-small : {ds : List Slot} {l : List Value} → FieldsOk s (st .objects) ds l → AllWords (flatten (map valueWords l))
+  unfolding flatten
   fields-small no-fields = no-words
-  fields-small (a-field {v = v} {l = l} h k) = cons-words (valueWord v) (map valueWord l) (value-small h) (fields-small k)
+  fields-small (a-field {v = v} {l = l} h k) = cons-words (valueWord v) (flatten (map valueWords l)) (value-small h) (fields-small k)
 
   bindings-small : {bs : List Binding} → BindingsOk s (st .objects) bs → length bs ≤ BINDINGS → (b : Binding) → b ∈ bs → AllWords (bindingWords b)
   bindings-small no-bindings few b m = absurd (List·Memᴰ·not-nil m)
@@ -97,7 +99,7 @@ module _ (s : Code) (types : (u : ℕ) → IsType (s .program) u → u < WORD) (
   -- the object of a lock frame is one that is shut
   frames-small : {w v : Want} {fs : List Frame} → FramesOk s (st .bindings) w fs v → ((o : ℕ) → 1 ≤ lockFrames o fs → o < WORD) → (f : Frame) → f ∈ fs → AllWords (frameWords f)
   frames-small no-frames shut f m = absurd (List·Memᴰ·not-nil m)
-  frames-small (a-node {n = n} {e = e} {fs = fs} h l a g ok) shut f m =
+  frames-small (a-node {n = n} {e = e} {fs = fs} h l a ok) shut f m =
       ⊎-elim
       (λ (i : f ≡ awaits n e). rw i (cons-words AWAITS _ (omega arith) (cons-words n _ (omega (arith, h, most)) (cons-words e [] (omega (arith, l, bindings)) no-words))))
       (λ (k : f ∈ fs). frames-small ok shut f k)
@@ -160,7 +162,7 @@ module _ (s : List ℕ) (w : WithinLayout s) where
       let c = a-class-at (programOf s) u h in
       let x = class-from s u (c .0) (c .1) in
       let e : length (c .0 .fields) ≡ length (classAt s (x .0) .fields) = ap (λ (d : Class). length (d .fields)) (x .3) in
-      rw (c .1) (omega (arith, e, length-run (fieldAt s) (sumBelow (ownFields s) (x .0)) (ownFields s (x .0)), w .names-are classes (x .0) (x .1)))
+      rw (c .1) (omega (arith, e, length-run (fieldAt s) (sumBelow (ownFields s) (x .0)) (ownFields s (x .0)), w .names-are .1 .0 (x .0) (x .1)))
 
   pub well-fits : {t : ℕ} {c : Config} → WellFormed (codeOf s) limits t c → Fits (fieldCount s) c
   well-fits {t} {c} h =
@@ -172,7 +174,7 @@ module _ (s : List ℕ) (w : WithinLayout s) where
             laid-words (partsOf c) few
             (λ o m.
             cons-words (o .class) _ (types-small (o .class) (ok o m .class .last))
-            (cons-words (shutWord (o .shut)) _ (shut-small (o .shut)) (filled-words CLASS-FIELDS _ (fields-small (codeOf s) types-small most (c .stores) objects (h .within .bindings) (ok o m .fields)))))
+            (cons-words (shutWord (o .shut)) _ (shut-small (o .shut)) (filled-words (VALUE * CLASS-FIELDS) _ (fields-small (codeOf s) types-small most (c .stores) objects (h .within .bindings) (ok o m .fields)))))
             (λ b m. bindings-small (codeOf s) types-small most (c .stores) objects (h .within .bindings) (h .formed .stores .bindings) (h .within .bindings) b (in-reverse (c .stores .bindings) b m))
             (tree-small (codeOf s) types-small most (c .stores) objects (h .within .bindings) (h .formed .tree) (h .within .frames))
             (tree-frames (codeOf s) types-small most (c .stores) objects (h .within .bindings) (h .formed .tree) (λ o i. omega (arith, objects, shut-below (c .stores .objects) o (omega (arith, i, h .formed .distinct o)))));

@@ -18,15 +18,15 @@ use Rattle.machine.specs.declared.Stop.the-variants.{Spent, Ended, Full}
 use Rattle.machine.specs.Stops.{storeNumber, endingNumber, stopNumber}
 use Rattle.machine.specs.Config.{Config, codeOf}
 use Rattle.machine.specs.Machine.{oneIf, limits, still, choice, canMove}
-use Rattle.machine.specs.Standing.{End}
+use Rattle.machine.specs.Ends.{End}
 use Rattle.machine.specs.Runs.{Report, report}
 use Rattle.machine.proofs.Stops.{one-stop}
 use Rattle.machine.proofs.Run.{run-runs, run-leaves, run-all, run-more, stopped-still, still-stopped}
-use Rattle.machine.proofs.Short.{stop-short}
+use Rattle.machine.proofs.FullStore.{stop-short}
 use Rattle.machine.proofs.Promise.{flag-set, flag-clear}
 use Rattle.block.specs.Block.{encode}
 use Rattle.calls.specs.Calls.{Offered, Ran, ran, flagsOf, offerOf, runOf}
-use Rattle.calls.specs.Answers.{Holds, FirstNoTo, by-script, by-length, by-buffer, by-form, OfferAnswers, offer-refused, offered, RunAnswers, run-refused, has-run, Left, TraceOf}
+use Rattle.calls.specs.Answers.{Holds, FirstNoTo, by-script, by-length, by-buffer, by-form, OfferAnswers, offer-refused, offered, RunAnswers, run-refused, has-run, NotRefused, TraceOf}
 use Rattle.calls.specs.Lists.{runOnto}
 use Rattle.calls.proofs.Answers.{accepts, run-answers, offer-answers}
 use Rattle.calls.proofs.Replies.{flag-is, run-reply, run-holds, run-traced}
@@ -75,13 +75,13 @@ offer-had _ (offer-refused x) e = absurd (no-number x e)
 offer-had _ (offered {t = t} {c = c} acc f h) e = record { had = record { type = t; accepted = acc; fine = f; config = c; holds = h }; are = refl }
 
 -- It stops with the number of an ending exactly when it leaves nothing that can move, and then in that one of the three cases.
-pub run-ended : {s b ns : List ℕ} (x : Left s b ns) (k : Ending) → runOf s b ns .stop ≡ endingNumber k
+pub run-ended : {s b ns : List ℕ} (x : NotRefused s b ns) (k : Ending) → runOf s b ns .stop ≡ endingNumber k
     → End (codeOf s) (x .outcome .config) k × ((n : ℕ) → choice (codeOf s) limits (x .outcome .config) n ≡ still)
-run-ended x k e = stopped-still (rw (one-stop (x .outcome .stop) (Ended k) (rw (x .reply) at e)) at (x .stopped))
+run-ended x k e = stopped-still (rw (one-stop (x .outcome .stop) (Ended k) (rw (x .reply) at e)) at (x .means))
 
-pub ended-run : {s b ns : List ℕ} (x : Left s b ns) → ((n : ℕ) → choice (codeOf s) limits (x .outcome .config) n ≡ still)
+pub ended-run : {s b ns : List ℕ} (x : NotRefused s b ns) → ((n : ℕ) → choice (codeOf s) limits (x .outcome .config) n ≡ still)
     → (k : Ending) × (runOf s b ns .stop ≡ endingNumber k)
-ended-run x h = let q = still-stopped (x .stopped) h in (q .0, rw (x .reply) (ap stopNumber (q .1)))
+ended-run x h = let q = still-stopped (x .means) h in (q .0, rw (x .reply) (ap stopNumber (q .1)))
 
 one-true : (a : Bool) → oneIf a ≡ 1 → a ≡ true
 one-true true e = refl
@@ -101,7 +101,7 @@ no-store k e (inl z) = let i : Full k ≡ Spent = one-stop (Full k) Spent (sym e
 no-store k e (inr x) = let i : Full k ≡ Ended (x .0) = one-stop (Full k) (Ended (x .0)) (sym e ∙ x .1) in let z : _≡_ {A = ℕ} 0 1 = cc in omega arith
 
 module _ (s : List ℕ) (bytes : (i : ℕ) → getD s i 0 < 256) where
-  left-by : (b ns : List ℕ) → Opened s b (length ns ≤ CHOICES) → Left s b ns
+  left-by : (b ns : List ℕ) → Opened s b (length ns ≤ CHOICES) → NotRefused s b ns
   left-by b ns x =
       let c = x .config in
       let a = accepts s bytes (x .type) (x .accepted) in
@@ -116,13 +116,13 @@ module _ (s : List ℕ) (bytes : (i : ℕ) → getD s i 0 < 256) where
         did = run-runs (codeOf s) limits ns c;
         reply = run-reply s bytes (x .type) (x .accepted) (x .holds) ns (x .fine);
         holds = run-holds s bytes (x .type) (x .accepted) (x .holds) ns (x .fine);
-        stopped = run-leaves a limits ns c (x .holds .well) .stopped;
+        means = run-leaves a limits ns c (x .holds .well) .means;
         spent = run-all (codeOf s) limits ns c;
         full = stop-short a limits ns c (x .holds .well);
       }
 
   -- What a Run that is not refused leaves, and why it stopped.
-  pub run-left : (b ns : List ℕ) → runOf s b ns .number ≡ 0 → Left s b ns
+  pub run-left : (b ns : List ℕ) → runOf s b ns .number ≡ 0 → NotRefused s b ns
   run-left b ns e = left-by b ns (run-had (runOf s b ns) (run-answers s bytes b ns) e)
 
   -- The moves of a Run that is not refused are published steps or silent ones, as many as it returns, each at the position that its choice names.

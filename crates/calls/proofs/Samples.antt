@@ -17,12 +17,12 @@ use Rattle.script.specs.Section.{sections, bodyAt, countOf, endOf, recordAt, re
 use Rattle.script.specs.Syntax.{declarationAt}
 use Rattle.script.specs.Reading.{kindOf, viewAt, lastExprs, exprAt, ownSignatures, ownFields, ownMethods, signatureAt, interfaceAt, fieldAt, methodAt, classAt, programOf}
 use Rattle.script.specs.Asking.{firstNo, firstOut, lowestIn}
-use Rattle.script.specs.Questions.{lengthTest, withinTest, countsTest, placedFrom, placesTest, interfaceTest, interfacesTest, ownersTest, typeTest, interfaceTypeTest, classTypeTest, typesTest, unusedAt, allOf, partsFrom, usesIn, nodeTest, nodesTest, runStart, hasName, freshTest, namesTest, layoutQuestions}
+use Rattle.script.specs.Questions.{lengthTest, withinTest, countsTest, placedFrom, placesTest, interfaceTest, interfacesTest, ownersTest, typeTest, interfaceTypeTest, classTypeTest, typesTest, allOf, partsFrom, usesIn, nodeTest, nodesTest, runStart, hasName, freshTest, namesTest, layoutQuestions}
 use Rattle.script.proofs.Tests.{says-yes, decides-and, decides-eq, decides-le, decides-lt, decides-all}
 use Rattle.typing.specs.declared.Verdict.{Verdict}
 use Rattle.typing.specs.declared.Verdict.the-variants.{Accepted, Refused}
 use Rattle.typing.specs.Members.{valuesTo, valueAt, reach, below, meaning, ownMethod, methodIn, typeIn, fieldIn}
-use Rattle.typing.specs.Typing.{without, fv, isIn, shares, inferred, checked, bodiesFrom, bodiesOf, walk}
+use Rattle.typing.specs.Typing.{without, fv, isIn, shares, answer, bodiesFrom, bodiesOf, walk}
 use Rattle.typing.specs.Check.{namesIn, joinsTest, classesTest, memberQuestions, checkOf, verdictNumber}
 use Rattle.machine.specs.Config.{Config, codeOf}
 use Rattle.machine.specs.Stops.{stopNumber}
@@ -56,11 +56,11 @@ stated x = record { choices = x .choices; stop = x .stop; read = x .read; moves 
 
 -- the whole table, as Check and the machine answer
 all-checked : map (λ x. checkOf (x .script)) samples ≡ map (λ x. x .verdict) samples
-unfolding wordAt bytes run sumBelow named countIn sections bodyAt countOf endOf recordAt recordWord declarationAt kindOf viewAt lastExprs exprAt ownSignatures ownFields ownMethods signatureAt interfaceAt fieldAt methodAt classAt programOf firstNo firstOut lowestIn lengthTest withinTest countsTest placedFrom placesTest interfaceTest interfacesTest ownersTest typeTest interfaceTypeTest classTypeTest typesTest unusedAt allOf partsFrom usesIn nodeTest nodesTest runStart hasName freshTest namesTest layoutQuestions valuesTo valueAt reach below meaning ownMethod methodIn typeIn fieldIn without fv isIn shares inferred checked bodiesFrom bodiesOf walk namesIn joinsTest classesTest memberQuestions checkOf nodesAlone nodesWithClass nodesWithField nodesWithMethod samples
+unfolding wordAt bytes run sumBelow named countIn sections bodyAt countOf endOf recordAt recordWord declarationAt kindOf viewAt lastExprs exprAt ownSignatures ownFields ownMethods signatureAt interfaceAt fieldAt methodAt classAt programOf firstNo firstOut lowestIn lengthTest withinTest countsTest placedFrom placesTest interfaceTest interfacesTest ownersTest typeTest interfaceTypeTest classTypeTest typesTest allOf partsFrom usesIn nodeTest nodesTest runStart hasName freshTest namesTest layoutQuestions valuesTo valueAt reach below meaning ownMethod methodIn typeIn fieldIn without fv isIn shares answer bodiesFrom bodiesOf walk namesIn joinsTest classesTest memberQuestions checkOf nodesAlone nodesWithClass nodesWithField nodesWithMethod samples
 all-checked = refl
 
 all-tried : map (λ x. map (trialOf (x .script)) (x .trials)) samples ≡ map (λ x. map stated (x .trials)) samples
-unfolding wordAt bytes run sumBelow named bodyAt countOf recordAt recordWord declarationAt kindOf viewAt lastExprs exprAt ownFields ownMethods methodAt interfaceAt classAt programOf valuesTo valueAt reach below typeIn inferred move choice look report filled flagsOf nodesAlone nodesWithClass nodesWithField nodesWithMethod samples
+unfolding wordAt bytes run sumBelow named bodyAt countOf recordAt recordWord declarationAt kindOf viewAt lastExprs exprAt ownFields ownMethods methodAt interfaceAt classAt programOf valuesTo valueAt reach below typeIn answer move choice look report filled flagsOf nodesAlone nodesWithClass nodesWithField nodesWithMethod samples
 all-tried = refl
 
 -- what the calls ask of a trial: the script is bytes, Check accepts it, and the choices are not too many

@@ -15,7 +15,7 @@ use Rattle.machine.specs.Machine.{oneIf, limits, Outcome, still, full, moved, c
 use Rattle.machine.proofs.Run.{beyond}
 use Rattle.machine.proofs.Positions.{positions}
 use Rattle.calls.specs.Calls.{offerOf, runOf}
-use Rattle.calls.specs.Answers.{Holds, Left}
+use Rattle.calls.specs.Answers.{Holds, NotRefused}
 use Rattle.calls.proofs.Replies.{flag-is, offer-reply}
 use Rattle.calls.proofs.Runs.{none-true, run-ended, ended-run}
 
@@ -29,11 +29,11 @@ module _ (s : List ℕ) (bytes : (i : ℕ) → getD s i 0 < 256) where
       → getD (offerOf s b fl .flags) n 0 ≡ oneIf (canMove (codeOf s) limits c n)
   flags-are t acc {b} {c} h fl l n k = flag-is s c (offerOf s b fl .flags) (rw (offer-reply s bytes t acc h fl l) refl) n k
 
-  pub stop-marks : {b ns : List ℕ} → Left s b ns → (fl : List ℕ) → length fl ≡ FLAGS → (k : Ending) → runOf s b ns .stop ≡ endingNumber k
+  pub stop-marks : {b ns : List ℕ} → NotRefused s b ns → (fl : List ℕ) → length fl ≡ FLAGS → (k : Ending) → runOf s b ns .stop ≡ endingNumber k
       → (n : ℕ) → n < FLAGS → getD (offerOf s (runOf s b ns .block) fl .flags) n 0 ≡ 0
   stop-marks x fl l k e n i = flags-are (x .type) (x .accepted) (x .holds) fl l n i ∙ ap (λ (o : Outcome). oneIf (able o)) (run-ended x k e .1 n)
 
-  pub marks-stop : {b ns : List ℕ} → Left s b ns → (fl : List ℕ) → length fl ≡ FLAGS
+  pub marks-stop : {b ns : List ℕ} → NotRefused s b ns → (fl : List ℕ) → length fl ≡ FLAGS
       → ((n : ℕ) → n < FLAGS → getD (offerOf s (runOf s b ns .block) fl .flags) n 0 ≡ 0) → (k : Ending) × (runOf s b ns .stop ≡ endingNumber k)
   marks-stop x fl l h =
       ended-run x (beyond (codeOf s) limits (x .outcome .config) (λ n i. near n (omega (arith, i, positions (x .outcome .config .tree), x .holds .well .within .threads))))

@@ -18,9 +18,9 @@ use Rattle.machine.specs.Stops.{storeNumber}
 use Rattle.machine.specs.Config.{Config, codeOf}
 use Rattle.machine.specs.Machine.{limits, full, Path, move, initial}
 use Rattle.machine.specs.WellFormed.{WellFormed}
-use Rattle.machine.specs.Runs.{Report, report, Runs, Stopped}
+use Rattle.machine.specs.Runs.{Report, report, Runs, StopMeans}
 use Rattle.published.specs.ReadAs.{Reading, reading}
-use Rattle.machine.specs.Short.{StopsShort}
+use Rattle.machine.specs.FullStore.{StopsShort}
 use Rattle.published.specs.Reach.{OneRun}
 use Rattle.published.specs.Traces.{Trace}
 use Rattle.block.specs.Block.{encode}
@@ -66,7 +66,7 @@ pub data RunAnswers (s b ns : List ℕ) : Ran → Type 0 where
   has-run : {t : ℕ} {c : Config} → checkOf s ≡ Accepted t → length ns ≤ CHOICES → Holds s t b c → RunAnswers s b ns (ran (report (codeOf s) limits c ns))
 
 -- A Run that is not refused: what it had, what each choice did, what it leaves and why it stopped.
-pub record Left (s b ns : List ℕ) : Type 0 where
+pub record NotRefused (s b ns : List ℕ) : Type 0 where
   pub type : ℕ
   pub accepted : checkOf s ≡ Accepted type
   pub few : length ns ≤ CHOICES
@@ -78,7 +78,7 @@ pub record Left (s b ns : List ℕ) : Type 0 where
   pub reply : runOf s b ns ≡ ran outcome
   pub holds : Holds s type (runOf s b ns .block) (outcome .config)
   -- choices spent with something that can move; one of the three ends with nothing that can; or a store full for a move that is due
-  pub stopped : Stopped (codeOf s) limits (outcome .config) (outcome .stop)
+  pub means : StopMeans (codeOf s) limits (outcome .config) (outcome .stop)
   -- all choices are read where they are spent
   pub spent : outcome .stop ≡ Spent → outcome .read ≡ length ns
   -- a store is full: the last choice read names a position whose move due needs more places than it has left

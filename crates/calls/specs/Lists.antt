@@ -9,10 +9,9 @@ use Rattle.script.specs.Lists.{_∈_}
 use Rattle.machine.specs.declared.Ending.the-variants.{Finished, Failed, Deadlocked}
 use Rattle.machine.specs.Config.{Code, Config, codeOf}
 use Rattle.machine.specs.Machine.{limits, still, choice}
-use Rattle.machine.specs.Standing.{End}
-use Rattle.machine.specs.Runs.{CanMove}
-use Rattle.machine.specs.Promise.{Kept}
-use Rattle.machine.specs.Calls.{Claimed, FailsOnNull}
+use Rattle.machine.specs.Ends.{End}
+use Rattle.machine.specs.Runs.{report, CanMove, Leaves}
+use Rattle.machine.specs.Promise.{Promised, Kept, FailsOnNull}
 use Rattle.calls.specs.Calls.{Ran, startOf, offerOf, runOf}
 use Rattle.calls.specs.Answers.{Holds, Stands}
 
@@ -37,45 +36,43 @@ NotToStart to-start = ⊥
 NotToStart (to-offer fl) = Unit {0}
 NotToStart (to-run ns) = Unit {0}
 
--- `Had s Past b calls e`: the list, begun at block b and followed past such calls, has block e "at first, at each point between moves and after each call".
-pub data Had (s : List ℕ) (Past : Lent → Type 0) : List ℕ → List Lent → List ℕ → Type 0 where
-  first-block : {b : List ℕ} {calls : List Lent} → Had s Past b calls b
+-- `Comes s Past b calls d rest`: the list, begun at block b and followed past such calls, comes to block d with the rest of the calls still to make.
+pub data Comes (s : List ℕ) (Past : Lent → Type 0) : List ℕ → List Lent → List ℕ → List Lent → Type 0 where
+  at-first : {b : List ℕ} {calls : List Lent} → Comes s Past b calls b calls
+  after-call : {b d : List ℕ} {calls rest : List Lent} (call : Lent) → Past call → Comes s Past (blockAfter s b call) calls d rest
+      → Comes s Past b (call ∷ calls) d rest
+
+-- `Has s b calls e`: at block b the list has block e, before its next call or between moves of it.
+pub data Has (s b : List ℕ) : List Lent → List ℕ → Type 0 where
+  before-call : {calls : List Lent} → Has s b calls b
   -- "the block that it would leave with only its first n choices, for each n from 0 to the choices read"
-  between-moves : {b : List ℕ} {calls : List Lent} (ns : List ℕ) (n : ℕ) → n ≤ runOf s b ns .read
-      → Had s Past b (to-run ns ∷ calls) (runOf s b (take n ns) .block)
-  after-call : {b e : List ℕ} {calls : List Lent} (call : Lent) → Past call → Had s Past (blockAfter s b call) calls e → Had s Past b (call ∷ calls) e
+  between-moves : {calls : List Lent} (ns : List ℕ) (n : ℕ) → n ≤ runOf s b ns .read → Has s b (to-run ns ∷ calls) (runOf s b (take n ns) .block)
 
--- `HadLater s b calls d e`: the list, begun at block b, has block d, and at that point or later, with no Start between, block e.
-pub data HadLater (s : List ℕ) : List ℕ → List Lent → List ℕ → List ℕ → Type 0 where
-  from-block : {b e : List ℕ} {calls : List Lent} → Had s NotToStart b calls e → HadLater s b calls b e
+-- `Later s b calls d e`: at block b the list has block d, and at that point or later, with no Start between, block e.
+pub data Later (s b : List ℕ) : List Lent → List ℕ → List ℕ → Type 0 where
+  past-block : {x e : List ℕ} {calls rest : List Lent} → Comes s NotToStart b calls x rest → Has s x rest e → Later s b calls b e
   -- both between moves of one Run
-  in-one-run : {b : List ℕ} {calls : List Lent} (ns : List ℕ) (m n : ℕ) → m ≤ n → n ≤ runOf s b ns .read
-      → HadLater s b (to-run ns ∷ calls) (runOf s b (take m ns) .block) (runOf s b (take n ns) .block)
+  in-one-run : {calls : List Lent} (ns : List ℕ) (m n : ℕ) → m ≤ n → n ≤ runOf s b ns .read
+      → Later s b (to-run ns ∷ calls) (runOf s b (take m ns) .block) (runOf s b (take n ns) .block)
   -- d between moves of a Run, e after it
-  past-run : {b e : List ℕ} {calls : List Lent} (ns : List ℕ) (m : ℕ) → m ≤ runOf s b ns .read → Had s NotToStart (runOf s b ns .block) calls e
-      → HadLater s b (to-run ns ∷ calls) (runOf s b (take m ns) .block) e
-  both-after : {b d e : List ℕ} {calls : List Lent} (call : Lent) → HadLater s (blockAfter s b call) calls d e → HadLater s b (call ∷ calls) d e
+  past-run : {x e : List ℕ} {calls rest : List Lent} (ns : List ℕ) (m : ℕ) → m ≤ runOf s b ns .read
+      → Comes s NotToStart (runOf s b ns .block) calls x rest → Has s x rest e → Later s b (to-run ns ∷ calls) (runOf s b (take m ns) .block) e
 
--- `HadNext s b calls d o e`: two neighbours in the list, e with one choice more than d, which is o, or by a Start. (Offer and refused calls leave the block as
--- it was.)
-pub data HadNext (s : List ℕ) : List ℕ → List Lent → List ℕ → Option ℕ → List ℕ → Type 0 where
-  one-choice : {b : List ℕ} {calls : List Lent} (ns : List ℕ) (n : ℕ) → suc n ≤ runOf s b ns .read
-      → HadNext s b (to-run ns ∷ calls) (runOf s b (take n ns) .block) (some (getD ns n 0)) (runOf s b (take (suc n) ns) .block)
-  one-start : {b : List ℕ} {calls : List Lent} → HadNext s b (to-start ∷ calls) b none (startOf s b .block)
-  next-after : {b d e : List ℕ} {o : Option ℕ} {calls : List Lent} (call : Lent) → HadNext s (blockAfter s b call) calls d o e
-      → HadNext s b (call ∷ calls) d o e
+-- `Next s b calls d o e`: at block b two neighbours in the list, e with one choice more than d, which is o, or by a Start. (Offer and refused calls leave the
+-- block as it was.)
+pub data Next (s b : List ℕ) : List Lent → List ℕ → Option ℕ → List ℕ → Type 0 where
+  one-choice : {calls : List Lent} (ns : List ℕ) (n : ℕ) → suc n ≤ runOf s b ns .read
+      → Next s b (to-run ns ∷ calls) (runOf s b (take n ns) .block) (some (getD ns n 0)) (runOf s b (take (suc n) ns) .block)
+  one-start : {calls : List Lent} → Next s b (to-start ∷ calls) b none (startOf s b .block)
 
--- `HadRun s b calls d ns`: the list, begun at block b, has a Run with the choices ns on block d.
-pub data HadRun (s : List ℕ) : List ℕ → List Lent → List ℕ → List ℕ → Type 0 where
-  this-run : {b : List ℕ} {calls : List Lent} (ns : List ℕ) → HadRun s b (to-run ns ∷ calls) b ns
-  run-after : {b d ns : List ℕ} {calls : List Lent} (call : Lent) → HadRun s (blockAfter s b call) calls d ns → HadRun s b (call ∷ calls) d ns
-
--- What demand 3 claims of a block that the list has: it is 49,152 bytes, and stands for a configuration that is well formed and of which the machine's claim
+-- What demand 3 claims of a block that the list has: it is 49,152 bytes, and stands for a configuration that is well formed and of which all that is promised
 -- holds.
 pub record ClaimedOf (s : List ℕ) (t : ℕ) (b : List ℕ) : Type 0 where
   pub config : Config
   pub holds : Holds s t b config
-  pub claimed : Claimed (codeOf s) t config
+  pub promised : Promised (codeOf s) limits config
+  -- and any Run from there stops with what it leaves
+  pub stops : (ns : List ℕ) → Leaves (codeOf s) limits t (report (codeOf s) limits config ns)
   pub long : length b ≡ BLOCK
   pub small : (x : ℕ) → x ∈ b → x < 256
 
@@ -103,14 +100,16 @@ pub record StopOf (s : List ℕ) (t : ℕ) (r : Ran) : Type 0 where
 
 -- Demand 3, of a list of calls begun at block b: "one claim about the list, not a claim per call".
 pub record DemandThreeOf (s : List ℕ) (t : ℕ) (b : List ℕ) (calls : List Lent) : Type 0 where
-  pub claimed : {e : List ℕ} → Had s AnyLent b calls e → ClaimedOf s t e
+  -- of each block "at first, at each point between moves and after each call"
+  pub claimed : {x e : List ℕ} {rest : List Lent} → Comes s AnyLent b calls x rest → Has s x rest e → ClaimedOf s t e
   -- "Objects and bindings are never freed": a binding once there keeps its name, type, value and link until the next Start
-  pub kept : {d e : List ℕ} → HadLater s b calls d e → OfBoth s t Kept d e
+  pub kept : {x d e : List ℕ} {rest : List Lent} → Comes s AnyLent b calls x rest → Later s x rest d e → OfBoth s t Kept d e
   -- "no move makes a thread failed except at a null target or by a failed side"
-  pub fails : {d e : List ℕ} {o : Option ℕ} → HadNext s b calls d o e → OfBoth s t (FailsOnNull (codeOf s) o) d e
+  pub fails : {x d e : List ℕ} {o : Option ℕ} {rest : List Lent} → Comes s AnyLent b calls x rest → Next s x rest d o e
+      → OfBoth s t (FailsOnNull (codeOf s) o) d e
   -- each Run of the list that is not refused stops with 1, 2 or 3 exactly when nothing can move in the block that it leaves, which is then finished, failed or
   -- deadlocked
-  pub stops : {d ns : List ℕ} → HadRun s b calls d ns → runOf s d ns .number ≡ 0 → StopOf s t (runOf s d ns)
+  pub stops : {x ns : List ℕ} {rest : List Lent} → Comes s AnyLent b calls x (to-run ns ∷ rest) → runOf s x ns .number ≡ 0 → StopOf s t (runOf s x ns)
 
 -- A Run that goes on where another stopped, the counts added.
 abbrev pub runOnto : Ran → Ran → Ran

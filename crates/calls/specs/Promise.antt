@@ -18,7 +18,7 @@ use Rattle.machine.specs.Machine.{initial}
 use Rattle.published.specs.ReadAs.{Reading, reading, Steps, initialReading}
 use Rattle.published.specs.Reach.{site}
 use Rattle.calls.specs.Calls.{startOf, offerOf, runOf}
-use Rattle.calls.specs.Answers.{Holds, Stands, StartAnswers, OfferAnswers, RunAnswers, Left, TraceOf, ReachedBy}
+use Rattle.calls.specs.Answers.{Holds, Stands, StartAnswers, OfferAnswers, RunAnswers, NotRefused, TraceOf, ReachedBy}
 use Rattle.calls.specs.Lists.{Lent, DemandThreeOf}
 
 -- Demand 1: "The converter gets a reply from every call .., without checking them first; a bad one gets document 01's refusal number and changes no lent byte."
@@ -39,7 +39,7 @@ pub record DemandTwoOf (s : List ℕ) : Type 0 where
   pub begins : (t : ℕ) → checkOf s ≡ Accepted t → (b : List ℕ) → length b ≡ BLOCK
       → Holds s t (startOf s b .block) initial × (reading (codeOf s) initial ≡ initialReading (programOf s))
   -- "A run makes the moves its choices name and reports how many": choices are read until one of the three ends, a full store, or the last of them
-  pub runs : (b ns : List ℕ) → runOf s b ns .number ≡ 0 → Left s b ns
+  pub runs : (b ns : List ℕ) → runOf s b ns .number ≡ 0 → NotRefused s b ns
   -- "each move is one published step or a listed silent one"
   pub moves : (b ns : List ℕ) → runOf s b ns .number ≡ 0 → TraceOf s b ns
   -- "each open published step can be reached by choices, unless a store is full"

@@ -33,6 +33,10 @@ pub record Trial : Type 0 where
   pub config : Config
   pub flags : List ℕ
 
+-- The same in one line, in this order.
+abbrev pub trial : List ℕ → ℕ → ℕ → ℕ → Config → List ℕ → Trial
+trial choices stop read moves config flags = record { choices = choices; stop = stop; read = read; moves = moves; config = config; flags = flags }
+
 -- A script, what Check answers, and the Runs that the sample speaks of.
 pub record Sample : Type 0 where
   pub script : List ℕ
@@ -126,8 +130,8 @@ samples =
       script = nodesAlone (7 ∷ 0 ∷ 1 ∷ 0 ∷ 0 ∷ 0 ∷ 0 ∷ 0 ∷ []);
       verdict = Accepted 0;
       trials =
-          record { choices = times 9 0 []; stop = 1; read = 3; moves = 3; config = configured [] [] (returning nil []); flags = [] } ∷
-          record { choices = times 2 0 []; stop = 0; read = 2; moves = 2; config = configured [] [] (returning nil (casts 0 ∷ [])); flags = 1 ∷ [] } ∷
+          trial (times 9 0 []) 1 3 3 (configured [] [] (returning nil [])) [] ∷
+          trial (times 2 0 []) 0 2 2 (configured [] [] (returning nil (casts 0 ∷ []))) (1 ∷ []) ∷
           [];
     } ∷
     -- "Start null: 12 at offset 24."
@@ -151,15 +155,8 @@ samples =
       script = nodesWithClass (5 ∷ 2 ∷ 1 ∷ 2 ∷ 6 ∷ 2 ∷ 0 ∷ 0 ∷ 9 ∷ 2 ∷ 3 ∷ 0 ∷ 9 ∷ 2 ∷ 4 ∷ 0 ∷ 1 ∷ 2 ∷ 0 ∷ 0 ∷ []);
       verdict = Accepted 2;
       trials =
-          record { choices = times 7 0 []; stop = 1; read = 7; moves = 7; config = configured (openC ∷ []) (boundX ∷ []) (returning (ref 0) []); flags = [] } ∷
-          record {
-            choices = times 6 0 [];
-            stop = 0;
-            read = 6;
-            moves = 6;
-            config = configured (shutC ∷ []) (boundX ∷ []) (returning (ref 0) (locks 0 ∷ []));
-            flags = 1 ∷ [];
-          } ∷
+          trial (times 7 0 []) 1 7 7 (configured (openC ∷ []) (boundX ∷ []) (returning (ref 0) [])) [] ∷
+          trial (times 6 0 []) 0 6 6 (configured (shutC ∷ []) (boundX ∷ []) (returning (ref 0) (locks 0 ∷ []))) (1 ∷ []) ∷
           [];
     } ∷
     -- "let x = (C)null in lock x in x: failed at move 6."
@@ -167,8 +164,8 @@ samples =
       script = nodesWithClass (5 ∷ 2 ∷ 1 ∷ 2 ∷ 7 ∷ 2 ∷ 3 ∷ 0 ∷ 9 ∷ 2 ∷ 4 ∷ 0 ∷ 0 ∷ 0 ∷ 0 ∷ 0 ∷ 1 ∷ 2 ∷ 0 ∷ 0 ∷ []);
       verdict = Accepted 2;
       trials =
-          record { choices = times 6 0 []; stop = 2; read = 6; moves = 6; config = configured [] (variable 2 2 nil 0 ∷ []) failed; flags = [] } ∷
-          record { choices = times 5 0 []; stop = 0; read = 5; moves = 5; config = configured [] (variable 2 2 nil 0 ∷ []) (running 2 1 []); flags = 1 ∷ [] } ∷
+          trial (times 6 0 []) 2 6 6 (configured [] (variable 2 2 nil 0 ∷ []) failed) [] ∷
+          trial (times 5 0 []) 0 5 5 (configured [] (variable 2 2 nil 0 ∷ []) (running 2 1 [])) (1 ∷ []) ∷
           [];
     } ∷
     -- "let x = new C in lock x in fork{(Unit)null}{lock x in x}; x: choices 0 five times, 1 three times: stop 3, moves 8."
@@ -179,14 +176,7 @@ samples =
           ∷ 1 ∷ 2 ∷ 0 ∷ 0 ∷ []);
       verdict = Accepted 2;
       trials =
-          record {
-            choices = times 5 0 (times 3 1 []);
-            stop = 3;
-            read = 8;
-            moves = 8;
-            config = configured (shutC ∷ []) (boundX ∷ []) (join (locks 0 ∷ []) 6 1 (returning nil []) (running 5 1 []));
-            flags = [];
-          } ∷
+          trial (times 5 0 (times 3 1 [])) 3 8 8 (configured (shutC ∷ []) (boundX ∷ []) (join (locks 0 ∷ []) 6 1 (returning nil []) (running 5 1 []))) [] ∷
           [];
     } ∷
     -- "An alias y = x, fork{lock x in x}{lock y in y}: accepted; each waits while the other holds.": one async takes the lock, and the other is passed over
@@ -198,22 +188,10 @@ samples =
           ∷ 1 ∷ 2 ∷ 0 ∷ 0 ∷ 1 ∷ 3 ∷ 0 ∷ 0 ∷ []);
       verdict = Accepted 2;
       trials =
-          record {
-            choices = times 7 0 (1 ∷ 2 ∷ []);
-            stop = 0;
-            read = 9;
-            moves = 8;
-            config = configured (shutC ∷ []) (variable 3 2 (ref 0) 1 ∷ boundX ∷ []) (join [] 7 2 (running 8 2 (locks 0 ∷ [])) (running 6 2 []));
-            flags = 0 ∷ 1 ∷ 0 ∷ [];
-          } ∷
-          record {
-            choices = times 7 0 (2 ∷ 1 ∷ []);
-            stop = 0;
-            read = 9;
-            moves = 8;
-            config = configured (shutC ∷ []) (variable 3 2 (ref 0) 1 ∷ boundX ∷ []) (join [] 7 2 (running 5 2 []) (running 9 2 (locks 0 ∷ [])));
-            flags = 0 ∷ 0 ∷ 1 ∷ [];
-          } ∷
+          trial (times 7 0 (1 ∷ 2 ∷ [])) 0 9 8
+          (configured (shutC ∷ []) (variable 3 2 (ref 0) 1 ∷ boundX ∷ []) (join [] 7 2 (running 8 2 (locks 0 ∷ [])) (running 6 2 []))) (0 ∷ 1 ∷ 0 ∷ []) ∷
+          trial (times 7 0 (2 ∷ 1 ∷ [])) 0 9 8
+          (configured (shutC ∷ []) (variable 3 2 (ref 0) 1 ∷ boundX ∷ []) (join [] 7 2 (running 5 2 []) (running 9 2 (locks 0 ∷ [])))) (0 ∷ 0 ∷ 1 ∷ []) ∷
           [];
     } ∷
     -- Not starred, nor are those below: "A write to null whose value is `new C`: one object, then failed." It is let x = (C)null in x.0 = new C; after move 7
@@ -222,22 +200,9 @@ samples =
       script = nodesWithField (5 ∷ 2 ∷ 1 ∷ 2 ∷ 7 ∷ 2 ∷ 3 ∷ 0 ∷ 3 ∷ 2 ∷ 0 ∷ 4 ∷ 0 ∷ 0 ∷ 0 ∷ 0 ∷ 6 ∷ 2 ∷ 0 ∷ 0 ∷ []);
       verdict = Accepted 0;
       trials =
-          record {
-            choices = times 7 0 [];
-            stop = 0;
-            read = 7;
-            moves = 7;
-            config = configured (record { class = 2; shut = false; fields = nil ∷ [] } ∷ []) (variable 2 2 nil 0 ∷ []) (returning (ref 0) (awaits 2 1 ∷ []));
-            flags = 1 ∷ [];
-          } ∷
-          record {
-            choices = times 8 0 [];
-            stop = 2;
-            read = 8;
-            moves = 8;
-            config = configured (record { class = 2; shut = false; fields = nil ∷ [] } ∷ []) (variable 2 2 nil 0 ∷ []) failed;
-            flags = [];
-          } ∷
+          trial (times 7 0 []) 0 7 7
+          (configured (record { class = 2; shut = false; fields = nil ∷ [] } ∷ []) (variable 2 2 nil 0 ∷ []) (returning (ref 0) (awaits 2 1 ∷ []))) (1 ∷ []) ∷
+          trial (times 8 0 []) 2 8 8 (configured (record { class = 2; shut = false; fields = nil ∷ [] } ∷ []) (variable 2 2 nil 0 ∷ []) failed) [] ∷
           [];
     } ∷
     -- "a waiting let adds one binding, its type the one inferred for the let's first part under the frame's bindings": let x = (I) new C in x. The type is I,
@@ -246,22 +211,8 @@ samples =
       script = nodesWithClass (5 ∷ 2 ∷ 1 ∷ 2 ∷ 7 ∷ 1 ∷ 3 ∷ 0 ∷ 1 ∷ 2 ∷ 0 ∷ 0 ∷ 6 ∷ 2 ∷ 0 ∷ 0 ∷ []);
       verdict = Accepted 1;
       trials =
-          record {
-            choices = times 5 0 [];
-            stop = 0;
-            read = 5;
-            moves = 5;
-            config = configured (openC ∷ []) (variable 2 1 (ref 0) 0 ∷ []) (running 2 1 []);
-            flags = 1 ∷ [];
-          } ∷
-          record {
-            choices = times 6 0 [];
-            stop = 1;
-            read = 6;
-            moves = 6;
-            config = configured (openC ∷ []) (variable 2 1 (ref 0) 0 ∷ []) (returning (ref 0) []);
-            flags = [];
-          } ∷
+          trial (times 5 0 []) 0 5 5 (configured (openC ∷ []) (variable 2 1 (ref 0) 0 ∷ []) (running 2 1 [])) (1 ∷ []) ∷
+          trial (times 6 0 []) 1 6 6 (configured (openC ∷ []) (variable 2 1 (ref 0) 0 ∷ []) (returning (ref 0) [])) [] ∷
           [];
     } ∷
     -- "a waiting call adds two, this with the object's class and the parameter with its declared type, and enters the body with no others": C has a method with
@@ -270,22 +221,8 @@ samples =
       script = nodesWithMethod 1 1 4 (5 ∷ 2 ∷ 1 ∷ 2 ∷ 6 ∷ 2 ∷ 0 ∷ 0 ∷ 4 ∷ 2 ∷ 0 ∷ 3 ∷ 1 ∷ 2 ∷ 0 ∷ 0 ∷ 1 ∷ 1 ∷ 0 ∷ 0 ∷ []);
       verdict = Accepted 1;
       trials =
-          record {
-            choices = times 6 0 [];
-            stop = 0;
-            read = 6;
-            moves = 6;
-            config = configured (openC ∷ []) (variable 1 1 (ref 0) 2 ∷ variable 0 2 (ref 0) 0 ∷ boundX ∷ []) (running 4 3 []);
-            flags = 1 ∷ [];
-          } ∷
-          record {
-            choices = times 7 0 [];
-            stop = 1;
-            read = 7;
-            moves = 7;
-            config = configured (openC ∷ []) (variable 1 1 (ref 0) 2 ∷ variable 0 2 (ref 0) 0 ∷ boundX ∷ []) (returning (ref 0) []);
-            flags = [];
-          } ∷
+          trial (times 6 0 []) 0 6 6 (configured (openC ∷ []) (variable 1 1 (ref 0) 2 ∷ variable 0 2 (ref 0) 0 ∷ boundX ∷ []) (running 4 3 [])) (1 ∷ []) ∷
+          trial (times 7 0 []) 1 7 7 (configured (openC ∷ []) (variable 1 1 (ref 0) 2 ∷ variable 0 2 (ref 0) 0 ∷ boundX ∷ []) (returning (ref 0) [])) [] ∷
           [];
     } ∷
     -- "the 256th object is made, the 257th gives stop 4": a method's body is this.0(new C), and the start let x = new C in x.0(new C).
@@ -293,14 +230,7 @@ samples =
       script = nodesWithMethod 2 2 4 (5 ∷ 2 ∷ 1 ∷ 2 ∷ 6 ∷ 2 ∷ 0 ∷ 0 ∷ 4 ∷ 2 ∷ 0 ∷ 3 ∷ 6 ∷ 2 ∷ 0 ∷ 0 ∷ 4 ∷ 0 ∷ 0 ∷ 5 ∷ 6 ∷ 2 ∷ 0 ∷ 0 ∷ []);
       verdict = Accepted 2;
       trials =
-          record {
-            choices = times 900 0 [];
-            stop = 4;
-            read = 770;
-            moves = 769;
-            config = configured (replicate 256 openC) (afterCalls ref 255) (running 5 511 (awaits 4 511 ∷ []));
-            flags = 1 ∷ [];
-          } ∷
+          trial (times 900 0 []) 4 770 769 (configured (replicate 256 openC) (afterCalls ref 255) (running 5 511 (awaits 4 511 ∷ []))) (1 ∷ []) ∷
           [];
     } ∷
     -- "5 bindings", "as bindings with one place left are for a call": the body is this.0(x), the start let x = new C in x.0(x). 2,047 bindings are there.
@@ -308,14 +238,7 @@ samples =
       script = nodesWithMethod 2 2 4 (5 ∷ 2 ∷ 1 ∷ 2 ∷ 6 ∷ 2 ∷ 0 ∷ 0 ∷ 4 ∷ 2 ∷ 0 ∷ 3 ∷ 1 ∷ 2 ∷ 0 ∷ 0 ∷ 4 ∷ 0 ∷ 0 ∷ 5 ∷ 1 ∷ 1 ∷ 0 ∷ 0 ∷ []);
       verdict = Accepted 2;
       trials =
-          record {
-            choices = times 4000 0 [];
-            stop = 5;
-            read = 3075;
-            moves = 3074;
-            config = configured (openC ∷ []) (afterCalls (λ n. ref 0) 1023) (returning (ref 0) (awaits 4 2047 ∷ []));
-            flags = 1 ∷ [];
-          } ∷
+          trial (times 4000 0 []) 5 3075 3074 (configured (openC ∷ []) (afterCalls (λ n. ref 0) 1023) (returning (ref 0) (awaits 4 2047 ∷ []))) (1 ∷ []) ∷
           [];
     } ∷
     -- "6 frames": the body is (C)(C)(C)(C)this.0(x). 2,048 frames wait, and the call would leave one more.
@@ -326,14 +249,7 @@ samples =
           ∷ 4 ∷ 0 ∷ 0 ∷ 9 ∷ 1 ∷ 1 ∷ 0 ∷ 0 ∷ []);
       verdict = Accepted 2;
       trials =
-          record {
-            choices = times 4000 0 [];
-            stop = 6;
-            read = 3588;
-            moves = 3587;
-            config = configured (openC ∷ []) (afterCalls (λ n. ref 0) 512) (running 8 1025 (fourCasts 512));
-            flags = 1 ∷ [];
-          } ∷
+          trial (times 4000 0 []) 6 3588 3587 (configured (openC ∷ []) (afterCalls (λ n. ref 0) 512) (running 8 1025 (fourCasts 512))) (1 ∷ []) ∷
           [];
     } ∷
     -- "7 threads": the body is fork{this.0(x)}{new C}; x. 32 threads are there, and the left one of the innermost join stands at one more fork: it "counts as
@@ -345,14 +261,7 @@ samples =
           ∷ 1 ∷ 1 ∷ 0 ∷ 0 ∷ []);
       verdict = Accepted 2;
       trials =
-          record {
-            choices = times 7 0 (fourTimes 31 1);
-            stop = 7;
-            read = 131;
-            moves = 130;
-            config = configured (openC ∷ []) (afterCalls (λ n. ref 0) 32) (leftJoins 31 3);
-            flags = times 31 0 (times 32 1 []);
-          } ∷
+          trial (times 7 0 (fourTimes 31 1)) 7 131 130 (configured (openC ∷ []) (afterCalls (λ n. ref 0) 32) (leftJoins 31 3)) (times 31 0 (times 32 1 [])) ∷
           [];
     } ∷
     []

@@ -11,3 +11,6 @@ after-yes {r = r} d e = says-yes d (not-false r e)
 pub after-no : {P : Type 0} {r : Bool} → Decides P r → not r ≡ true → P → ⊥
 after-no (holds p) e q = true-false (not-true true e)
 after-no (fails n) e q = n q
+
+pub refused : {P Q : Type 0} {r : Bool} → (Q → P) → Decides P r → not r ≡ true → Decides Q false
+refused part d e = fails (λ q. after-no d e (part q))

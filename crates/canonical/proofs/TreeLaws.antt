@@ -11,9 +11,9 @@ use Rattle.script.specs.Lists.{run, sumBelow}
 use Rattle.script.specs.Asking.{Decides, fails}
 use Rattle.script.proofs.Tests.{decides-as, decides-eq}
 use Rattle.block.specs.declared.Area.the-variants.{Positions, Frames}
-use Rattle.block.specs.Layout.{counted, wordIn}
-use Rattle.representation.specs.InOrder.{Trees, no-tree, one-thread, one-join}
-use Rattle.canonical.specs.Parts.{After, of-join, of-thread, OneTree, FramesAdd}
+use Rattle.block.specs.Layout.{counted, wordIn, KIND, WAITING}
+use Rattle.representation.specs.InOrder.{Trees, no-tree, one-thread, one-join, OneTree, FramesAdd}
+use Rattle.canonical.specs.Parts.{After, of-join, of-thread}
 
 -- After the last position no tree is to come, and before another one is.
 trees-none : {n : ℕ} → Trees [] n → n ≡ 0
@@ -47,7 +47,7 @@ unfolding run
 run-end f i n h = let e : n - i ≡ 0 = omega arith in rw e
 
 abbrev kinds : List ℕ → ℕ → ℕ
-kinds b k = wordIn b Positions k 0
+kinds b k = wordIn b Positions k KIND
 
 -- The loop has come to position i of n, and the other positions must be those of so many trees.
 pub record Walked (b : List ℕ) (n i trees : ℕ) : Type 0 where
@@ -62,7 +62,7 @@ module _ {b : List ℕ} {n i trees : ℕ} (w : Walked b n i trees) where
   pub too-few : i < n → trees ≡ 0 → Decides (OneTree b) false
   too-few h z = fails (λ t. omega (arith, trees-some (rw (run-next (kinds b) i n h) at (w .same .0 t)), z))
 
-  pub onward : (kind next : ℕ) → i < n → (trees ≡ 0 → ⊥) → kind ≡ wordIn b Positions i 0 → After kind trees next → next ≤ suc trees → Walked b n (i + 1) next
+  pub onward : (kind next : ℕ) → i < n → (trees ≡ 0 → ⊥) → kind ≡ wordIn b Positions i KIND → After kind trees next → next ≤ suc trees → Walked b n (i + 1) next
   onward kind next h some k a l =
       record {
         within = omega arith;
@@ -86,6 +86,6 @@ unfolding sumBelow
 sum-next f i sum r p q = rw (add-one i, p, q)
 
 pub sum-all :
-    (b : List ℕ) (i n m sum : ℕ) → sum ≡ sumBelow (λ k. wordIn b Positions k 4) i → i ≡ n → n ≡ counted b Positions → m ≡ counted b Frames
+    (b : List ℕ) (i n m sum : ℕ) → sum ≡ sumBelow (λ k. wordIn b Positions k WAITING) i → i ≡ n → n ≡ counted b Positions → m ≡ counted b Frames
     → Decides (FramesAdd b) (eqb sum m)
 sum-all b i n m sum s e c d = rw (← c, ← d, ← e, ← s) (decides-eq sum m)

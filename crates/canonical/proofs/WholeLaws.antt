@@ -11,8 +11,8 @@ use Rattle.script.proofs.Tests.{decides-as}
 use Rattle.block.specs.declared.Area.{Area}
 use Rattle.block.specs.declared.Area.the-variants.{Objects, Bindings, Positions, Frames}
 use Rattle.block.specs.Layout.{WORDS, END, most, counted}
-use Rattle.representation.specs.InOrder.{InOrder}
-use Rattle.canonical.specs.Parts.{Zeros, Blank, RecordOk, RecordsOk, AreaOk, AreasOk, OneTree, FramesAdd}
+use Rattle.representation.specs.InOrder.{Unused, RecordsOk, Blank, AreaOk, OneTree, FramesAdd, wordsOf, InOrder}
+use Rattle.canonical.specs.Parts.{ThreadsOk}
 use Rattle.canonical.proofs.Answers.{after-yes, after-no}
 
 -- One area.
@@ -28,67 +28,33 @@ module _ (fields : ℕ → ℕ) (b : List ℕ) (a : Area) (n all : ℕ) (c : n �
     area-asked h e = decides-as (λ z. record { few = omega (arith, c, m, h); records = after-yes d e; blank = z }) (λ ok. ok .blank)
 
 module _ {fields : ℕ → ℕ} {b : List ℕ} where
-  -- All areas.
-  pub bad-area : {a : Area} {r : Bool} → Decides (AreaOk fields b a) r → not r ≡ true → Decides (AreasOk fields b) false
-  bad-area {a} d e = fails (λ ok. after-no d e (ok .each a))
+  -- Positions and frames together.
+  pub few-positions : {q : Bool} → Decides (AreaOk fields b Positions) q → not q ≡ false → counted b Positions ≤ POSITIONS
+  few-positions d e = after-yes d e .few
 
-  pub areas-asked :
-      {o p q r : Bool} → Decides (AreaOk fields b Objects) o → not o ≡ false → Decides (AreaOk fields b Bindings) p → not p ≡ false
-      → Decides (AreaOk fields b Positions) q → not q ≡ false → Decides (AreaOk fields b Frames) r → Decides (AreasOk fields b) r
-  areas-asked od oe pd pe qd qe = decides-as there (λ ok. ok .each Frames)
-    where
-      there : AreaOk fields b Frames → AreasOk fields b
-      there f = record { each = every }
-        where
-          every : (a : Area) → AreaOk fields b a
-          every Objects = after-yes od oe
-          every Bindings = after-yes pd pe
-          every Positions = after-yes qd qe
-          every Frames = f
+  pub threads-asked :
+      {p q t u r : Bool} → Decides (AreaOk fields b Positions) p → not p ≡ false → Decides (AreaOk fields b Frames) q → not q ≡ false
+      → Decides (OneTree b) t → not t ≡ false → Decides (FramesAdd b) u → not u ≡ false
+      → Decides (Unused (wordsOf b) END WORDS) r → Decides (ThreadsOk fields b) r
+  threads-asked pd pe qd qe td te ud ue =
+      decides-as
+      (λ z. record { positions = after-yes pd pe; frames = after-yes qd qe; one-tree = after-yes td te; all-frames = after-yes ud ue; rest = z })
+      (λ o. o .rest)
 
   -- All parts, of which the bytes are in order.
-  areas-of : InOrder fields b → AreasOk fields b
-  areas-of o = record { each = λ a. record { few = o .few a; records = record { each = every a }; blank = record { zero = o .blank a } } }
+  pub order-asked :
+      {p q r : Bool} → length b ≡ BLOCK → ((i : ℕ) → getD b i 0 < 256) → Decides (AreaOk fields b Objects) p → not p ≡ false
+      → Decides (AreaOk fields b Bindings) q → not q ≡ false → Decides (ThreadsOk fields b) r → Decides (InOrder fields b) r
+  order-asked long small pd pe qd qe = decides-as there back
     where
-      every : (a : Area) (i : ℕ) → i < counted b a → RecordOk fields b a i
-      every Objects = o .objects
-      every Bindings = λ i h. tt
-      every Positions = o .positions
-      every Frames = o .frames
-
-  module _ {q : Bool} (areas : Decides (AreasOk fields b) q) where
-    pub bad-areas : not q ≡ true → Decides (InOrder fields b) false
-    bad-areas e = fails (λ o. after-no areas e (areas-of o))
-
-    module _ (e : not q ≡ false) where
-      pub few-positions : counted b Positions ≤ POSITIONS
-      few-positions = after-yes areas e .each Positions .few
-
-      pub order-asked :
-          {t u r : Bool} → length b ≡ BLOCK → ((i : ℕ) → getD b i 0 < 256) → Decides (OneTree b) t → not t ≡ false → Decides (FramesAdd b) u → not u ≡ false
-          → Decides (Zeros b END WORDS) r → Decides (InOrder fields b) r
-      order-asked long small td te ud ue = decides-as there (λ o. record { zero = o .rest })
+      there : ThreadsOk fields b → InOrder fields b
+      there t = record { long = long; small = small; areas = every; one-tree = t .one-tree; all-frames = t .all-frames; rest = t .rest }
         where
-          ok : (a : Area) → AreaOk fields b a
-          ok = after-yes areas e .each
+          every : (a : Area) → AreaOk fields b a
+          every Objects = after-yes pd pe
+          every Bindings = after-yes qd qe
+          every Positions = t .positions
+          every Frames = t .frames
 
-          there : Zeros b END WORDS → InOrder fields b
-          there z =
-              record {
-                long = long;
-                small = small;
-                few = λ a. ok a .few;
-                objects = ok Objects .records .each;
-                positions = ok Positions .records .each;
-                frames = ok Frames .records .each;
-                one-tree = after-yes td te;
-                all-frames = after-yes ud ue;
-                blank = λ a. ok a .blank .zero;
-                rest = z .zero;
-              }
-
-pub bad-tree : (fields : ℕ → ℕ) (b : List ℕ) {t : Bool} → Decides (OneTree b) t → not t ≡ true → Decides (InOrder fields b) false
-bad-tree fields b d e = fails (λ o. after-no d e (o .one-tree))
-
-pub bad-sum : (fields : ℕ → ℕ) (b : List ℕ) {t : Bool} → Decides (FramesAdd b) t → not t ≡ true → Decides (InOrder fields b) false
-bad-sum fields b d e = fails (λ o. after-no d e (o .all-frames))
+      back : InOrder fields b → ThreadsOk fields b
+      back o = record { positions = o .areas Positions; frames = o .areas Frames; one-tree = o .one-tree; all-frames = o .all-frames; rest = o .rest }

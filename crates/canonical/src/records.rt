@@ -3,7 +3,7 @@ use crate::zeros::unused;
 use areas::count;
 use areas::word;
 use block::Area;
-use limits::Limits;
+use block::Layout;
 use members::Declared;
 use members::declared_as;
 use script::Section;
@@ -17,8 +17,7 @@ ghost use Rattle.script.specs.Statements.{WithinLayout};
 ghost use Rattle.machine.specs.Machine.{fieldCount};
 ghost use Rattle.block.specs.declared.Area.the-variants.{Objects, Positions, Frames};
 ghost use Rattle.block.specs.Layout.{most, counted, wordIn};
-ghost use Rattle.representation.specs.InOrder.{ObjectOk, PositionOk, FrameOk};
-ghost use Rattle.canonical.specs.Parts.{RecordOk, RecordsOk};
+ghost use Rattle.representation.specs.InOrder.{ObjectOk, PositionOk, FrameOk, RecordOk, RecordsOk};
 
 // How many fields a class type has. Question 8 was answered: at most 8.
 fn field_count(s: &[u8], t: u16) -> usize
@@ -38,13 +37,14 @@ fn object_fits(s: &[u8], block: &[u8], i: usize) -> bool
     requires { ⌜ WithinLayout (now s) × (length (now block) ≡ BLOCK) × (i < OBJECTS) ⌝ }
     ensures { λ r. ⌜ Decides (ObjectOk (fieldCount (now (s .entry))) (wordIn (now (block .entry)) Objects i)) r ⌝ }
 {
-    let shut = word(block, Area::Objects, i, 1);
+    let shut = word(block, Area::Objects, i, Layout::SHUT);
     if 1 < shut {
         return false;
     }
-    let class = word(block, Area::Objects, i, 0);
+    let class = word(block, Area::Objects, i, Layout::CLASS);
     let n = field_count(s, class);
-    unused(block, Area::Objects, i, 2 + n, 2 + Limits::CLASS_FIELDS)
+    let used = Layout::FIELDS + Layout::VALUE * n;
+    unused(block, Area::Objects, i, used, Layout::OBJECT_WIDTH)
 }
 
 // Is position i of a known kind, with 0 for each word without a meaning for that kind?
@@ -52,18 +52,24 @@ fn position_fits(block: &[u8], i: usize) -> bool
     requires { ⌜ (length (now block) ≡ BLOCK) × (i < POSITIONS) ⌝ }
     ensures { λ r. ⌜ Decides (PositionOk (wordIn (now (block .entry)) Positions i)) r ⌝ }
 {
-    let kind = word(block, Area::Positions, i, 0);
-    if kind == 1 {
-        return unused(block, Area::Positions, i, 3, 4);
+    let kind = word(block, Area::Positions, i, Layout::KIND);
+    if kind == Layout::RUNNING {
+        return unused(block, Area::Positions, i, Layout::RESULT, Layout::WAITING);
     }
-    if kind == 2 {
-        return unused(block, Area::Positions, i, 1, 3);
+    if kind == Layout::RETURNING {
+        return unused(block, Area::Positions, i, Layout::NODE, Layout::RESULT);
     }
-    if kind == 3 {
-        return unused(block, Area::Positions, i, 1, 5);
+    if kind == Layout::FAILED {
+        return unused(
+            block,
+            Area::Positions,
+            i,
+            Layout::NODE,
+            Layout::POSITION_WIDTH,
+        );
     }
-    if kind == 4 {
-        return unused(block, Area::Positions, i, 3, 4);
+    if kind == Layout::JOIN {
+        return unused(block, Area::Positions, i, Layout::RESULT, Layout::WAITING);
     }
     false
 }
@@ -73,15 +79,15 @@ fn frame_fits(block: &[u8], i: usize) -> bool
     requires { ⌜ (length (now block) ≡ BLOCK) × (i < FRAMES) ⌝ }
     ensures { λ r. ⌜ Decides (FrameOk (wordIn (now (block .entry)) Frames i)) r ⌝ }
 {
-    let kind = word(block, Area::Frames, i, 0);
-    if kind == 1 {
+    let kind = word(block, Area::Frames, i, Layout::KIND);
+    if kind == Layout::AWAITS {
         return true;
     }
-    if kind == 2 {
-        return unused(block, Area::Frames, i, 2, 3);
+    if kind == Layout::CASTS {
+        return unused(block, Area::Frames, i, Layout::ENV, Layout::FRAME_WIDTH);
     }
-    if kind == 3 {
-        return unused(block, Area::Frames, i, 2, 3);
+    if kind == Layout::LOCKS {
+        return unused(block, Area::Frames, i, Layout::ENV, Layout::FRAME_WIDTH);
     }
     false
 }
@@ -89,7 +95,7 @@ fn frame_fits(block: &[u8], i: usize) -> bool
 // Is record i of an area in order?
 fn record_fits(s: &[u8], block: &[u8], a: Area, i: usize) -> bool
     requires { ⌜ WithinLayout (now s) × (length (now block) ≡ BLOCK) × (i < most a) ⌝ }
-    ensures { λ r. ⌜ Decides (RecordOk (fieldCount (now (s .entry))) (now (block .entry)) a i) r ⌝ }
+    ensures { λ r. ⌜ Decides (RecordOk (fieldCount (now (s .entry))) a (wordIn (now (block .entry)) a i)) r ⌝ }
 {
     match a {
         Area::Objects => object_fits(s, block, i),

@@ -2,6 +2,7 @@
 use areas::count;
 use areas::word;
 use block::Area;
+use block::Layout;
 ghost use mathlib.Core.Path.{_≡_};
 ghost use Prim.Native.Nat.{suc, _<_, _≤_};
 ghost use lib.ListN.{length};
@@ -10,14 +11,15 @@ ghost use Rattle.limits.specs.Limits.{BLOCK, POSITIONS};
 ghost use Rattle.script.specs.Asking.{Decides};
 ghost use Rattle.block.specs.declared.Area.the-variants.{Positions};
 ghost use Rattle.block.specs.Layout.{counted};
-ghost use Rattle.canonical.specs.Parts.{After, OneTree, FramesAdd};
+ghost use Rattle.representation.specs.InOrder.{OneTree, FramesAdd};
+ghost use Rattle.canonical.specs.Parts.{After};
 
 // How many trees are still to come after a position of this kind: a thread is one of them, and a join makes two of one.
 fn after(kind: u16, trees: usize) -> usize
     requires { ⌜ (0 < trees) × (trees < WORD) ⌝ }
     ensures { λ r. ⌜ After kind trees r × (r ≤ suc trees) ⌝ }
 {
-    if kind == 4 {
+    if kind == Layout::JOIN {
         return trees + 1;
     }
     trees - 1
@@ -35,7 +37,7 @@ pub fn one_tree(block: &[u8]) -> bool
         if trees == 0 {
             return false;
         }
-        let kind = word(block, Area::Positions, i, 0);
+        let kind = word(block, Area::Positions, i, Layout::KIND);
         trees = after(kind, trees);
         i += 1;
     }
@@ -51,7 +53,7 @@ pub fn frames_add_up(block: &[u8]) -> bool
     let mut sum: usize = 0;
     let mut i: usize = 0;
     while i < n {
-        sum += word(block, Area::Positions, i, 4) as usize;
+        sum += word(block, Area::Positions, i, Layout::WAITING) as usize;
         i += 1;
     }
     sum == count(block, Area::Frames)

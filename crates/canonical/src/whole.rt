@@ -3,20 +3,21 @@ use crate::records::records_fit;
 use crate::trees::frames_add_up;
 use crate::trees::one_tree;
 use crate::zeros::blank;
-use crate::zeros::most_of;
-use crate::zeros::rest_blank;
+use crate::zeros::zeros;
 use block::Area;
+use block::Layout;
+use block::most_of;
 ghost use mathlib.Core.Path.{_≡_};
 ghost use lib.ListN.{length};
 ghost use Rattle.limits.specs.Limits.{BLOCK};
 ghost use Rattle.script.specs.Asking.{Decides};
 ghost use Rattle.script.specs.Statements.{WithinLayout};
 ghost use Rattle.machine.specs.Machine.{fieldCount};
-ghost use Rattle.representation.specs.InOrder.{InOrder};
-ghost use Rattle.canonical.specs.Parts.{AreaOk, AreasOk};
+ghost use Rattle.representation.specs.InOrder.{AreaOk, InOrder};
+ghost use Rattle.canonical.specs.Parts.{ThreadsOk};
 
 // Has an area at most as many records as places, each in order, and 0 in the other places?
-fn area_fits(s: &[u8], block: &[u8], a: Area) -> bool
+pub fn area_fits(s: &[u8], block: &[u8], a: Area) -> bool
     requires { ⌜ WithinLayout (now s) × (length (now block) ≡ BLOCK) ⌝ }
     ensures { λ r. ⌜ Decides (AreaOk (fieldCount (now (s .entry))) (now (block .entry)) a) r ⌝ }
 {
@@ -31,29 +32,15 @@ fn area_fits(s: &[u8], block: &[u8], a: Area) -> bool
     blank(block, a)
 }
 
-// The same of each area.
-fn areas_fit(s: &[u8], block: &[u8]) -> bool
+// Are positions and frames in order, form the positions one tree with as many frames as are counted, and is all after the areas 0?
+pub fn threads_in_order(s: &[u8], block: &[u8]) -> bool
     requires { ⌜ WithinLayout (now s) × (length (now block) ≡ BLOCK) ⌝ }
-    ensures { λ r. ⌜ Decides (AreasOk (fieldCount (now (s .entry))) (now (block .entry))) r ⌝ }
+    ensures { λ r. ⌜ Decides (ThreadsOk (fieldCount (now (s .entry))) (now (block .entry))) r ⌝ }
 {
-    if !area_fits(s, block, Area::Objects) {
-        return false;
-    }
-    if !area_fits(s, block, Area::Bindings) {
-        return false;
-    }
     if !area_fits(s, block, Area::Positions) {
         return false;
     }
-    area_fits(s, block, Area::Frames)
-}
-
-// 21, first half: are the bytes in order?
-pub fn in_order(s: &[u8], block: &[u8]) -> bool
-    requires { ⌜ WithinLayout (now s) × (length (now block) ≡ BLOCK) ⌝ }
-    ensures { λ r. ⌜ Decides (InOrder (fieldCount (now (s .entry))) (now (block .entry))) r ⌝ }
-{
-    if !areas_fit(s, block) {
+    if !area_fits(s, block, Area::Frames) {
         return false;
     }
     if !one_tree(block) {
@@ -62,5 +49,19 @@ pub fn in_order(s: &[u8], block: &[u8]) -> bool
     if !frames_add_up(block) {
         return false;
     }
-    rest_blank(block)
+    zeros(block, Layout::END, Layout::WORDS)
+}
+
+// 21, first half: are the bytes in order?
+pub fn in_order(s: &[u8], block: &[u8]) -> bool
+    requires { ⌜ WithinLayout (now s) × (length (now block) ≡ BLOCK) ⌝ }
+    ensures { λ r. ⌜ Decides (InOrder (fieldCount (now (s .entry))) (now (block .entry))) r ⌝ }
+{
+    if !area_fits(s, block, Area::Objects) {
+        return false;
+    }
+    if !area_fits(s, block, Area::Bindings) {
+        return false;
+    }
+    threads_in_order(s, block)
 }

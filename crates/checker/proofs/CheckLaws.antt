@@ -3,6 +3,7 @@ use Prim.Native.Nat.{ℕ, zero, suc, _<_, _≤_}
 use mathlib.Core.Path.{_≡_, refl, sym}
 use mathlib.Core.Bool.{Bool, true, false}
 use mathlib.Core.List.{List, [], _∷_, List·Memᴰ·not-nil}
+use mathlib.Core.Logic.{⊎-elim}
 use mathlib.Core.Option.{Option, none, some}
 use native.Mathlib.Omega.{arith}
 use lib.ListN.{length, getD, replicate}
@@ -10,15 +11,14 @@ use Rattle.script.specs.declared.Found.{Found}
 use Rattle.script.specs.declared.Found.the-variants.{At, Nothing}
 use Rattle.script.specs.declared.Question.{Question}
 use Rattle.script.specs.declared.Question.the-variants.{Length, Counts, Places}
-use Rattle.script.specs.declared.Section.{Section}
 use Rattle.limits.specs.Limits.{CONTENTS, FILE}
 use Rattle.script.specs.declared.Section.the-variants.{Nodes as nodes}
 use Rattle.script.specs.Lists.{named}
 use Rattle.script.specs.Section.{countOf, recordAt}
-use Rattle.script.specs.Syntax.{Node, n-null, n-var, n-select, n-update, n-call, n-bind, n-new, n-cast, n-fork, n-lock, Program}
+use Rattle.script.specs.Syntax.{Program}
 use Rattle.script.specs.Reading.{viewAt, programOf}
 use Rattle.script.specs.Statements.{WithinLayout}
-use Rattle.script.specs.Asking.{Asked, firstNo, atZero, Each, Lowest, all-good, lowest-at}
+use Rattle.script.specs.Asking.{Asked, firstNo, atZero, Asks, Each, FaultAt, Lowest, all-good, lowest-at}
 use Rattle.script.specs.Questions.{lengthTest, countsTest, placesTest, layoutQuestions}
 use Rattle.sections.specs.Laid.{Laid, foundOf}
 use Rattle.script.proofs.Tests.{says-yes}
@@ -32,38 +32,39 @@ use Rattle.typing.specs.Members.{typeIn}
 use Rattle.typing.specs.Typing.{bodiesOf, walk}
 use Rattle.typing.specs.Published.{WF-ENV}
 use Rattle.typing.specs.Check.{refusedOr, walked, checkOf}
-use Rattle.inference.specs.Tables.{EnvIs, NamesBelow, Named}
+use Rattle.inference.specs.Tables.{EnvIs, Named}
 use Rattle.checker.specs.Stages.{NodeThere, walkStage, memberStage, recordStage}
 use Rattle.typing.proofs.Points.{fault-there}
+use Rattle.inference.proofs.WalkLaws.{below-larger}
 
 -- the answer to some questions, and what comes after them
-abbrev pub Asks : List Asked → Verdict → Verdict
-Asks l r = refusedOr (firstNo l) r
+abbrev pub answerTo : List Asked → Verdict → Verdict
+answerTo l r = refusedOr (firstNo l) r
 
 module _ (q : Question) (l : List Asked) (v : Verdict) where
   -- a question about the script as a whole, by its test
-  pub whole-no : (b : Bool) → b ≡ false → Refused q 0 ≡ Asks (record { question = q; no-at = atZero b } ∷ l) v
+  pub whole-no : (b : Bool) → b ≡ false → Refused q 0 ≡ answerTo (record { question = q; no-at = atZero b } ∷ l) v
   unfolding firstNo
   whole-no b e = rw e
 
-  pub whole-yes : (b : Bool) (r : Verdict) → b ≡ true → r ≡ Asks l v → r ≡ Asks (record { question = q; no-at = atZero b } ∷ l) v
+  pub whole-yes : (b : Bool) (r : Verdict) → b ≡ true → r ≡ answerTo l v → r ≡ answerTo (record { question = q; no-at = atZero b } ∷ l) v
   unfolding firstNo
   whole-yes b r e h = rw e h
 
   -- a question about records, by what was found
-  pub records-no : (o : Option ℕ) (f : Found) (place : ℕ) → f ≡ foundOf o → f ≡ At place → Refused q place ≡ Asks (record { question = q; no-at = o } ∷ l) v
+  pub records-no : (o : Option ℕ) (f : Found) (place : ℕ) → f ≡ foundOf o → f ≡ At place → Refused q place ≡ answerTo (record { question = q; no-at = o } ∷ l) v
   unfolding firstNo
   records-no none f place e h = absurd (let z : _≡_ {A = ℕ} 0 1 = cc in omega arith)
   records-no (some i) f place e h = let d : place ≡ i = cc in rw d
 
-  pub records-yes : (o : Option ℕ) (f : Found) (r : Verdict) → f ≡ foundOf o → f ≡ Nothing → r ≡ Asks l v → r ≡ Asks (record { question = q; no-at = o } ∷ l) v
+  pub records-yes : (o : Option ℕ) (f : Found) (r : Verdict) → f ≡ foundOf o → f ≡ Nothing → r ≡ answerTo l v → r ≡ answerTo (record { question = q; no-at = o } ∷ l) v
   unfolding firstNo
   records-yes none f r e h k = k
   records-yes (some i) f r e h k = absurd (let z : _≡_ {A = ℕ} 0 1 = cc in omega arith)
 
 -- What is left to ask: an answer to the questions of l, and to v after them, is the whole answer w.
 pub record Left (l : List Asked) (v w : Verdict) : Type 0 where
-  pub then : (r : Verdict) → r ≡ Asks l v → r ≡ w
+  pub then : (r : Verdict) → r ≡ answerTo l v → r ≡ w
 
 pub left-whole : {q : Question} {b : Bool} {l : List Asked} {v w : Verdict} → Left (record { question = q; no-at = atZero b } ∷ l) v w → b ≡ true → Left l v w
 left-whole {q} {b} {l} {v} left e = record { then = λ r h. left .then r (whole-yes q l v b r e h) }
@@ -116,24 +117,28 @@ found-some : (o : Option ℕ) (f : Found) (i : ℕ) → f ≡ foundOf o → f �
 found-some none f i e h = absurd (let z : _≡_ {A = ℕ} 0 1 = cc in omega arith)
 found-some (some j) f i e h = let d : i ≡ j = cc in rw d
 
-each-of : {s : List ℕ} {Good : Section → ℕ → Type 0} {o : Option ℕ} → Lowest s Good o → o ≡ none → Each s Good
+each-of : {s : List ℕ} {l : Asks} {o : Option ℕ} → Lowest s l o → o ≡ none → Each s l
 each-of (all-good g) e = g
-each-of (lowest-at x f) e = absurd (let z : _≡_ {A = ℕ} 0 1 = cc in omega arith)
+each-of (lowest-at n) e = absurd (let z : _≡_ {A = ℕ} 0 1 = cc in omega arith)
 
-place-of : {s : List ℕ} {Good : Section → ℕ → Type 0} {o : Option ℕ} (place : ℕ) → Laid s → Lowest s Good o → o ≡ some place → place ≤ FILE
+-- A place at fault is within the file.
+fault-within : {s : List ℕ} → Laid s → (l : Asks) (place : ℕ) → FaultAt s l place → place ≤ FILE
 unfolding recordAt
-place-of place l (all-good g) e = absurd (let z : _≡_ {A = ℕ} 0 1 = cc in omega arith)
-place-of {s} place l (lowest-at {place = p} x f) e =
-    let d : place ≡ p = cc in
-    rw (d, ← x .there) (record-within s (x .section) (x .index) l (omega (arith, x .within)))
+fault-within {s} laid [] place f = absurd f
+fault-within {s} laid (a ∷ l) place f =
+    ⊎-elim (λ x. rw (← x .there) (record-within s (a .0) (x .index) laid (omega (arith, x .within)))) (λ y. fault-within laid l place y) f
 
-module _ {s : List ℕ} {Good : Section → ℕ → Type 0} {o : Option ℕ} (f : Found) (w : Lowest s Good o) (e : f ≡ foundOf o) where
+place-of : {s : List ℕ} {l : Asks} {o : Option ℕ} (place : ℕ) → Laid s → Lowest s l o → o ≡ some place → place ≤ FILE
+place-of place laid (all-good g) e = absurd (let z : _≡_ {A = ℕ} 0 1 = cc in omega arith)
+place-of {s} {l} place laid (lowest-at {place = p} n) e = let d : place ≡ p = cc in rw d (fault-within laid l p (n .fault))
+
+module _ {s : List ℕ} {l : Asks} {o : Option ℕ} (f : Found) (w : Lowest s l o) (e : f ≡ foundOf o) where
   -- Nothing was found: the statement holds of each record. Something was: its place fits a word.
-  pub all-fit : f ≡ Nothing → Each s Good
+  pub all-fit : f ≡ Nothing → Each s l
   all-fit h = each-of w (found-none o f e h)
 
   pub place-fits : (place : ℕ) → Laid s → f ≡ At place → place ≤ FILE
-  place-fits place l h = place-of place l w (found-some o f place e h)
+  place-fits place laid h = place-of place laid w (found-some o f place e h)
 
 -- The contents of a script within layout and limits are in order.
 pub laid-within : {s : List ℕ} → WithinLayout s → Laid s
@@ -173,16 +178,4 @@ env-none p n = record { types = WF-ENV (λ b m. absurd (List·Memᴰ·not-nil m)
 
 -- A larger table serves too.
 pub named-more : {s : List ℕ} {m : ℕ} (n : ℕ) → m ≤ n → Named s m → Named s n
-named-more n h w = record { low = omega (arith, w .low); names = λ k l. names-more _ n (viewAt _ k) h (w .names k l) }
-  where
-    names-more : (m n : ℕ) (v : Node) → m ≤ n → NamesBelow m v → NamesBelow n v
-    names-more m n n-null h b = tt
-    names-more m n (n-var x) h b = omega arith
-    names-more m n (n-select x f) h b = omega arith
-    names-more m n (n-update x f p) h b = omega arith
-    names-more m n (n-call x f p) h b = omega arith
-    names-more m n (n-bind x p q) h b = omega arith
-    names-more m n (n-new c) h b = tt
-    names-more m n (n-cast t p) h b = tt
-    names-more m n (n-fork p q r) h b = tt
-    names-more m n (n-lock x p) h b = omega arith
+named-more {m = m} n h w = record { low = omega (arith, w .low); names = λ k l. below-larger m n (viewAt _ k) h (w .names k l) }

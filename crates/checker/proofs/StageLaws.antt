@@ -8,7 +8,7 @@ use Rattle.script.specs.declared.Found.{Found}
 use Rattle.script.specs.declared.Found.the-variants.{At, Nothing}
 use Rattle.script.specs.declared.Question.the-variants.{Interfaces, Owners, Types, Nodes, Names, Joins, Classes}
 use Rattle.script.specs.Reading.{programOf}
-use Rattle.script.specs.Asking.{firstNo, lowestOut}
+use Rattle.script.specs.Asking.{firstNo, lowestIn}
 use Rattle.script.specs.Questions.{interfacesTest, ownersTest, typesTest, nodesTest, namesTest, layoutQuestions}
 use Rattle.script.specs.Statements.{OwnersAre, WithinLayout}
 use Rattle.sections.specs.Laid.{Laid, foundOf}
@@ -21,7 +21,7 @@ use Rattle.checker.specs.Stages.{walkStage, memberStage, recordStage}
 use Rattle.checker.proofs.CheckLaws.{Left, left-whole, left-records, no-whole, no-records, all-fit}
 
 -- Questions 4 to 8.
-module _ (s : List ℕ) (f₄ : Found) (e₄ : f₄ ≡ foundOf (lowestOut s (interfacesTest s))) where
+module _ (s : List ℕ) (f₄ : Found) (e₄ : f₄ ≡ foundOf (lowestIn s (interfacesTest s))) where
   ask-interfaces : Left (drop 3 (layoutQuestions s)) (memberStage s) (recordStage s)
   unfolding recordStage
   ask-interfaces = record { then = λ r h. h }
@@ -39,7 +39,7 @@ module _ (s : List ℕ) (f₄ : Found) (e₄ : f₄ ≡ foundOf (lowestOut s (in
     unfolding layoutQuestions
     owners-no h = no-whole ask-owners h
 
-    module _ (y₅ : ownersTest s ≡ true) (f₆ : Found) (e₆ : f₆ ≡ foundOf (lowestOut s (typesTest s))) where
+    module _ (y₅ : ownersTest s ≡ true) (f₆ : Found) (e₆ : f₆ ≡ foundOf (lowestIn s (typesTest s))) where
       ask-types : Left (drop 5 (layoutQuestions s)) (memberStage s) (recordStage s)
       unfolding layoutQuestions
       ask-types = left-whole ask-owners y₅
@@ -48,7 +48,7 @@ module _ (s : List ℕ) (f₄ : Found) (e₄ : f₄ ≡ foundOf (lowestOut s (in
       unfolding layoutQuestions
       types-no place h = no-records ask-types f₆ place e₆ h
 
-      module _ (n₆ : f₆ ≡ Nothing) (f₇ : Found) (e₇ : f₇ ≡ foundOf (lowestOut s (nodesTest s))) where
+      module _ (n₆ : f₆ ≡ Nothing) (f₇ : Found) (e₇ : f₇ ≡ foundOf (lowestIn s (nodesTest s))) where
         ask-nodes : Left (drop 6 (layoutQuestions s)) (memberStage s) (recordStage s)
         unfolding layoutQuestions
         ask-nodes = left-records ask-types f₆ e₆ n₆
@@ -57,7 +57,7 @@ module _ (s : List ℕ) (f₄ : Found) (e₄ : f₄ ≡ foundOf (lowestOut s (in
         unfolding layoutQuestions
         nodes-no place h = no-records ask-nodes f₇ place e₇ h
 
-        module _ (n₇ : f₇ ≡ Nothing) (f₈ : Found) (e₈ : f₈ ≡ foundOf (lowestOut s (namesTest s))) where
+        module _ (n₇ : f₇ ≡ Nothing) (f₈ : Found) (e₈ : f₈ ≡ foundOf (lowestIn s (namesTest s))) where
           ask-names : Left (drop 7 (layoutQuestions s)) (memberStage s) (recordStage s)
           unfolding layoutQuestions
           ask-names = left-records ask-nodes f₇ e₇ n₇
@@ -87,7 +87,7 @@ module _ (s : List ℕ) (f₄ : Found) (e₄ : f₄ ≡ foundOf (lowestOut s (in
               }
 
 -- Questions 9 and 10.
-module _ (s : List ℕ) (f₉ : Found) (e₉ : f₉ ≡ foundOf (lowestOut s (joinsTest s (programOf s)))) where
+module _ (s : List ℕ) (f₉ : Found) (e₉ : f₉ ≡ foundOf (lowestIn s (joinsTest s (programOf s)))) where
   ask-joins : Left (memberQuestions s (programOf s)) (walkStage s) (memberStage s)
   unfolding memberStage
   ask-joins = record { then = λ r h. h }
@@ -96,7 +96,7 @@ module _ (s : List ℕ) (f₉ : Found) (e₉ : f₉ ≡ foundOf (lowestOut s (jo
   unfolding memberQuestions
   joins-no place h = no-records ask-joins f₉ place e₉ h
 
-  module _ (n₉ : f₉ ≡ Nothing) (f₁₀ : Found) (e₁₀ : f₁₀ ≡ foundOf (lowestOut s (classesTest s (programOf s)))) where
+  module _ (n₉ : f₉ ≡ Nothing) (f₁₀ : Found) (e₁₀ : f₁₀ ≡ foundOf (lowestIn s (classesTest s (programOf s)))) where
     ask-classes : Left (drop 1 (memberQuestions s (programOf s))) (walkStage s) (memberStage s)
     unfolding memberQuestions
     ask-classes = left-records ask-joins f₉ e₉ n₉

@@ -20,9 +20,6 @@ ghost use Rattle.script.specs.Statements.{WithinLayout};
 ghost use Rattle.typing.specs.Check.{checkOf, walked};
 ghost use Rattle.checker.specs.Stages.{NodeThere, walkStage, memberStage, recordStage};
 ghost use Rattle.members.specs.Tables.{Starts};
-ghost use Rattle.sharing.specs.Tables.{Forks};
-ghost use Rattle.sharing.specs.Free.{NAMES};
-ghost use Rattle.inference.specs.Tables.{FEW-NAMES, Named};
 
 // The walk's answer, with the node's record as the place.
 fn placed(s: &[u8], a: Answer) -> Verdict
@@ -38,27 +35,7 @@ fn placed(s: &[u8], a: Answer) -> Verdict
     }
 }
 
-// The walk with a table for the variables below 1,024, which most scripts are content with.
-fn walk_small(s: &[u8], starts: &[u16], forks: &[u8]) -> Verdict
-    requires { ⌜ WithinLayout (now s) × Starts (now s) (now starts) × Forks (now s) (now forks) × Named (now s) FEW-NAMES ⌝ }
-    ensures { λ r. ⌜ r ≡ walkStage (now (s .entry)) ⌝ }
-{
-    let mut env = [0u16; FEW_NAMES];
-    let a = walk_script(s, starts, forks, &mut env);
-    placed(s, a)
-}
-
-// The walk with a table for every variable.
-fn walk_large(s: &[u8], starts: &[u16], forks: &[u8]) -> Verdict
-    requires { ⌜ WithinLayout (now s) × Starts (now s) (now starts) × Forks (now s) (now forks) × Named (now s) NAMES ⌝ }
-    ensures { λ r. ⌜ r ≡ walkStage (now (s .entry)) ⌝ }
-{
-    let mut env = [0u16; NAMES];
-    let a = walk_script(s, starts, forks, &mut env);
-    placed(s, a)
-}
-
-// 11 to 15.
+// 11 to 15. A table for the variables below 1,024 is enough for most scripts.
 fn walk_verdict(s: &[u8], starts: &[u16]) -> Verdict
     requires { ⌜ WithinLayout (now s) × Starts (now s) (now starts) ⌝ }
     ensures { λ r. ⌜ r ≡ walkStage (now (s .entry)) ⌝ }
@@ -66,9 +43,13 @@ fn walk_verdict(s: &[u8], starts: &[u16]) -> Verdict
     let mut forks = [0u8; Limits::NODES];
     fill_forks(s, &mut forks);
     if name_bound(s) <= FEW_NAMES {
-        return walk_small(s, starts, &forks);
+        let mut env = [0u16; FEW_NAMES];
+        let a = walk_script(s, starts, &forks, &mut env);
+        return placed(s, a);
     }
-    walk_large(s, starts, &forks)
+    let mut env = [0u16; NAMES];
+    let a = walk_script(s, starts, &forks, &mut env);
+    placed(s, a)
 }
 
 // 9 to 15.

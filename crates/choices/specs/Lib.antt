@@ -1,1 +1,1 @@
-pub mod Chose
+pub mod PerformsChoice

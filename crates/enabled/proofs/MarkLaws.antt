@@ -16,7 +16,7 @@ use Rattle.tree.specs.declared.Tree.{Tree}
 use Rattle.enabled.specs.Looks.{Standing}
 use Rattle.calls.specs.Calls.{flagsOf}
 
--- The first n flags are set, those of the block b with the tree in hand.
+-- The first n flags are set, those of the block b with the tree.
 pub record Marked (s b : List ℕ) (tree : Tree) (flags : List ℕ) (n : ℕ) : Type 0 where
   pub long : length flags ≡ FLAGS
   pub most : n ≤ FLAGS

@@ -1,4 +1,4 @@
--- What a look at the configuration in hand says: which positions can move, and how the run has ended, if it has.
+-- What a look at the configuration says: which positions can move, and how the run has ended, if it has.
 use Prim.Native.Nat.{ℕ}
 use mathlib.Core.List.{List}
 use mathlib.Core.Option.{Option, none, some}
@@ -8,7 +8,7 @@ use Rattle.machine.specs.Machine.{limits}
 use Rattle.machine.specs.Accepted.{AcceptedCode}
 use Rattle.machine.specs.WellFormed.{WellFormed}
 use Rattle.tree.specs.declared.Tree.{Tree}
-use Rattle.state.specs.Hand.{InHand}
+use Rattle.state.specs.Represents.{Represents}
 use Rattle.enabled.specs.declared.Looked.{Looked}
 use Rattle.enabled.specs.declared.Looked.the-variants.{GoesOn, Ends}
 
@@ -16,7 +16,7 @@ use Rattle.enabled.specs.declared.Looked.the-variants.{GoesOn, Ends}
 pub record Standing (s b : List ℕ) (self : Tree) : Type 0 where
   pub config : Config
   pub type : ℕ
-  pub hand : InHand b self config
+  pub represents : Represents b self config
   pub accepted : AcceptedCode (codeOf s) type
   pub formed : WellFormed (codeOf s) limits type config
 

@@ -1,9 +1,7 @@
 // Which positions can move, and what Run sees when it looks.
 use crate::Looked;
-use block::Area;
-use environments::Lookup;
 use machine::Ending;
-use machine::Value;
+use moves::Access;
 use script::Section;
 use tree::Cell;
 use tree::Fold;
@@ -18,61 +16,41 @@ ghost use Rattle.script.specs.Statements.{WithinLayout};
 ghost use Rattle.machine.specs.declared.Frame.{Frame};
 ghost use Rattle.machine.specs.Config as machine;
 ghost use Rattle.machine.specs.Config.{running, join, codeOf, Stores, Config};
-ghost use Rattle.machine.specs.Machine.{scope, find, object, lockObject, lockTarget, phase, fold, Path, limits, able, canMove, size};
+ghost use Rattle.machine.specs.Machine.{scope, find, lockTarget, phase, fold, Path, limits, able, canMove, size};
 ghost use Rattle.machine.specs.Runs.{anyAble, look as seen};
 ghost use Rattle.representation.specs.Preorder.{framesAbove};
 ghost use Rattle.tree.specs.Entries.{Tidy};
 ghost use Rattle.tree.specs.Parts.{Stands};
 ghost use Rattle.environments.specs.Chains.{Chain};
-ghost use Rattle.state.specs.Hand.{Else, Seen, Sight};
-ghost use Rattle.moves.specs.Came.{Here};
+ghost use Rattle.state.specs.Represents.{Rest, StateAt, SomeState};
+ghost use Rattle.moves.specs.Performs.{AtPosition};
 ghost use Rattle.enabled.specs.Looks.{Standing, lookOf};
 
-// "open shuts and leaves a lock frame; held by this thread enters with no frame; shut and not held by this thread cannot move."
-fn object_open(block: &[u8], tree: Tree, i: usize, o: u16) -> bool
-    requires { ⌜ Sight (now block) tree i ⌝ }
-    ensures { λ r. ⌜
-        ((c : Config) (p : Path) (rest : Else) (a₀ a env k : ℕ) (fs : List Frame) →
-        Here (now (block .entry)) tree i c p (running a₀ env fs) rest →
-        r ≡ able (lockObject (c .stores) (framesAbove [] (c .tree) p) fs a env k o (object (c .stores .objects) o)))
-        ⌝ }
-{
-    if areas::count(block, Area::Objects) <= o as usize {
-        return false;
-    }
-    let shut = areas::word(block, Area::Objects, o as usize, 1);
-    if shut == 0 {
-        return true;
-    }
-    state::holds(block, tree, i, o)
-}
-
-// Can the thread at i move, whose node is a lock on variable x? "Lock: null fails"
+// Can the thread at i move, whose node is a lock on variable x?
 fn lock_open(block: &[u8], tree: Tree, i: usize, env: u16, x: u16) -> bool
-    requires { ⌜ Sight (now block) tree i × Chain (now block) env ⌝ }
+    requires { ⌜ SomeState (now block) tree i × Chain (now block) env ⌝ }
     ensures { λ r. ⌜
-        ((c : Config) (p : Path) (rest : Else) (a₀ a k : ℕ) (fs : List Frame) →
-        Here (now (block .entry)) tree i c p (running a₀ env fs) rest →
+        ((c : Config) (p : Path) (rest : Rest) (a₀ a k : ℕ) (fs : List Frame) →
+        AtPosition (now (block .entry)) tree i c p (running a₀ env fs) rest →
         r ≡ able (lockTarget (c .stores) (framesAbove [] (c .tree) p) fs a env k (find (scope (c .stores .bindings) env) x)))
         ⌝ }
 {
-    let found = environments::variable(block, env, x);
-    let Lookup::Bound(target) = found else {
-        return false;
-    };
-    let Value::Ref(o) = target else {
-        return true;
-    };
-    object_open(block, tree, i, o)
+    let access = moves::lock_access(block, tree, i, env, x);
+    match access {
+        Access::Stays => false,
+        Access::Null => true,
+        Access::Open(_) => true,
+        Access::Held => true,
+    }
 }
 
 // Can the thread at i move, which is at node a? "A thread waits when its move due is a lock on a shut object that it does not hold; unless waiting, finished or
 // failed, it can move."
 fn node_can_move(s: &[u8], block: &[u8], tree: Tree, i: usize, a: u16, env: u16) -> bool
-    requires { ⌜ WithinLayout (now s) × Sight (now block) tree i × Chain (now block) env × (a < countOf (now s) nodes) ⌝ }
+    requires { ⌜ WithinLayout (now s) × SomeState (now block) tree i × Chain (now block) env × (a < countOf (now s) nodes) ⌝ }
     ensures { λ r. ⌜
-        ((x : Standing (now (s .entry)) (now (block .entry)) tree) (p : Path) (rest : Else) (fs : List Frame) →
-        Here (now (block .entry)) tree i (x .config) p (running a env fs) rest →
+        ((x : Standing (now (s .entry)) (now (block .entry)) tree) (p : Path) (rest : Rest) (fs : List Frame) →
+        AtPosition (now (block .entry)) tree i (x .config) p (running a env fs) rest →
         r ≡ canMove (codeOf (now (s .entry))) limits (x .config) i)
         ⌝ }
 {
@@ -88,8 +66,8 @@ fn node_can_move(s: &[u8], block: &[u8], tree: Tree, i: usize, a: u16, env: u16)
 fn join_can_move(tree: Tree, i: usize) -> bool
     requires { ⌜ Tidy tree × Stands tree i ⌝ }
     ensures { λ r. ⌜
-        ((b : List ℕ) (rest : Else) (st : Stores) (fs : List Frame) (a e : ℕ) (left right : machine.Tree) →
-        Seen b tree i rest st (join fs a e left right) →
+        ((b : List ℕ) (rest : Rest) (st : Stores) (fs : List Frame) (a e : ℕ) (left right : machine.Tree) →
+        StateAt b tree i rest st (join fs a e left right) →
         r ≡ able (fold st fs a e (phase left) (phase right)))
         ⌝ }
 {

@@ -18,8 +18,8 @@ use Rattle.machine.specs.Machine.{limits}
 use Rattle.machine.specs.Runs.{report}
 use Rattle.calls.specs.declared.LentQuestion.the-variants.{BlockLength, BufferLength, BlockForm}
 use Rattle.calls.specs.Calls.{lentNumber, configOf, askForm, blockAsked, ranFrom, runOf}
-use Rattle.replies.specs.declared.Played.{Played}
-use Rattle.replies.specs.Plays.{Reported, Plays}
+use Rattle.replies.specs.declared.RunResult.{RunResult}
+use Rattle.replies.specs.RunResults.{Reported, ResultOfRun}
 use Rattle.engine.proofs.Replies.{accepts}
 use Rattle.engine.specs.declared.run.RunReply.{RunReply}
 
@@ -31,17 +31,17 @@ pub within : (s : List ℕ) (t : ℕ) → checkOf s ≡ Accepted t → WithinLay
 within s t e = outside-refused s t e
 
 -- what the block held
-not-formed : (s b ns after : List ℕ) (p : Played) (q : Option Config) → Plays s b ns q after p → not (p .formed) ≡ true → (q ≡ none) × (after ≡ b)
+not-formed : (s b ns after : List ℕ) (p : RunResult) (q : Option Config) → ResultOfRun s b ns q after p → not (p .formed) ≡ true → (q ≡ none) × (after ≡ b)
 not-formed s b ns after p none h f = (refl, h .1)
 not-formed s b ns after p (some c) h f = absurd (true-false (sym f ∙ ap not (h .formed)))
 
-pub record Found (s b ns after : List ℕ) (p : Played) (q : Option Config) : Type 0 where
+pub record Found (s b ns after : List ℕ) (p : RunResult) (q : Option Config) : Type 0 where
   pub config : Config
   pub is : q ≡ some config
   pub reported : Reported (report (codeOf s) limits config ns) after p
 
-is-formed : (s b ns after : List ℕ) (p : Played) (q : Option Config) → Plays s b ns q after p → not (p .formed) ≡ false → Found s b ns after p q
-is-formed s b ns after p none h f = absurd (true-false (sym (ap not (ap (λ (x : Played). x .formed) (h .0))) ∙ f))
+is-formed : (s b ns after : List ℕ) (p : RunResult) (q : Option Config) → ResultOfRun s b ns q after p → not (p .formed) ≡ false → Found s b ns after p q
+is-formed s b ns after p none h f = absurd (true-false (sym (ap not (ap (λ (x : RunResult). x .formed) (h .0))) ∙ f))
 is-formed s b ns after p (some c) h f = record { config = c; is = refl; reported = h }
 
 module _ (s b ns : List ℕ) where
@@ -74,7 +74,7 @@ module _ (s b ns : List ℕ) where
       unfolding runOf blockAsked
       asked few = rw (acc, eq-eqb _ _ long, le-leb _ _ few)
 
-      module _ {after : List ℕ} (few : length ns ≤ CHOICES) (p : Played) (plays : Plays s b ns (configOf s t b) after p) where
+      module _ {after : List ℕ} (few : length ns ≤ CHOICES) (p : RunResult) (plays : ResultOfRun s b ns (configOf s t b) after p) where
         pub run-form-refused : (r : RunReply) (number : ℕ) → r ≡ Refusal number 0 → not (p .formed) ≡ true → number ≡ lentNumber BlockForm → RunSays r after
         run-form-refused r number e f n = let h = not-formed s b ns after p (configOf s t b) plays f in rw (asked few, h .0, e, n, h .1) (refl, (refl, (refl, (refl, (refl, refl)))))
 

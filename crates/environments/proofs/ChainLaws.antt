@@ -14,8 +14,8 @@ use Rattle.machine.specs.Config.{Binding}
 use Rattle.machine.specs.Machine.{scope, find}
 use Rattle.machine.proofs.Stores.{scope-older, scope-newest, scope-empty}
 use Rattle.block.specs.declared.Area.the-variants.{Bindings}
-use Rattle.block.specs.Layout.{wordIn}
-use Rattle.block.specs.Decode.{valueOf}
+use Rattle.block.specs.Layout.{wordIn, NAME, BOUND, LINK}
+use Rattle.block.specs.Values.{valueIn}
 use Rattle.environments.specs.declared.Lookup.the-variants.{Unbound, Bound}
 use Rattle.environments.specs.Chains.{bindingCount, bindingAt, newest, bindingsIn, Chain, lookupOf}
 
@@ -65,31 +65,30 @@ module _ {b : List ℕ} {env x : ℕ} (ch : Chain b env) where
         w .same ∙ ap (λ (l : List Binding). find l x) (ap (scope (bindingsIn b)) (sym s) ∙ chain-link b env (e - 1) ch (omega (arith, w .within)))
 
     pub found :
-        (name word : ℕ) (v : Value)
-        → name ≡ wordIn b Bindings (e - 1) 0
+        (name : ℕ) (v : Value)
+        → name ≡ wordIn b Bindings (e - 1) NAME
         → name ≡ x
-        → word ≡ wordIn b Bindings (e - 1) 2
-        → v ≡ valueOf word
+        → v ≡ valueIn (wordIn b Bindings (e - 1)) BOUND
         → Bound v ≡ lookupOf (find (scope (bindingsIn b) env) x)
     unfolding named
-    found name word v n h k i =
+    found name v n h k =
         let here : find (bindingAt b (e - 1) ∷ scope (bindingsIn b) (bindingAt b (e - 1) .link)) x ≡ some (bindingAt b (e - 1)) =
-        rw (eq-eqb (wordIn b Bindings (e - 1) 0) x (sym n ∙ h))
+        rw (eq-eqb (wordIn b Bindings (e - 1) NAME) x (sym n ∙ h))
         in
-        ap Bound (i ∙ ap valueOf k) ∙ sym (ap lookupOf (step ∙ here))
+        ap Bound k ∙ sym (ap lookupOf (step ∙ here))
 
     pub reached : e - 1 < BINDINGS
     reached = omega (arith, w .within, ch .few)
 
-    pub nearer : (link : ℕ) → link ≡ wordIn b Bindings (e - 1) 3 → link < e
+    pub nearer : (link : ℕ) → link ≡ wordIn b Bindings (e - 1) LINK → link < e
     nearer link l = omega (arith, ch .links (e - 1) (omega (arith, w .within)))
 
-    pub onward : (name link : ℕ) → name ≡ wordIn b Bindings (e - 1) 0 → (name ≡ x → ⊥) → link ≡ wordIn b Bindings (e - 1) 3 → Walked b env x link
+    pub onward : (name link : ℕ) → name ≡ wordIn b Bindings (e - 1) NAME → (name ≡ x → ⊥) → link ≡ wordIn b Bindings (e - 1) LINK → Walked b env x link
     unfolding named
     onward name link n h l =
         record {
           within = omega (arith, w .within, ch .links (e - 1) (omega (arith, w .within)));
-          same = step ∙ rw (ne-eqb (wordIn b Bindings (e - 1) 0) x (λ m. h (n ∙ m)), l);
+          same = step ∙ rw (ne-eqb (wordIn b Bindings (e - 1) NAME) x (λ m. h (n ∙ m)), l);
         }
 
   pub not-found : {e : ℕ} → Walked b env x e → (0 < e → ⊥) → Unbound ≡ lookupOf (find (scope (bindingsIn b) env) x)

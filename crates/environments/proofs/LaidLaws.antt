@@ -10,16 +10,17 @@ use lib.Seq.{getD-append-add}
 use Rattle.words.specs.Word.{bytes}
 use Rattle.limits.specs.Limits.{BLOCK}
 use Rattle.machine.specs.declared.Value.{Value}
-use Rattle.machine.specs.declared.Value.the-variants.{Null as nil, Ref as ref}
+use Rattle.machine.specs.declared.Value.the-variants.{Null as nil}
 use Rattle.machine.specs.Config.{Object, Binding}
 use Rattle.machine.specs.Machine.{object, setShut, setFields}
 use Rattle.block.specs.declared.Area.the-variants.{Objects, Bindings, Frames}
-use Rattle.block.specs.Layout.{width, counted, wordIn}
-use Rattle.block.specs.Block.{valueWord, objectWords, bindingWords, frameWords, Parts, laid}
+use Rattle.block.specs.Rows.{wordOf}
+use Rattle.block.specs.Layout.{width, counted, wordIn, NAME, TYPE, BOUND, LINK}
+use Rattle.block.specs.Block.{objectWords, bindingWords, frameWords, Parts, laid}
 use Rattle.representation.specs.Changed.{withShut, withField}
-use Rattle.block.specs.Decode.{valueOf}
 use Rattle.block.specs.Fits.{Few}
 use Rattle.block.proofs.Rows.{row-at}
+use Rattle.block.proofs.Values.{value-back, value-same}
 use Rattle.block.proofs.Words.{laid-bytes, count-is, word-is}
 use Rattle.environments.specs.Chains.{bindingAt, newest, bindingsIn}
 
@@ -36,10 +37,6 @@ newest-is f (y ∷ ys) d h =
     let rest : newest f (length ys) ≡ ys =
     newest-is f ys d (λ i k. h i (omega arith) ∙ rw (reverse-cons y ys) (List·getD-append (reverse ys) (y ∷ []) d i (omega arith))) in
     cc
-
-pub value-back : (v : Value) → valueOf (valueWord v) ≡ v
-value-back nil = refl
-value-back (ref o) = refl
 
 same-binding : (n t l : ℕ) (v : Value) (y : Binding) → n ≡ y .name → t ≡ y .type → v ≡ y .value → l ≡ y .link → record { name = n; type = t; value = v; link = l } ≡ y
 same-binding n t l v y hn ht hv hl = rw (hn, ht, hv, hl)
@@ -71,11 +68,12 @@ module _ {b : List ℕ} (p : Parts) (is : b ≡ bytes (laid p)) where
 
     binding-read : (i : ℕ) (d : Binding) → i < length (p .bindings) → bindingAt b i ≡ getD (p .bindings) i d
     binding-read i d h =
-        let n = binding-cell i 0 d h (omega arith) in
-        let t = binding-cell i 1 d h (omega arith) in
-        let v = ap valueOf (binding-cell i 2 d h (omega arith)) ∙ value-back (getD (p .bindings) i d .value) in
-        let l = binding-cell i 3 d h (omega arith) in
-        same-binding _ _ _ _ (getD (p .bindings) i d) n t v l
+        let y = getD (p .bindings) i d in
+        let n = binding-cell i NAME d h (omega arith) in
+        let t = binding-cell i TYPE d h (omega arith) in
+        let v = value-same (wordIn b Bindings i) (wordOf (bindingWords y)) BOUND (λ m k. binding-cell i (BOUND + m) d h (omega arith)) ∙ value-back (y .value) in
+        let l = binding-cell i LINK d h (omega arith) in
+        same-binding _ _ _ _ y n t v l
 
     -- the bindings that lie in the block, newest first
     pub bindings-read : (bs : List Binding) → p .bindings ≡ reverse bs → bindingsIn b ≡ bs

@@ -1,3 +1,4 @@
 pub mod ChainLaws
 pub mod TableLaws
 pub mod LaidLaws
+pub mod UnderLaws

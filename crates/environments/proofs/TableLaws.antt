@@ -18,7 +18,7 @@ use Rattle.machine.specs.Machine.{scope, slot, context}
 use Rattle.machine.proofs.Stores.{scope-empty}
 use Rattle.block.specs.declared.Area.the-variants.{Bindings}
 use Rattle.block.specs.Layout.{wordIn}
-use Rattle.environments.specs.Chains.{bindingCount, bindingAt, bindingsIn, Chain, Typed, Zeros, Filled, orElse, Noted, Struck}
+use Rattle.environments.specs.Chains.{bindingCount, bindingAt, bindingsIn, Chain, Typed, Zeros, Filled, orElse, TypeStored, TypeCleared}
 use Rattle.environments.proofs.ChainLaws.{chain-link}
 
 -- a word past the end of a table
@@ -26,17 +26,17 @@ past : (table : List ℕ) (x : ℕ) → length table ≤ x → getD table x 0 �
 past table x h = List·getD-eq-default table 0 {n = x} h
 
 module _ (table : List ℕ) (name : ℕ) where
-  pub noted-absent : (t : ℕ) → length table ≤ name → Noted table name t table
+  pub noted-absent : (t : ℕ) → length table ≤ name → TypeStored table name t table
   noted-absent t h = record { size = refl; here = λ l. absurd (omega arith); elsewhere = λ x n. refl }
 
-  pub noted-before : (t : ℕ) → (getD table name 0 ≡ 0 → ⊥) → Noted table name t table
+  pub noted-before : (t : ℕ) → (getD table name 0 ≡ 0 → ⊥) → TypeStored table name t table
   noted-before t h = record { size = refl; here = λ l. kept (getD table name 0) h; elsewhere = λ x n. refl }
     where
       kept : (w : ℕ) → (w ≡ 0 → ⊥) → w ≡ orElse w (suc t)
       kept zero n = absurd (n refl)
       kept (suc w) n = refl
 
-  pub noted-new : (t : ℕ) → name < length table → getD table name 0 ≡ 0 → Noted table name t (set table name (t + 1))
+  pub noted-new : (t : ℕ) → name < length table → getD table name 0 ≡ 0 → TypeStored table name t (set table name (t + 1))
   noted-new t h z =
       let s : t + 1 ≡ suc t = omega arith in
       record {
@@ -45,10 +45,10 @@ module _ (table : List ℕ) (name : ℕ) where
         elsewhere = λ x n. getD-set-other table name x (t + 1) 0 n;
       }
 
-  pub struck-absent : length table ≤ name → Struck table name table
+  pub struck-absent : length table ≤ name → TypeCleared table name table
   struck-absent h = record { size = refl; here = past table name h; elsewhere = λ x n. refl }
 
-  pub struck-now : name < length table → Struck table name (set table name 0)
+  pub struck-now : name < length table → TypeCleared table name (set table name 0)
   struck-now h =
       record { size = length-set table name 0; here = getD-set-same table name 0 0 h; elsewhere = λ x n. getD-set-other table name x 0 0 n }
 
@@ -105,7 +105,7 @@ module _ {b : List ℕ} {env : ℕ} (ch : Chain b env) where
       → 0 < e
       → name ≡ wordIn b Bindings (e - 1) 0
       → t ≡ wordIn b Bindings (e - 1) 1
-      → Noted table name t after
+      → TypeStored table name t after
       → link ≡ wordIn b Bindings (e - 1) 3
       → Filling b before after env link
   fill-more {table = table} {after = after} {e = e} name t link f more hn ht n hl =
@@ -148,7 +148,7 @@ module _ {b : List ℕ} {env : ℕ} (ch : Chain b env) where
       → Emptying b before table e
       → 0 < e
       → name ≡ wordIn b Bindings (e - 1) 0
-      → Struck table name after
+      → TypeCleared table name after
       → link ≡ wordIn b Bindings (e - 1) 3
       → Emptying b before after link
   empty-more {table = table} {after = after} {e = e} name link f more hn n hl =

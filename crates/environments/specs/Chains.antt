@@ -11,8 +11,8 @@ use Rattle.typing.specs.Members.{typeIn}
 use Rattle.inference.specs.Tables.{boundWord}
 use Rattle.machine.specs.Config.{Binding}
 use Rattle.block.specs.declared.Area.the-variants.{Bindings}
-use Rattle.block.specs.Layout.{counted, wordIn}
-use Rattle.block.specs.Decode.{valueOf}
+use Rattle.block.specs.Layout.{counted, wordIn, TYPE, LINK}
+use Rattle.block.specs.Decode.{bindingIn}
 use Rattle.environments.specs.declared.Lookup.{Lookup}
 use Rattle.environments.specs.declared.Lookup.the-variants.{Unbound, Bound}
 
@@ -21,13 +21,7 @@ abbrev pub bindingCount : List ℕ → ℕ
 bindingCount b = counted b Bindings
 
 abbrev pub bindingAt : List ℕ → ℕ → Binding
-bindingAt b i =
-    record {
-      name = wordIn b Bindings i 0;
-      type = wordIn b Bindings i 1;
-      value = valueOf (wordIn b Bindings i 2);
-      link = wordIn b Bindings i 3;
-    }
+bindingAt b i = bindingIn (wordIn b Bindings i)
 
 -- The first n of numbered things, the last one first, as bindings stand in a configuration.
 abbrev pub newest : {A : Type 0} → (ℕ → A) → ℕ → List A
@@ -41,7 +35,7 @@ bindingsIn b = newest (bindingAt b) (bindingCount b)
 pub record Chain (b : List ℕ) (e : ℕ) : Type 0 where
   pub long : length b ≡ BLOCK
   pub few : bindingCount b ≤ BINDINGS
-  pub links : (i : ℕ) → i < bindingCount b → wordIn b Bindings i 3 ≤ i
+  pub links : (i : ℕ) → i < bindingCount b → wordIn b Bindings i LINK ≤ i
   pub within : e ≤ bindingCount b
 
 -- What a look-up answers, as the code says it.
@@ -51,7 +45,7 @@ lookupOf (some x) = Bound (x .value)
 
 -- Every binding's type is less than the last word, so that one more than it is a word.
 abbrev pub Typed : List ℕ → Type 0
-Typed b = (i : ℕ) → i < bindingCount b → wordIn b Bindings i 1 + 1 < WORD
+Typed b = (i : ℕ) → i < bindingCount b → wordIn b Bindings i TYPE + 1 < WORD
 
 -- A table of an environment: of no variable; and, for each name below its length, as the nearest binding says.
 abbrev pub Zeros : List ℕ → Type 0
@@ -66,12 +60,12 @@ orElse zero n = n
 orElse (suc m) n = suc m
 
 -- A table after a variable's type is noted, and after its word is struck out.
-pub record Noted (table : List ℕ) (name type : ℕ) (after : List ℕ) : Type 0 where
+pub record TypeStored (table : List ℕ) (name type : ℕ) (after : List ℕ) : Type 0 where
   pub size : length after ≡ length table
   pub here : name < length table → getD after name 0 ≡ orElse (getD table name 0) (suc type)
   pub elsewhere : (x : ℕ) → (x ≡ name → ⊥) → getD after x 0 ≡ getD table x 0
 
-pub record Struck (table : List ℕ) (name : ℕ) (after : List ℕ) : Type 0 where
+pub record TypeCleared (table : List ℕ) (name : ℕ) (after : List ℕ) : Type 0 where
   pub size : length after ≡ length table
   pub here : getD after name 0 ≡ 0
   pub elsewhere : (x : ℕ) → (x ≡ name → ⊥) → getD after x 0 ≡ getD table x 0

@@ -1,15 +1,23 @@
 // Environments: the chains of bindings in a lent block.
 use block::Area;
+use block::Layout;
 use machine::Value;
+use typing::Answer;
 ghost use mathlib.Core.Path.{_≡_};
 ghost use Prim.Native.Nat.{_+_, _<_};
 ghost use lib.ListN.{length};
 ghost use Rattle.limits.specs.Limits.{BLOCK, BINDINGS};
 ghost use Rattle.words.specs.Word.{WORD};
+ghost use Rattle.script.specs.declared.Section.the-variants.{Nodes as nodes};
+ghost use Rattle.script.specs.Section.{countOf};
+ghost use Rattle.script.specs.Reading.{programOf, exprAt};
+ghost use Rattle.typing.specs.Published.{WfEnv};
+ghost use Rattle.typing.specs.Typing.{inferred};
+ghost use Rattle.inference.specs.At.{Blank};
 ghost use Rattle.block.specs.declared.Area.the-variants.{Bindings};
 ghost use Rattle.block.specs.Layout.{width, wordIn};
 ghost use Rattle.machine.specs.Machine.{scope, find, context};
-ghost use Rattle.environments.specs.Chains.{Chain, Typed, bindingsIn, lookupOf, Zeros, Filled, Noted, Struck};
+ghost use Rattle.environments.specs.Chains.{Chain, Typed, bindingsIn, lookupOf, Zeros, Filled, TypeStored, TypeCleared};
 
 // What a look-up of a variable finds: its value, where it is bound.
 pub enum Lookup {
@@ -26,9 +34,9 @@ fn binding_word(block: &[u8], i: usize, j: usize) -> u16
 }
 
 // Stores the type of a variable in a table, where the table has a word for the name and none is stored yet.
-fn note(table: &mut [u16], name: u16, t: u16)
+fn store_type(table: &mut [u16], name: u16, t: u16)
     requires { ⌜ t + 1 < WORD ⌝ }
-    ensures { λ r. ⌜ Noted (now (table .entry)) name t (now (table .exit)) ⌝ }
+    ensures { λ r. ⌜ TypeStored (now (table .entry)) name t (now (table .exit)) ⌝ }
 {
     let i = name as usize;
     if table.len() <= i {
@@ -49,16 +57,16 @@ pub fn fill(block: &[u8], env: u16, table: &mut [u16])
 {
     let mut e = env as usize;
     while 0 < e {
-        let name = binding_word(block, e - 1, 0);
-        let t = binding_word(block, e - 1, 1);
-        note(table, name, t);
-        e = binding_word(block, e - 1, 3) as usize;
+        let name = binding_word(block, e - 1, Layout::NAME);
+        let t = binding_word(block, e - 1, Layout::TYPE);
+        store_type(table, name, t);
+        e = binding_word(block, e - 1, Layout::LINK) as usize;
     }
 }
 
 // Stores 0 for a variable, where the table has a word for its name.
-fn strike(table: &mut [u16], name: u16)
-    ensures { λ r. ⌜ Struck (now (table .entry)) name (now (table .exit)) ⌝ }
+fn clear_type(table: &mut [u16], name: u16)
+    ensures { λ r. ⌜ TypeCleared (now (table .entry)) name (now (table .exit)) ⌝ }
 {
     let i = name as usize;
     if table.len() <= i {
@@ -75,10 +83,31 @@ pub fn empty(block: &[u8], env: u16, table: &mut [u16])
 {
     let mut e = env as usize;
     while 0 < e {
-        let name = binding_word(block, e - 1, 0);
-        strike(table, name);
-        e = binding_word(block, e - 1, 3) as usize;
+        let name = binding_word(block, e - 1, Layout::NAME);
+        clear_type(table, name);
+        e = binding_word(block, e - 1, Layout::LINK) as usize;
     }
+}
+
+// The type of node a under the bindings of an environment. The table of zeros is lent for their types, and is zeros again.
+pub fn infer_under(
+    s: &[u8],
+    starts: &[u16],
+    forks: &[u8],
+    table: &mut [u16],
+    block: &[u8],
+    env: u16,
+    a: u16,
+) -> Answer
+    requires { ⌜ Blank (now s) (now starts) (now forks) (now table) × (a < countOf (now s) nodes) ⌝ }
+    requires { ⌜ Chain (now block) env × Typed (now block) × WfEnv (programOf (now s)) (context (bindingsIn (now block)) env) ⌝ }
+    ensures { λ r. ⌜ r ≡ inferred (programOf (now (s .entry))) (context (bindingsIn (now (block .entry))) env) (exprAt (now (s .entry)) a) ⌝ }
+    ensures { λ r. ⌜ now (table .exit) ≡ now (table .entry) ⌝ }
+{
+    fill(block, env, table);
+    let r = inference::infer(s, starts, forks, table, a);
+    empty(block, env, table);
+    r
 }
 
 // The value of the nearest binding of variable x in an environment.
@@ -88,12 +117,12 @@ pub fn variable(block: &[u8], env: u16, x: u16) -> Lookup
 {
     let mut e = env as usize;
     while 0 < e {
-        let name = binding_word(block, e - 1, 0);
+        let name = binding_word(block, e - 1, Layout::NAME);
         if name == x {
-            let word = binding_word(block, e - 1, 2);
-            return Lookup::Bound(areas::value_of(word));
+            let v = areas::value(block, Area::Bindings, e - 1, Layout::BOUND);
+            return Lookup::Bound(v);
         }
-        e = binding_word(block, e - 1, 3) as usize;
+        e = binding_word(block, e - 1, Layout::LINK) as usize;
     }
     Lookup::Unbound
 }

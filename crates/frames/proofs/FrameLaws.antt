@@ -17,8 +17,8 @@ use Rattle.block.specs.declared.Area.the-variants.{Frames}
 use Rattle.block.specs.Layout.{counted}
 use Rattle.block.specs.Block.{Parts, partsOf, laid}
 use Rattle.environments.specs.Chains.{bindingsIn}
-use Rattle.frames.specs.declared.frames.Expects.{Expects}
-use Rattle.frames.specs.declared.frames.Expects.the-variants.{No, Wants}
+use Rattle.frames.specs.declared.awaited.Expects.{Expects}
+use Rattle.frames.specs.declared.awaited.Expects.the-variants.{No, Wants}
 use Rattle.frames.specs.Expecting.{expectsOf, configOf, Ready, awaitsStep, castsStep, frameStep, framesIn, framesFrom}
 use Rattle.frames.proofs.ReadyLaws.{in-block, frames-many}
 
@@ -49,7 +49,7 @@ module _ (s : Code) (bs : List Binding) (w : Want) where
 
 module _ {s starts forks table b : List ℕ} (y : Ready s starts forks table b) where
   pub frame-place : (i : ℕ) → i < counted b Frames → i < FRAMES
-  frame-place i l = omega (arith, y .in-order .few Frames)
+  frame-place i l = omega (arith, y .in-order .areas Frames .few)
 
   -- frame i, as it is read
   module _ (i : ℕ) (l : i < counted b Frames) (f : Frame) (read : (p : Parts) → b ≡ bytes (laid p) → i < length (p .frames) → f ≡ getD (p .frames) i (awaits 0 0)) where

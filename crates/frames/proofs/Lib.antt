@@ -4,4 +4,4 @@ pub mod ReadyLaws
 pub mod StepLaws
 pub mod StoresPassed
 pub mod TreeLaws
-pub mod TurnLaws
+pub mod AwaitedLaws

@@ -11,23 +11,25 @@ use Rattle.limits.specs.Limits.{POSITIONS}
 use Rattle.script.proofs.Lists.{sum-more}
 use Rattle.machine.specs.declared.Frame.{Frame}
 use Rattle.machine.specs.declared.Frame.the-variants.{Awaits as awaits}
+use Rattle.machine.specs.declared.Value.{Value}
 use Rattle.machine.specs.declared.Want.{Want}
 use Rattle.machine.specs.Config.{Code, codeOf, Binding, Stores, Tree, running, returning, failed, join}
 use Rattle.machine.specs.Machine.{fieldCount}
 use Rattle.machine.specs.Decide.{valueFitsTest, expects}
 use Rattle.block.specs.declared.Area.the-variants.{Positions, Frames}
-use Rattle.block.specs.Layout.{width, counted, wordIn}
+use Rattle.block.specs.Rows.{wordOf}
+use Rattle.block.specs.Values.{valueIn}
+use Rattle.block.specs.Layout.{width, counted, wordIn, RESULT}
 use Rattle.block.specs.Block.{preorder, waiting, positionWords, partsOf}
 use Rattle.representation.specs.Changed.{frameStart}
-use Rattle.block.specs.Decode.{valueOf}
 use Rattle.block.proofs.Rows.{row-at}
 use Rattle.block.proofs.Words.{count-is, word-is}
-use Rattle.block.proofs.Trees.{value-back}
+use Rattle.block.proofs.Values.{value-back, value-same}
 use Rattle.representation.proofs.Places.{frame-at}
 use Rattle.representation.proofs.InOrder.{sum-same}
 use Rattle.environments.specs.Chains.{bindingsIn}
-use Rattle.frames.specs.declared.frames.Expects.{Expects}
-use Rattle.frames.specs.declared.frames.Expects.the-variants.{No, Wants}
+use Rattle.frames.specs.declared.awaited.Expects.{Expects}
+use Rattle.frames.specs.declared.awaited.Expects.the-variants.{No, Wants}
 use Rattle.frames.specs.Expecting.{expectsOf, configOf, Ready, framesIn, framesFrom, framesBefore, placeAt, nodeTest, positionTest}
 use Rattle.frames.proofs.ReadyLaws.{in-block, frames-many}
 use Rattle.frames.proofs.FrameLaws.{is-none, is-some}
@@ -47,7 +49,7 @@ module _ {s starts forks table b : List ℕ} (y : Ready s starts forks table b) 
       ∙ length-map (preorder (configOf s b .tree)) positionWords
 
   pub place-there : (i : ℕ) → i < counted b Positions → i < POSITIONS
-  place-there i h = omega (arith, y .in-order .few Positions)
+  place-there i h = omega (arith, y .in-order .areas Positions .few)
 
   place-word : (i j : ℕ) → i < counted b Positions → j < width Positions → wordIn b Positions i j ≡ getD (positionWords (placeAt s b i)) j 0
   place-word i j h hj =
@@ -97,7 +99,7 @@ module _ (s : Code) (st : Stores) (v : Want) where
   frames-misfit (join fs a e l r) k f = rw f
 
   value-fits : (q : Tree) (u : Want) → getD (positionWords q) 0 0 ≡ 2 → expects s (st .bindings) v (waiting q) ≡ some u
-      → valueFitsTest s (st .objects) (valueOf (getD (positionWords q) 3 0)) u ≡ positionTest s st v q
+      → valueFitsTest s (st .objects) (valueIn (wordOf (positionWords q)) RESULT) u ≡ positionTest s st v q
   value-fits (running a e fs) u k f = absurd (omega arith)
   value-fits (returning x fs) u k f = rw (f, value-back x)
   value-fits failed u k f = absurd (omega arith)
@@ -135,10 +137,11 @@ module _ {s starts forks table b : List ℕ} (y : Ready s starts forks table b) 
       wanted : expects (codeOf s) (configOf s b .stores .bindings) v (waiting (placeAt s b i)) ≡ some u
       wanted = is-some (expects (codeOf s) (configOf s b .stores .bindings) v (waiting (placeAt s b i))) r u answer f
 
-      pub place-value : kind ≡ 2 → (word : ℕ) (m : Bool) → word ≡ wordIn b Positions i 3 → m ≡ valueFitsTest (codeOf s) (configOf s b .stores .objects) (valueOf word) u → Tests m
-      place-value j word m ew em =
+      pub place-value : kind ≡ 2 → (x : Value) (m : Bool) → x ≡ valueIn (wordIn b Positions i) RESULT → m ≡ valueFitsTest (codeOf s) (configOf s b .stores .objects) x u → Tests m
+      place-value j x m ex em =
           em
-          ∙ ap (λ (x : ℕ). valueFitsTest (codeOf s) (configOf s b .stores .objects) (valueOf x) u) (ew ∙ place-word y i 3 h (omega arith))
+          ∙ ap (λ (v : Value). valueFitsTest (codeOf s) (configOf s b .stores .objects) v u)
+          (ex ∙ value-same (wordIn b Positions i) (wordOf (positionWords (placeAt s b i))) RESULT (λ n k. place-word y i (RESULT + n) h (omega arith)))
           ∙ value-fits (codeOf s) (configOf s b .stores) v (placeAt s b i) u (sym kind-is ∙ j) wanted
 
       pub place-node : (kind ≡ 2 → ⊥) → (a e : ℕ) (m : Bool) → a ≡ wordIn b Positions i 1 → e ≡ wordIn b Positions i 2 → m ≡ nodeTest (codeOf s) (bindingsIn b) a e u → Tests m

@@ -2,7 +2,7 @@
 use mathlib.Core.Path.{_≡_, refl, sym, ap, _∙_}
 use mathlib.Core.Bool.{Bool, true, false, and-false}
 use mathlib.Core.List.{List}
-use mathlib.Core.Option.{Option, none, some}
+use mathlib.Core.Option.{none}
 use Prim.Native.Nat.{ℕ, zero, suc, _<_, _≤_}
 use native.Mathlib.Omega.{arith}
 use borrow.Author.Tests.{lt-ltb, le-ltb, le-leb, lt-leb}
@@ -14,24 +14,21 @@ use Rattle.script.specs.Section.{countOf, nodeWord}
 use Rattle.script.specs.Syntax.{Point, Expr, isNull, build}
 use Rattle.script.specs.Reading.{unknown-kind, kindOf, nodeOf, viewAt, exprAt, programOf}
 use Rattle.script.specs.Statements.{WithinLayout}
-use Rattle.script.proofs.Reading.{expr-at}
+use Rattle.script.proofs.Reading.{expr-at, in-order, known}
 use Rattle.typing.specs.declared.Answer.{Answer}
 use Rattle.typing.specs.declared.Answer.the-variants.{Typed, Faulty}
 use Rattle.typing.specs.Typing.{inferred}
 use Rattle.inference.proofs.InferLaws.{nodeBy}
 use Rattle.machine.specs.declared.Want.{Want}
-use Rattle.machine.specs.declared.Want.the-variants.{Upto as upto}
 use Rattle.machine.specs.Config.{codeOf}
 use Rattle.machine.specs.Machine.{context}
-use Rattle.machine.specs.Decide as decide
-use Rattle.machine.specs.Decide.{given, only, meetsTest, answerTest, turn, castType}
+use Rattle.machine.specs.Decide.{meetsTest, answerTest, wants, awaited, castType}
 use Rattle.environments.specs.Chains.{bindingCount, bindingsIn}
-use Rattle.frames.specs.declared.turns.Turn.{Turn}
-use Rattle.frames.specs.declared.turns.Turn.the-variants.{Nothing, Turns}
-use Rattle.frames.specs.declared.frames.Expects.the-variants.{No, Wants}
-use Rattle.frames.specs.Expecting.{turnOf, expectsOf, awaitsStep, castsStep, nodeTest}
+use Rattle.frames.specs.declared.awaited.Expects.{Expects}
+use Rattle.frames.specs.declared.awaited.Expects.the-variants.{No}
+use Rattle.frames.specs.Expecting.{expectsOf, awaitsStep, castsStep, nodeTest}
 use Rattle.frames.proofs.ReadyLaws.{bindings-length}
-use Rattle.frames.proofs.TurnLaws.{view-by}
+use Rattle.frames.proofs.AwaitedLaws.{view-by}
 
 -- an environment of the block, and none of it
 module _ (b : List ℕ) (e : ℕ) where
@@ -40,15 +37,6 @@ module _ (b : List ℕ) (e : ℕ) where
 
   env-not : bindingCount b < e → leb e (length (bindingsIn b)) ≡ false
   env-not h = lt-leb e (length (bindingsIn b)) (omega (arith, bindings-length b))
-
--- what comes of a node's turn
-after-turn : (m : decide.Turn → Bool) (o : Option decide.Turn) (r : Turn) → r ≡ turnOf o → r ≡ Nothing → expectsOf (given o (λ k. only (m k) (some (upto (k .wanted))))) ≡ No
-after-turn m none r e f = refl
-after-turn m (some k) r e f = absurd (let z : _≡_ {A = ℕ} 0 1 = cc in omega arith)
-
-turn-is : (o : Option decide.Turn) (r : Turn) (t u : ℕ) → r ≡ turnOf o → r ≡ Turns t u → o ≡ some (record { wanted = t; gives = u })
-turn-is none r t u e f = absurd (let z : _≡_ {A = ℕ} 0 1 = cc in omega arith)
-turn-is (some k) r t u e f = let y : k .wanted ≡ t = cc in let z : k .gives ≡ u = cc in rw (← y, ← z)
 
 -- a frame that awaits a value
 module _ (s b : List ℕ) (n : Point) (e : ℕ) (v : Want) where
@@ -59,22 +47,8 @@ module _ (s b : List ℕ) (n : Point) (e : ℕ) (v : Want) where
     pub awaits-unbound : bindingCount b < e → No ≡ expectsOf (awaitsStep (codeOf s) (bindingsIn b) n e v)
     awaits-unbound l = rw (lt-ltb n (countOf s nodes) h, env-not b e l)
 
-    module _ (l : e ≤ bindingCount b) (r : Turn) (k : r ≡ turnOf (turn (codeOf s) (context (bindingsIn b) e) (viewAt s n))) where
-      pub awaits-nothing : r ≡ Nothing → No ≡ expectsOf (awaitsStep (codeOf s) (bindingsIn b) n e v)
-      awaits-nothing f =
-          rw (lt-ltb n (countOf s nodes) h, env-there b e l)
-          (sym (after-turn (λ x. meetsTest (codeOf s) (x .gives) v) (turn (codeOf s) (context (bindingsIn b) e) (viewAt s n)) r k f))
-
-      module _ (t u : ℕ) (f : r ≡ Turns t u) (m : Bool) (em : m ≡ meetsTest (codeOf s) u v) where
-        step : awaitsStep (codeOf s) (bindingsIn b) n e v ≡ only m (some (upto t))
-        step =
-            rw (lt-ltb n (countOf s nodes) h, env-there b e l, turn-is (turn (codeOf s) (context (bindingsIn b) e) (viewAt s n)) r t u k f, em)
-
-        pub awaits-unmet : m ≡ false → No ≡ expectsOf (awaitsStep (codeOf s) (bindingsIn b) n e v)
-        awaits-unmet g = rw (step, g)
-
-        pub awaits-met : m ≡ true → Wants (upto t) ≡ expectsOf (awaitsStep (codeOf s) (bindingsIn b) n e v)
-        awaits-met g = rw (step, g)
+    pub awaits-awaited : e ≤ bindingCount b → (r : Expects) → r ≡ expectsOf (awaited (codeOf s) (context (bindingsIn b) e) (viewAt s n) v) → r ≡ expectsOf (awaitsStep (codeOf s) (bindingsIn b) n e v)
+    awaits-awaited l r k = rw (lt-ltb n (countOf s nodes) h, env-there b e l) k
 
 -- only a cast has a cast's type
 no-cast : (k a b c : ℕ) → (k ≡ 7 → ⊥) → castType (nodeOf (kindOf k) a b c) ≡ none
@@ -99,16 +73,9 @@ module _ (s : List ℕ) (n : Point) (v : Want) where
     pub casts-other : (k ≡ 7 → ⊥) → No ≡ expectsOf (castsStep (codeOf s) n v)
     casts-other f = rw (lt-ltb n (countOf s nodes) h, view-by s n k (sym ek), no-cast k (nodeWord s n 1) (nodeWord s n 2) (nodeWord s n 3) f)
 
-    module _ (f : k ≡ 7) (t : ℕ) (et : t ≡ nodeWord s n 1) (m : Bool) (em : m ≡ meetsTest (codeOf s) t v) where
-      cast-step : castsStep (codeOf s) n v ≡ only m (some (upto t))
-      unfolding kindOf
-      cast-step = rw (lt-ltb n (countOf s nodes) h, view-by s n 7 (sym ek ∙ f), ← et, em)
-
-      pub casts-unmet : m ≡ false → No ≡ expectsOf (castsStep (codeOf s) n v)
-      casts-unmet g = rw (cast-step, g)
-
-      pub casts-met : m ≡ true → Wants (upto t) ≡ expectsOf (castsStep (codeOf s) n v)
-      casts-met g = rw (cast-step, g)
+    pub casts-waits : k ≡ 7 → (t : ℕ) → t ≡ nodeWord s n 1 → (r : Expects) → r ≡ expectsOf (wants (codeOf s) t v t) → r ≡ expectsOf (castsStep (codeOf s) n v)
+    unfolding kindOf
+    casts-waits f t et r er = rw (lt-ltb n (countOf s nodes) h, view-by s n 7 (sym ek ∙ f), ← et) er
 
 -- a node is a null just if its kind is 0
 solid : (n : Point) (f : Point → Expr) (k a b c : ℕ) → (k ≡ 0 → ⊥) → (kindOf k ≡ unknown-kind → ⊥) → isNull (build n f (nodeOf (kindOf k) a b c)) ≡ false
@@ -135,7 +102,7 @@ module _ (s b : List ℕ) (n : Point) (e : ℕ) (v : Want) where
 
   module _ (w : WithinLayout s) (h : n < countOf s nodes) (l : e ≤ bindingCount b) (k : ℕ) (ek : k ≡ nodeWord s n 0) where
     expr-is : exprAt s n ≡ build n (exprAt s) (nodeBy s n k)
-    expr-is = expr-at s n h (w .nodes-are nodes n h .in-order) ∙ ap (build n (exprAt s)) (view-by s n k (sym ek))
+    expr-is = expr-at s n h (in-order s w n h) ∙ ap (build n (exprAt s)) (view-by s n k (sym ek))
 
     pub node-null : k ≡ 0 → true ≡ nodeTest (codeOf s) (bindingsIn b) n e v
     unfolding kindOf
@@ -145,7 +112,7 @@ module _ (s b : List ℕ) (n : Point) (e : ℕ) (v : Want) where
       test-is : nodeTest (codeOf s) (bindingsIn b) n e v ≡ answerTest (codeOf s) r v
       test-is =
           let full : isNull (exprAt s n) ≡ false =
-          ap isNull expr-is ∙ solid n (exprAt s) k (nodeWord s n 1) (nodeWord s n 2) (nodeWord s n 3) z (rw ek (w .nodes-are nodes n h .known))
+          ap isNull expr-is ∙ solid n (exprAt s) k (nodeWord s n 1) (nodeWord s n 2) (nodeWord s n 3) z (rw ek (known s w n h))
           in
           rw (env-there b e l, lt-ltb n (countOf s nodes) h, full, er)
 

@@ -94,7 +94,7 @@ pass-begun s b table w = record { within = omega arith; same = refl; begins = re
 
 module _ {s starts forks before table b : List ℕ} (y : Ready s starts forks before b) {w want : Want} {from i : ℕ} (x : Passed s b before table w from i want) where
   pub pass-room : i < counted b Positions → (n : ℕ) → n ≡ wordIn b Positions i 4 → from + n ≤ FRAMES
-  pass-room h n en = omega (arith, frames-within y i h from n (x .begins) en, y .in-order .few Frames)
+  pass-room h n en = omega (arith, frames-within y i h from n (x .begins) en, y .in-order .areas Frames .few)
 
   module _ (h : i < counted b Positions) (m : Bool) (em : m ≡ positionTest (codeOf s) (configOf s b .stores) want (placeAt s b i)) where
     here : m ≡ positionTest (codeOf s) (configOf s b .stores) (wantAt w i) (placeAt s b i)

@@ -10,67 +10,51 @@ use lib.ListN.{length, getD, take, drop}
 use Rattle.script.specs.Lists.{sumBelow}
 use Rattle.script.specs.Syntax.{Point, Slot}
 use Rattle.script.specs.Reading.{viewAt, programOf}
-use Rattle.script.specs.Statements.{WithinLayout}
 use Rattle.script.specs.Regular.{IsType}
-use Rattle.members.specs.Tables.{Starts}
-use Rattle.sharing.specs.Tables.{Forks}
-use Rattle.inference.specs.Tables.{EnvIs, Named}
+use Rattle.inference.specs.Tables.{EnvIs}
+use Rattle.inference.specs.At.{Blank}
 use Rattle.machine.specs.declared.Frame.{Frame}
 use Rattle.machine.specs.declared.Frame.the-variants.{Awaits as awaits, Casts as casts, Locks as locks}
 use Rattle.machine.specs.declared.Want.{Want}
-use Rattle.machine.specs.declared.Want.the-variants.{Any as any, Upto as upto}
+use Rattle.machine.specs.declared.Want.the-variants.{Any as any}
 use Rattle.machine.specs.Config.{Code, codeOf, Binding, Stores, Tree, running, returning, failed, join, Config}
 use Rattle.machine.specs.Machine.{fieldCount, context}
-use Rattle.machine.specs.Decide as decide
-use Rattle.machine.specs.Decide.{given, only, meetsTest, valueFitsTest, atTest, turn, castType, expects, wantTest}
+use Rattle.machine.specs.Decide.{given, only, valueFitsTest, atTest, wants, awaited, castType, expects, wantTest}
 use Rattle.block.specs.declared.Area.the-variants.{Bindings, Positions}
-use Rattle.block.specs.Layout.{wordIn}
+use Rattle.block.specs.Layout.{wordIn, TYPE, LINK}
 use Rattle.block.specs.Block.{preorder, framesOf}
 use Rattle.block.specs.Decode.{configIn}
 use Rattle.representation.specs.InOrder.{InOrder}
-use Rattle.environments.specs.Chains.{bindingCount, Zeros}
-use Rattle.frames.specs.declared.turns.Turn.{Turn}
-use Rattle.frames.specs.declared.turns.Turn.the-variants.{Nothing, Turns}
-use Rattle.frames.specs.declared.frames.Expects.{Expects}
-use Rattle.frames.specs.declared.frames.Expects.the-variants.{No, Wants}
+use Rattle.environments.specs.Chains.{bindingCount}
+use Rattle.frames.specs.declared.awaited.Expects.{Expects}
+use Rattle.frames.specs.declared.awaited.Expects.the-variants.{No, Wants}
 
--- What a node waits for and gives, and what is expected, as the code says it.
-abbrev pub turnOf : Option decide.Turn → Turn
-turnOf none = Nothing
-turnOf (some k) = Turns (k .wanted) (k .gives)
-
+-- What is expected, as the code says it.
 abbrev pub expectsOf : Option Want → Expects
 expectsOf none = No
 expectsOf (some w) = Wants w
 
--- The answer for node n in every environment that the table is of.
-abbrev pub TurnIs : List ℕ → List ℕ → Point → Turn → Type 0
-TurnIs s env n r = (Γ : List Slot) → EnvIs (programOf s) env Γ → r ≡ turnOf (turn (codeOf s) Γ (viewAt s n))
+-- The answer for node n in every environment that the table is of, where v is expected beneath its frame.
+abbrev pub AwaitedIs : List ℕ → List ℕ → Point → Want → Expects → Type 0
+AwaitedIs s env n v r = (Γ : List Slot) → EnvIs (programOf s) env Γ → r ≡ expectsOf (awaited (codeOf s) Γ (viewAt s n) v)
 
 -- The configuration that is read from the block b.
 abbrev pub configOf : List ℕ → List ℕ → Config
 configOf s b = configIn (fieldCount s) b
 
--- What the code is lent: the script's tables, a table of zeros for an environment, and a block in order whose bindings link to earlier ones and have types.
+-- What the code is lent: the script's tables, an empty one for an environment, and a block in order whose bindings link to earlier ones and have types.
 pub record Ready (s starts forks table b : List ℕ) : Type 0 where
-  pub within : WithinLayout s
-  pub runs : Starts s starts
-  pub sharing : Forks s forks
-  pub names : Named s (length table)
-  pub zeros : Zeros table
+  pub blank : Blank s starts forks table
   pub in-order : InOrder (fieldCount s) b
-  pub links : (i : ℕ) → i < bindingCount b → wordIn b Bindings i 3 ≤ i
-  pub types : (i : ℕ) → i < bindingCount b → IsType (programOf s) (wordIn b Bindings i 1)
+  pub links : (i : ℕ) → i < bindingCount b → wordIn b Bindings i LINK ≤ i
+  pub types : (i : ℕ) → i < bindingCount b → IsType (programOf s) (wordIn b Bindings i TYPE)
 
 -- What is expected of the value that goes on above a frame, where v is expected beneath it: one step of `expects`.
 abbrev pub awaitsStep : Code → List Binding → Point → ℕ → Want → Option Want
-awaitsStep s bs n e v =
-    only (ltb n (s .size))
-    (only (leb e (length bs))
-    (given (turn s (context bs e) (s .view n)) (λ k. only (meetsTest s (k .gives) v) (some (upto (k .wanted))))))
+awaitsStep s bs n e v = only (ltb n (s .size)) (only (leb e (length bs)) (awaited s (context bs e) (s .view n) v))
 
 abbrev pub castsStep : Code → Point → Want → Option Want
-castsStep s n v = only (ltb n (s .size)) (given (castType (s .view n)) (λ t. only (meetsTest s t v) (some (upto t))))
+castsStep s n v = only (ltb n (s .size)) (given (castType (s .view n)) (λ t. wants s t v t))
 
 abbrev pub frameStep : Code → List Binding → Frame → Want → Option Want
 frameStep s bs (awaits n e) v = awaitsStep s bs n e v

@@ -1,57 +1,27 @@
 // What the frames of a position expect, and whether a node meets it: "frames are typed up to the start's type or below at the root and to any type at an
 // async".
-use crate::turns::Turn;
-use crate::turns::node_word;
-use crate::turns::turn_in;
+use crate::awaited::Expects;
+use crate::awaited::awaited_of;
+use crate::awaited::expected;
 use block::Area;
 use machine::Frame;
 use machine::Want;
 use script::Section;
 use sections::count_of;
+use sections::node_word;
 use typing::Answer;
 use values::meets;
 ghost use mathlib.Core.Path.{_≡_};
 ghost use Prim.Native.Nat.{_+_, _<_, _≤_};
 ghost use lib.ListN.{getD};
-ghost use Rattle.script.specs.declared.Section.the-variants.{Nodes as nodes};
-ghost use Rattle.script.specs.Section.{countOf};
-ghost use Rattle.script.specs.Reading.{exprAt, programOf};
 ghost use Rattle.script.specs.Statements.{WithinLayout};
-ghost use Rattle.typing.specs.Typing.{inferred};
 ghost use Rattle.machine.specs.declared.Frame.the-variants.{Awaits as awaits};
 ghost use Rattle.machine.specs.Config.{codeOf};
-ghost use Rattle.machine.specs.Machine.{context};
 ghost use Rattle.machine.specs.Decide.{expects};
 ghost use Rattle.block.specs.declared.Area.the-variants.{Frames};
 ghost use Rattle.block.specs.Layout.{counted};
-ghost use Rattle.environments.specs.Chains.{bindingCount, bindingsIn};
+ghost use Rattle.environments.specs.Chains.{bindingsIn};
 ghost use Rattle.frames.specs.Expecting.{expectsOf, Ready, awaitsStep, castsStep, frameStep, framesIn, framesFrom, nodeTest};
-
-// What is expected of the value that goes on above some frames, where they are typed.
-pub enum Expects {
-    No,
-    Wants(Want),
-}
-
-// The type of node n under the bindings of the environment e.
-fn infer_in(
-    s: &[u8],
-    starts: &[u16],
-    forks: &[u8],
-    table: &mut [u16],
-    block: &[u8],
-    n: u16,
-    e: u16,
-) -> Answer
-    requires { ⌜ Ready (now s) (now starts) (now forks) (now table) (now block) × (n < countOf (now s) nodes) × (e ≤ bindingCount (now block)) ⌝ }
-    ensures { λ r. ⌜ r ≡ inferred (programOf (now (s .entry))) (context (bindingsIn (now (block .entry))) e) (exprAt (now (s .entry)) n) ⌝ }
-    ensures { λ r. ⌜ now (table .exit) ≡ now (table .entry) ⌝ }
-{
-    environments::fill(block, e, table);
-    let r = inference::infer(s, starts, forks, table, n);
-    environments::empty(block, e, table);
-    r
-}
 
 // What the frame of node n in the environment e expects, where `want` is expected beneath it: the node must be one of the script's and the environment one of
 // the block's, and what the node gives must meet `want`.
@@ -75,13 +45,10 @@ fn awaits_want(
     if areas::count(block, Area::Bindings) < e as usize {
         return Expects::No;
     }
-    let Turn::Turns(wanted, gives) = turn_in(s, starts, forks, table, block, n, e) else {
-        return Expects::No;
-    };
-    if !meets(s, gives, want) {
-        return Expects::No;
-    }
-    Expects::Wants(Want::Upto(wanted))
+    environments::fill(block, e, table);
+    let r = awaited_of(s, starts, forks, table, n, want);
+    environments::empty(block, e, table);
+    r
 }
 
 // What the frame of the cast n expects: its type, which must meet `want`.
@@ -97,10 +64,7 @@ fn cast_want(s: &[u8], n: u16, want: Want) -> Expects
         return Expects::No;
     }
     let t = node_word(s, n, 1);
-    if !meets(s, t, want) {
-        return Expects::No;
-    }
-    Expects::Wants(Want::Upto(t))
+    expected(s, t, want, t)
 }
 
 // What frame i expects, where `want` is expected beneath it. A lock frame lets its value through.
@@ -183,7 +147,7 @@ pub fn node_fits(
     if kind == 0 {
         return true;
     }
-    let Answer::Typed(t) = infer_in(s, starts, forks, table, block, n, e) else {
+    let Answer::Typed(t) = environments::infer_under(s, starts, forks, table, block, e, n) else {
         return false;
     };
     meets(s, t, want)

@@ -1,6 +1,6 @@
 // Question 21 in code, frames and threads: do they fit?
+mod awaited;
 mod frames;
 mod places;
-mod turns;
 
 pub use places::tree_fits;

@@ -1,8 +1,9 @@
 // Whether all positions of the thread tree are typed.
-use crate::frames::Expects;
+use crate::awaited::Expects;
 use crate::frames::frames_want;
 use crate::frames::node_fits;
 use block::Area;
+use block::Layout;
 use machine::Want;
 use values::value_fits;
 ghost use mathlib.Core.Path.{_≡_};
@@ -32,20 +33,20 @@ fn position_fits(
         ⌝ }
     ensures { λ r. ⌜ now (table .exit) ≡ now (table .entry) ⌝ }
 {
-    let kind = areas::word(block, Area::Positions, i, 0);
-    if kind == 3 {
+    let kind = areas::word(block, Area::Positions, i, Layout::KIND);
+    if kind == Layout::FAILED {
         return true;
     }
-    let n = areas::word(block, Area::Positions, i, 4) as usize;
+    let n = areas::word(block, Area::Positions, i, Layout::WAITING) as usize;
     let Expects::Wants(v) = frames_want(s, starts, forks, table, block, from, n, want) else {
         return false;
     };
-    if kind == 2 {
-        let word = areas::word(block, Area::Positions, i, 3);
-        return value_fits(s, block, word, v);
+    if kind == Layout::RETURNING {
+        let x = areas::value(block, Area::Positions, i, Layout::RESULT);
+        return value_fits(s, block, x, v);
     }
-    let a = areas::word(block, Area::Positions, i, 1);
-    let e = areas::word(block, Area::Positions, i, 2);
+    let a = areas::word(block, Area::Positions, i, Layout::NODE);
+    let e = areas::word(block, Area::Positions, i, Layout::ENV);
     node_fits(s, starts, forks, table, block, a, e, v)
 }
 
@@ -75,7 +76,7 @@ pub fn tree_fits(
             return false;
         }
         want = Want::Any;
-        from += areas::word(block, Area::Positions, i, 4) as usize;
+        from += areas::word(block, Area::Positions, i, Layout::WAITING) as usize;
         i += 1;
     }
     true

@@ -23,20 +23,20 @@ use Rattle.script.specs.Statements.{Part, WithinLayout}
 use Rattle.sections.specs.Laid.{foundOf}
 use Rattle.script.specs.Regular.{IsType}
 use Rattle.script.proofs.Declarations.{length-interfaces, length-classes}
-use Rattle.script.proofs.Reading.{first, expr-at}
+use Rattle.script.proofs.Reading.{first, expr-at, in-order, known}
 use Rattle.script.proofs.Regular.{formed, regular}
 use Rattle.typing.specs.declared.Answer.{Answer}
 use Rattle.typing.specs.declared.Answer.the-variants.{Typed, Faulty}
 use Rattle.members.specs.declared.Member.{Member}
 use Rattle.members.specs.declared.Member.the-variants.{Types, Missing}
 use Rattle.typing.specs.Members.{below, typeIn, fieldIn, methodIn}
-use Rattle.typing.specs.Typing.{fv, shares, andThen, orFaulty, unlessShared, inferred, checked}
+use Rattle.typing.specs.Typing.{fv, shares, andThen, orFaulty, unlessShared, answer, inferred, checked}
 use Rattle.sharing.specs.Tables.{flagOf}
 use Rattle.members.specs.Tables.{memberOf}
 use Rattle.inference.specs.Tables.{boundWord, EnvIs, NamesBelow}
 use Rattle.inference.specs.At.{Target, At, Inferred, Checked}
 use Rattle.typing.proofs.Members.{field-in, field-type}
-use Rattle.typing.proofs.Rules.{Judged, types, refuses, env-more, judged}
+use Rattle.typing.proofs.Rules.{checked-as, env-more, infer-type, inferred-typed}
 
 -- What is found is gone on with as its type would be.
 found-then : (q : Question) (n : Point) (o : Option ℕ) (k : ℕ → Answer) → orFaulty q n o k ≡ andThen (orFaulty q n o (λ t. Typed t)) k
@@ -46,11 +46,11 @@ found-then q n (some t) k = refl
 -- What a node is inferred as, by what is inferred first: its target variable, or the field that it names.
 module _ (p : Program) (Γ : List Slot) (n x : ℕ) where
   select-is : (f : ℕ) → inferred p Γ (select n x f) ≡ andThen (inferred p Γ (var n x)) (λ t. orFaulty Members n (fieldIn p t f) (λ u. Typed u))
-  unfolding inferred
+  unfolding answer
   select-is f = found-then Variables n (typeIn Γ x) _
 
   update-is : (f : ℕ) (e : Expr) → inferred p Γ (update n x f e) ≡ andThen (inferred p Γ (select n x f)) (λ u. andThen (checked p Γ e u) (λ v. Typed 0))
-  unfolding inferred checked
+  unfolding answer
   update-is f e = go (typeIn Γ x) _
     where
       go :
@@ -62,18 +62,18 @@ module _ (p : Program) (Γ : List Slot) (n x : ℕ) where
   call-is :
       (m : ℕ) (e : Expr)
       → inferred p Γ (call n x m e) ≡ andThen (inferred p Γ (var n x)) (λ t. orFaulty Members n (methodIn p t m) (λ g. andThen (checked p Γ e (g .param)) (λ v. Typed (g .result))))
-  unfolding inferred checked
+  unfolding answer
   call-is m e = found-then Variables n (typeIn Γ x) _
 
   lock-is : (e : Expr) → inferred p Γ (lock n x e) ≡ andThen (inferred p Γ (var n x)) (λ t. inferred p Γ e)
-  unfolding inferred
+  unfolding answer
   lock-is e = found-then Variables n (typeIn Γ x) _
 
 -- The table of an environment: a variable's word, and one more variable.
 module _ {p : Program} {env : List ℕ} {Γ : List Slot} (g : EnvIs p env Γ) where
   -- a word of 0 says that the variable has no type, and any other is the type and 1 more
   pub unbound : (n x y : ℕ) → x ≡ y → y < length env → getD env x 0 ≡ 0 → Faulty Variables n ≡ inferred p Γ (var n y)
-  unfolding inferred
+  unfolding answer
   unbound n x y e h z = go (typeIn Γ y) (sym (g .holds y h) ∙ (rw e at z))
     where
       go : (o : Option ℕ) → boundWord o ≡ 0 → Faulty Variables n ≡ orFaulty Variables n o (λ t. Typed t)
@@ -81,7 +81,7 @@ module _ {p : Program} {env : List ℕ} {Γ : List Slot} (g : EnvIs p env Γ) wh
       go (some t) k = absurd (omega arith)
 
   pub bound : (n x y : ℕ) → x ≡ y → y < length env → (getD env x 0 ≡ 0 → ⊥) → Typed (getD env x 0 - 1) ≡ inferred p Γ (var n y)
-  unfolding inferred
+  unfolding answer
   bound n x y e h z = go (typeIn Γ y) (rw e (g .holds y h))
     where
       go : (o : Option ℕ) → getD env x 0 ≡ boundWord o → Typed (getD env x 0 - 1) ≡ orFaulty Variables n o (λ t. Typed t)
@@ -130,18 +130,14 @@ module _ {s : List ℕ} (w : WithinLayout s) where
     view-kind = rw e
 
     expr-kind : exprAt s n ≡ build n (exprAt s) (nodeBy s n k)
-    expr-kind = expr-at s n h (w .nodes-are nodes n h .in-order) ∙ ap (build n (exprAt s)) view-kind
+    expr-kind = expr-at s n h (in-order s w n h) ∙ ap (build n (exprAt s)) view-kind
 
     part-kind : (q : Point) → q ∈ parts (nodeBy s n k) → Part s n q
-    part-kind q m = w .nodes-are nodes n h .in-order q (rw view-kind m)
+    part-kind q m = in-order s w n h q (rw view-kind m)
 
   -- What is inferred for a node is a type.
   inferred-type : (n : Point) → n < countOf s nodes → (env : List ℕ) (Γ : List Slot) → EnvIs (programOf s) env Γ → (t : ℕ) → inferred (programOf s) Γ (exprAt s n) ≡ Typed t → IsType (programOf s) t
-  inferred-type n h env Γ g t = go (judged (programOf s) (regular s w) Γ (exprAt s n) (g .types) (formed s w n h))
-    where
-      go : {r : Answer} → Judged (programOf s) Γ (exprAt s n) r → r ≡ Typed t → IsType (programOf s) t
-      go (types {t = u} k i) e = let y : u ≡ t = cc in rw y at i
-      go (refuses k) e = absurd (let y : _≡_ {A = ℕ} 0 1 = cc in omega arith)
+  inferred-type n h env Γ g t e = infer-type (programOf s) (regular s w) (inferred-typed (programOf s) (regular s w) Γ (exprAt s n) t (g .types) (formed s w n h) e)
 
 -- What a look-up found, and did not find.
 module _ (n : Point) where
@@ -244,6 +240,9 @@ module _ {s starts forks env : List ℕ} {n : Point} (a : At s starts forks env 
         environment = rw e (a .environment);
       }
 
+  pub still-at : {env′ : List ℕ} → env′ ≡ env → At s starts forks env′ n
+  still-at e = rw e a
+
   -- The variable that the node names has a word in the table.
   named-by : (k : ℕ) → nodeWord s n 0 ≡ k → NamesBelow (length env) (nodeBy s n k)
   named-by k e = rw (view-kind (a .within) n (a .there) k e) at (a .names .names n (a .there))
@@ -289,14 +288,14 @@ module _ {s starts forks env : List ℕ} {n : Point} (a : At s starts forks env 
   at-select r e h Γ g = rw (expr-by 2 e) (h Γ g)
 
   pub at-new : (c : ℕ) → nodeWord s n 0 ≡ 6 → c ≡ nodeWord s n 1 → Inferred s env (exprAt s n) (Typed c)
-  unfolding kindOf inferred
+  unfolding kindOf answer
   at-new c e ec Γ g = rw (expr-by 6 e, ec)
 
   pub at-null :
       (k : ℕ) → k ≡ nodeWord s n 0
       → (k ≡ 1 → ⊥) → (k ≡ 2 → ⊥) → (k ≡ 3 → ⊥) → (k ≡ 4 → ⊥) → (k ≡ 5 → ⊥) → (k ≡ 6 → ⊥) → (k ≡ 7 → ⊥) → (k ≡ 8 → ⊥) → (k ≡ 9 → ⊥)
       → Inferred s env (exprAt s n) (Faulty Nulls n)
-  unfolding inferred
+  unfolding answer
   at-null k e h1 h2 h3 h4 h5 h6 h7 h8 h9 Γ g =
       rw (expr-by k (sym e), only-null k (nodeWord s n 1) (nodeWord s n 2) (nodeWord s n 3) h1 h2 h3 h4 h5 h6 h7 h8 h9)
 
@@ -346,10 +345,15 @@ module _ {s starts forks env : List ℕ} {n : Point} (a : At s starts forks env 
   -- A let: its value, whose type fits a word with 1 more, and its body, under one more variable.
   module _ (b : ℕ) (r : Answer) (e : nodeWord s n 0 ≡ 5) (eb : b ≡ nodeWord s n 2) (er : Inferred s env (exprAt s b) r) where
     pub let-first : (q : Question) (m : Point) → r ≡ Faulty q m → Inferred s env (exprAt s n) r
-    unfolding kindOf inferred
+    unfolding kindOf answer
     let-first q m k Γ g = rw (expr-by 5 e, ← eb, ← er Γ g, k)
 
     module _ (t : ℕ) (k : r ≡ Typed t) where
+      pub let-body : (Γ : List Slot) → EnvIs (programOf s) env Γ
+          → inferred (programOf s) Γ (exprAt s n) ≡ inferred (programOf s) (record { name = nodeWord s n 1; type = t } ∷ Γ) (exprAt s (nodeWord s n 3))
+      unfolding kindOf answer
+      let-body Γ g = rw (expr-by 5 e, ← eb, ← er Γ g, k)
+
       value-type : (Γ : List Slot) → EnvIs (programOf s) env Γ → IsType (programOf s) t
       unfolding kindOf
       value-type Γ g = inferred-type (a .within) b (part 5 b (nodeWord s n 2) e eb first .there) env Γ g t (sym (er Γ g) ∙ k)
@@ -371,14 +375,13 @@ module _ {s starts forks env : List ℕ} {n : Point} (a : At s starts forks env 
             }
 
         pub let-last : (c : Point) (o : Answer) → c ≡ nodeWord s n 3 → Inferred s (set env₁ x (t + 1)) (exprAt s c) o → Inferred s env (exprAt s n) o
-        unfolding kindOf inferred
         let-last c o ec eo Γ g =
-            rw (expr-by 5 e, ← eb, ← ex, ← ec, ← er Γ g, k)
+            rw (let-body Γ g, ← ex, ← ec)
             (eo (record { name = x; type = t } ∷ Γ) (rw e₁ (env-bind g x t (let-named e ex) (value-type Γ g))))
 
   -- A cast is its operand, checked.
   pub at-cast : (t b : ℕ) (r : Answer) → nodeWord s n 0 ≡ 7 → t ≡ nodeWord s n 1 → b ≡ nodeWord s n 2 → Checked s env (exprAt s b) t r → Inferred s env (exprAt s n) r
-  unfolding kindOf inferred checked
+  unfolding kindOf answer
   at-cast t b r e et eb er Γ g = rw (expr-by 7 e, ← et, ← eb) (er Γ g)
 
   -- A fork: the flag of its node, and its three parts.
@@ -388,12 +391,12 @@ module _ {s starts forks env : List ℕ} {n : Point} (a : At s starts forks env 
     flag = a .sharing .flags n (nodeWord s n 1) (nodeWord s n 2) (nodeWord s n 3) (a .there) (view-kind (a .within) n (a .there) 8 e)
 
     pub fork-shared : getD forks n 0 ≡ 1 → Inferred s env (exprAt s n) (Faulty Sharing n)
-    unfolding kindOf inferred
+    unfolding kindOf answer
     fork-shared k Γ g = rw (expr-by 8 e) (shared-is n (shares (fv (exprAt s (nodeWord s n 1))) (fv (exprAt s (nodeWord s n 2)))) _ (sym flag ∙ k))
 
     module _ (k : getD forks n 0 ≡ 1 → ⊥) (b : ℕ) (r : Answer) (eb : b ≡ nodeWord s n 1) (er : Inferred s env (exprAt s b) r) where
       forked : (Γ : List Slot) → EnvIs (programOf s) env Γ → inferred (programOf s) Γ (exprAt s n) ≡ andThen r (λ t. andThen (inferred (programOf s) Γ (exprAt s (nodeWord s n 2))) (λ u. inferred (programOf s) Γ (exprAt s (nodeWord s n 3))))
-      unfolding kindOf inferred
+      unfolding kindOf answer
       forked Γ g = rw (expr-by 8 e, er Γ g, eb) (apart-is n (shares (fv (exprAt s (nodeWord s n 1))) (fv (exprAt s (nodeWord s n 2)))) _ (λ z. k (flag ∙ z)))
 
       pub fork-left : (q : Question) (m : Point) → r ≡ Faulty q m → Inferred s env (exprAt s n) r
@@ -418,24 +421,21 @@ module _ {s starts forks env : List ℕ} {n : Point} (a : At s starts forks env 
 
   -- A check: of a null, and of what is inferred.
   pub check-null : (t : ℕ) → nodeWord s n 0 ≡ 0 → Checked s env (exprAt s n) t (Typed t)
-  unfolding kindOf checked
+  unfolding kindOf answer
   check-null t e Γ g = rw (expr-by 0 e)
 
   module _ (k t : ℕ) (r : Answer) (e : k ≡ nodeWord s n 0) (z : k ≡ 0 → ⊥) (er : Inferred s env (exprAt s n) r) where
     solid : isNull (exprAt s n) ≡ false
-    solid = rw (expr-by k (sym e)) (not-null n (exprAt s) k (nodeWord s n 1) (nodeWord s n 2) (nodeWord s n 3) z (rw e (a .within .nodes-are nodes n (a .there) .known)))
+    solid = rw (expr-by k (sym e)) (not-null n (exprAt s) k (nodeWord s n 1) (nodeWord s n 2) (nodeWord s n 3) z (rw e (known s (a .within) n (a .there))))
 
     place : pointOf (exprAt s n) ≡ n
     place = rw (expr-by k (sym e)) (point-of n (exprAt s) (nodeBy s n k))
 
     pub check-fault : (q : Question) (m : Point) → r ≡ Faulty q m → Checked s env (exprAt s n) t r
-    unfolding checked
-    check-fault q m f Γ g = rw (solid, ← er Γ g, f)
+    check-fault q m f Γ g = rw (checked-as (programOf s) Γ (exprAt s n) t solid, ← er Γ g, f)
 
     pub check-no : (u : ℕ) → r ≡ Typed u → below (programOf s) u t ≡ false → Checked s env (exprAt s n) t (Faulty Fits n)
-    unfolding checked
-    check-no u f y Γ g = rw (solid, place, ← er Γ g, f, y)
+    check-no u f y Γ g = rw (checked-as (programOf s) Γ (exprAt s n) t solid, place, ← er Γ g, f, y)
 
     pub check-yes : (u : ℕ) → r ≡ Typed u → below (programOf s) u t ≡ true → Checked s env (exprAt s n) t (Typed t)
-    unfolding checked
-    check-yes u f y Γ g = rw (solid, ← er Γ g, f, y)
+    check-yes u f y Γ g = rw (checked-as (programOf s) Γ (exprAt s n) t solid, ← er Γ g, f, y)

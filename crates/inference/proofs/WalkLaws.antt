@@ -103,7 +103,7 @@ module _ {s starts forks env : List ℕ} (b : Blank s starts forks env) where
 
   module _ (class m : ℕ) (i : IsType (programOf s) class) (h : m < countOf s methods) where
     param-type : IsType (programOf s) (recordWord s methods m 1)
-    param-type = rw (length-interfaces s, length-classes s) (b .within .types-are methods m h .0)
+    param-type = rw (length-interfaces s, length-classes s) (b .within .types-are .1 .1 .1 .0 m h .0)
 
     pub param-small : (param : ℕ) → param ≡ recordWord s methods m 1 → param ≤ INTERFACES + CLASSES
     param-small param e = rw e (type-small (b .within) (recordWord s methods m 1) param-type)
@@ -121,7 +121,7 @@ module _ {s starts forks env : List ℕ} (b : Blank s starts forks env) where
           runs = b .runs;
           sharing = b .sharing;
           names = rw (length-set (set env 0 (class + 1)) 1 (param + 1), length-set env 0 (class + 1)) (b .names);
-          there = rw eb (b .within .nodes-are methods m h);
+          there = rw eb (b .within .nodes-are .0 m h);
           variables = bodyEnv class (methodAt s m .signature);
           environment = rw ep body-env;
         }

@@ -34,10 +34,6 @@ NamesBelow m (n-cast t p) = Unit {0}
 NamesBelow m (n-fork p q r) = Unit {0}
 NamesBelow m (n-lock x p) = x < m
 
--- As many variable names as most scripts are content with.
-abbrev pub FEW-NAMES : ℕ
-FEW-NAMES = 1024
-
 -- Every variable of the script is below the bound, and so are `this` and the parameter.
 pub record Named (s : List ℕ) (m : ℕ) : Type 0 where
   pub low : 2 ≤ m

@@ -5,27 +5,14 @@ use members::is_below;
 use members::method_of;
 use script::Found;
 use script::Question;
-use script::Section;
-use sections::record_word;
+use sections::node_word;
 use typing::Answer;
 ghost use mathlib.Core.Path.{_≡_};
-ghost use Prim.Native.Nat.{_<_};
-ghost use Rattle.words.specs.Word.{WORD};
-ghost use Rattle.script.specs.declared.Section.the-variants.{Nodes as nodes};
-ghost use Rattle.script.specs.Section.{countOf, nodeWord};
+ghost use Rattle.script.specs.Section.{nodeWord};
 ghost use Rattle.script.specs.Syntax.{var, select};
 ghost use Rattle.script.specs.Reading.{exprAt};
-ghost use Rattle.script.specs.Statements.{WithinLayout};
 ghost use Rattle.members.specs.Tables.{Starts};
 ghost use Rattle.inference.specs.At.{Target, At, Inferred, Checked};
-
-// Word j of node n.
-fn node_word(s: &[u8], n: u16, j: usize) -> u16
-    requires { ⌜ WithinLayout (now s) × (n < countOf (now s) nodes) × (j < 4) ⌝ }
-    ensures { λ r. ⌜ (r ≡ nodeWord (now (s .entry)) n j) × (r < WORD) ⌝ }
-{
-    record_word(s, Section::Nodes, n as usize, j)
-}
 
 // The type of the variable that node n names first.
 fn infer_var(s: &[u8], env: &[u16], n: u16) -> Answer

@@ -14,12 +14,12 @@ use Rattle.limits.specs.Limits.{INTERFACES}
 use Rattle.script.specs.declared.Found.{Found}
 use Rattle.script.specs.declared.Found.the-variants.{At, Nothing}
 use Rattle.script.specs.declared.Section.{Section}
-use Rattle.script.specs.declared.Section.the-variants.{Interfaces as interfaces, Signatures as signatures, Classes as classes, Fields as fields, Methods as methods, Nodes as nodes}
+use Rattle.script.specs.declared.Section.the-variants.{Interfaces as interfaces, Signatures as signatures}
 use Rattle.script.specs.Lists.{_∈_, run, sumBelow}
-use Rattle.script.specs.Section.{sections, countOf, recordAt, recordWord}
+use Rattle.script.specs.Section.{countOf, recordAt, recordWord}
 use Rattle.script.specs.Syntax.{Signature, Interface, lists, extends, Program, an-interface}
 use Rattle.script.specs.Reading.{ownSignatures, signatureAt, interfaceAt, programOf}
-use Rattle.script.specs.Asking.{Decides, firstOut, placeOr, lowestIn, lowestOut}
+use Rattle.script.specs.Asking.{Decides, firstOut, placeOr, lowestIn}
 use Rattle.script.specs.Questions.{allOf}
 use Rattle.script.specs.Statements.{WithinLayout}
 use Rattle.sections.specs.Laid.{foundOf}
@@ -32,6 +32,7 @@ use Rattle.typing.specs.Published.{msigs-list}
 use Rattle.typing.specs.Check.{namesIn, sameTypes, agreeTest, joinTest, joinsTest}
 use Rattle.members.specs.Lookup.{MeaningIs, Meanings, joinOf, joinBy, FirstFault, LowestFault, placeIn}
 use Rattle.typing.proofs.Members.{signature-name}
+use Rattle.interfaces.specs.Cover.{hasTypes}
 use Rattle.members.proofs.SubtypeLaws.{reads-list, reads-join, left-earlier, right-earlier}
 use Rattle.members.proofs.LookupLaws.{run-ends}
 use Rattle.members.proofs.MemberLaws.{no-word, word-at}
@@ -47,14 +48,17 @@ module _ (s : List ℕ) (k : Section) (i count : ℕ) (e : count ≡ countOf s k
   pub place-missing : count ≤ i → Nothing ≡ foundOf (placeIn s k i)
   place-missing h = rw (le-ltb i (countOf s k) (rw e at h))
 
-module _ (s : List ℕ) (i j a b : ℕ) (p : a ≡ recordWord s signatures i 1) (q : b ≡ recordWord s signatures j 1) where
-  pub types-differ : (a ≡ b → ⊥) → false ≡ sameTypes (signatureAt s i) (signatureAt s j)
-  unfolding signatureAt
-  types-differ n = rw (ne-eqb (recordWord s signatures i 1) (recordWord s signatures j 1) (rw (p, q) at n))
+module _ (s : List ℕ) (k : Section) (i param result a : ℕ) (p : a ≡ recordWord s k i 1) where
+  pub types-differ : (a ≡ param → ⊥) → false ≡ hasTypes s k i param result
+  types-differ n = rw (ne-eqb (recordWord s k i 1) param (rw p at n))
 
-  pub types-equal : (c d : ℕ) → a ≡ b → c ≡ recordWord s signatures i 2 → d ≡ recordWord s signatures j 2 → eqb c d ≡ sameTypes (signatureAt s i) (signatureAt s j)
-  unfolding signatureAt
-  types-equal c d e x y = rw (eq-eqb (recordWord s signatures i 1) (recordWord s signatures j 1) (sym p ∙ e ∙ q), x, y)
+  pub types-equal : (b : ℕ) → a ≡ param → b ≡ recordWord s k i 2 → eqb b result ≡ hasTypes s k i param result
+  types-equal b e q = rw (eq-eqb (recordWord s k i 1) param (sym p ∙ e), q)
+
+pub types-same : (s : List ℕ) (i j param result : ℕ) {r : Bool} → param ≡ recordWord s signatures j 1 → result ≡ recordWord s signatures j 2
+    → r ≡ hasTypes s signatures i param result → r ≡ sameTypes (signatureAt s i) (signatureAt s j)
+unfolding signatureAt
+types-same s i j param result p q e = rw (← p, ← q) e
 
 -- two meanings agree where one of them is missing
 agree-none : (o : Option Signature) → true ≡ agreeTest o none
@@ -158,20 +162,9 @@ module _ (test : ℕ → ℕ → Bool) (names n : ℕ) (whole : ℕ → Bool)
       (eq-or-lt-of-le (low .within))
 
 -- question 9 asks only interfaces
-unasked : (test : ℕ → Bool) (n : ℕ) → ((i : ℕ) → test i ≡ true) → firstOut test 0 n ≡ none
-unasked test n h = first-none test 0 n (λ j a b. h j)
-
-module _ (s : List ℕ) (p : Program) where
-  only-joins : lowestOut s (joinsTest s p) ≡ placeOr s interfaces (firstOut (λ i. joinTest p (interfaceAt s i)) 0 (countOf s interfaces)) none
-  unfolding lowestIn sections joinsTest
-  only-joins =
-      rw (
-        unasked (joinsTest s p signatures) (countOf s signatures) (λ i. refl),
-        unasked (joinsTest s p classes) (countOf s classes) (λ i. refl),
-        unasked (joinsTest s p fields) (countOf s fields) (λ i. refl),
-        unasked (joinsTest s p methods) (countOf s methods) (λ i. refl),
-        unasked (joinsTest s p nodes) (countOf s nodes) (λ i. refl),
-      )
+only-joins : (s : List ℕ) (p : Program) → lowestIn s (joinsTest s p) ≡ placeOr s interfaces (firstOut (λ i. joinTest p (interfaceAt s i)) 0 (countOf s interfaces)) none
+unfolding lowestIn joinsTest
+only-joins s p = refl
 
 -- what the interface of a record lists
 lists-run : (s : List ℕ) (i : ℕ) (gs : List Signature) → interfaceAt s i ≡ lists gs → gs ≡ run (signatureAt s) (sumBelow (ownSignatures s) i) (ownSignatures s i)
@@ -263,7 +256,7 @@ module _ {s : List ℕ} (w : WithinLayout s) (names k r : ℕ) (e : names ≡ co
   -- The place of the lowest join at fault is the answer to question 9.
   pub joins-no :
       LowestFault (λ j. joinBy s (recordWord s signatures j 0)) k (countOf s interfaces) r → f ≡ foundOf (placeIn s interfaces r)
-      → f ≡ foundOf (lowestOut s (joinsTest s (programOf s)))
+      → f ≡ foundOf (lowestIn s (joinsTest s (programOf s)))
   joins-no low q =
       q ∙ ap foundOf
       (lowest-first (λ j. joinBy s (recordWord s signatures j 0)) k (countOf s interfaces) (λ i. joinTest (programOf s) (interfaceAt s i))

@@ -8,33 +8,33 @@ use Prim.Native.Nat.{ℕ, suc, _<_, _≤_}
 use native.Mathlib.Nat.{eq-or-lt-of-le}
 use native.Mathlib.Omega.{arith}
 use lib.Dec.{eqb}
-use borrow.Author.Tests.{eqb-true}
-use Rattle.script.specs.declared.Section.the-variants.{Interfaces as interfaces, Signatures as signatures, Classes as classes, Fields as fields, Methods as methods, Nodes as nodes}
+use Rattle.script.specs.declared.Section.the-variants.{Interfaces as interfaces, Signatures as signatures}
 use Rattle.script.specs.Lists.{run, sumBelow}
 use Rattle.script.specs.Section.{countOf, recordWord}
 use Rattle.script.specs.Syntax.{Signature, Interface, lists, extends, Program}
 use Rattle.script.specs.Reading.{ownSignatures, signatureAt, interfaceAt, programOf}
-use Rattle.script.specs.Asking.{lowestOut, Each}
+use Rattle.script.specs.Asking.{lowestIn, Each}
 use Rattle.script.specs.Statements.{WithinLayout}
 use Rattle.script.specs.Regular.{IsInterface}
 use Rattle.script.proofs.Lists.{AtIndex, in-run, lt-or-le}
 use Rattle.script.proofs.Declarations.{length-interfaces, interface-from, is-class}
 use Rattle.script.proofs.Lowest.{lowest-none}
+use Rattle.script.proofs.Tests.{says-yes, decides-and, decides-eq}
 use Rattle.script.proofs.Regular.{regular}
 use Rattle.typing.specs.Check.{joinsTest}
 use Rattle.typing.specs.Published.{MsigIn, msigs-list, msigs-left, msigs-right, msigs-class}
 use Rattle.typing.specs.Refusals.{JoinIs, JoinsAre}
-use Rattle.interfaces.specs.Cover.{Agrees, Unclashed}
+use Rattle.interfaces.specs.Cover.{hasTypes, Agrees, Unclashed}
 use Rattle.typing.proofs.Types.{parent-types}
 use Rattle.typing.proofs.Joins.{OneMeaning}
 use Rattle.typing.proofs.Exact.{joins-lowest}
 use Rattle.members.proofs.LookupLaws.{run-ends}
 
 -- A signature agrees if its types are the same.
-pub agrees-same :
-    (s : List ℕ) (name param result j a b : ℕ) → a ≡ recordWord s signatures j 1 → a ≡ param → b ≡ recordWord s signatures j 2 → eqb b result ≡ true
-    → Agrees s name param result j
-agrees-same s name param result j a b p d q e n = (sym d ∙ p, sym (eqb-true b result e) ∙ q)
+pub agrees-typed : (s : List ℕ) (name param result j : ℕ) → hasTypes s signatures j param result ≡ true → Agrees s name param result j
+agrees-typed s name param result j h n =
+    let t = says-yes (decides-and (decides-eq (recordWord s signatures j 1) param) (decides-eq (recordWord s signatures j 2) result)) h in
+    (sym (t .0), sym (t .1))
 
 -- All later signatures were gone through.
 pub unclashed :
@@ -96,13 +96,8 @@ module _ {s : List ℕ} (w : WithinLayout s) where
         a .is ∙ one-name (a .index) (b .index) (omega (arith, a .upto)) (omega (arith, b .upto)) (ap (λ m. m .name) (sym (a .is)) ∙ n ∙ ap (λ m. m .name) (b .is)) ∙ sym (b .is)
 
     joins-are : Each s (JoinsAre s)
-    joins-are interfaces i h = join-is (programOf s) (suc i) (interfaceAt s i) (one-there (suc i) (record { first = omega arith; last = rw (length-interfaces s) h }))
-    joins-are signatures i h = tt
-    joins-are classes i h = tt
-    joins-are fields i h = tt
-    joins-are methods i h = tt
-    joins-are nodes i h = tt
+    joins-are = (λ i h. join-is (programOf s) (suc i) (interfaceAt s i) (one-there (suc i) (record { first = omega arith; last = rw (length-interfaces s) h })), tt)
 
   -- No signature clashes with a later one, so question 9 gets a yes.
-  pub no-clashes : (n i : ℕ) → n ≡ countOf s signatures → n ≤ i → ((k : ℕ) → k < i → Unclashed s k) → lowestOut s (joinsTest s (programOf s)) ≡ none
+  pub no-clashes : (n i : ℕ) → n ≡ countOf s signatures → n ≤ i → ((k : ℕ) → k < i → Unclashed s k) → lowestIn s (joinsTest s (programOf s)) ≡ none
   no-clashes n i e l all = lowest-none (joins-lowest s w) (joins-are (λ k h. all k (omega arith)))

@@ -1,35 +1,33 @@
 -- What the code of question 10 answers: a law for each return, with the callees' results as variables.
 use mathlib.Core.Path.{_≡_, refl, sym, ap, _∙_}
 use mathlib.Core.Bool.{Bool, true, false}
-use mathlib.Core.List.{List, [], _∷_, List·Memᴰ·head, List·Memᴰ·tail}
+use mathlib.Core.List.{List, List·Memᴰ·head, List·Memᴰ·tail}
 use mathlib.Core.Logic.{⊎-elim}
 use mathlib.Core.Option.{Option·map}
 use Prim.Native.Nat.{ℕ, zero, suc, _+_, _-_, _<_, _≤_}
 use native.Mathlib.Nat.{eq-or-lt-of-le}
 use native.Mathlib.Omega.{arith}
-use lib.Dec.{eqb}
 use lib.ListN.{getD, set, replicate, length-set, length-replicate}
 use Rattle.limits.specs.Limits.{INTERFACES}
 use Rattle.script.specs.declared.Found.{Found}
 use Rattle.script.specs.declared.Found.the-variants.{At, Nothing}
-use Rattle.script.specs.declared.Section.the-variants.{Interfaces as interfaces, Signatures as signatures, Classes as classes, Fields as fields, Methods as methods, Nodes as nodes}
+use Rattle.script.specs.declared.Section.the-variants.{Interfaces as interfaces, Signatures as signatures, Classes as classes, Methods as methods}
 use Rattle.script.specs.Lists.{_∈_, run, sumBelow}
-use Rattle.script.specs.Section.{sections, countOf, recordAt, recordWord}
+use Rattle.script.specs.Section.{countOf, recordWord}
 use Rattle.script.specs.Syntax.{lists, extends, an-interface, a-class, declarationAt}
 use Rattle.script.specs.Reading.{ownSignatures, signatureAt, methodAt, classAt, programOf}
-use Rattle.script.specs.Asking.{firstOut, lowestIn, lowestOut, Decides, holds, fails}
+use Rattle.script.specs.Asking.{Decides, holds, fails}
 use Rattle.script.specs.Statements.{WithinLayout, InterfaceWord}
 use Rattle.sections.specs.Laid.{foundOf}
-use Rattle.script.proofs.Tests.{true-false, says-yes, yes-said, no-said, decides-as, decides-eq}
+use Rattle.script.proofs.Tests.{true-false, says-yes, yes-said, no-said, decides-as, decides-and, decides-eq}
 use Rattle.script.proofs.Lists.{in-run}
 use Rattle.script.proofs.Declarations.{interface-at, class-at}
 use Rattle.script.proofs.Regular.{regular}
-use Rattle.sections.proofs.Search.{lowest-at, lowest-pass, lowest-skip}
-use Rattle.typing.specs.Check.{classesTest}
+use Rattle.typing.specs.Check.{classTest}
 use Rattle.typing.specs.Published.{msigs-list, msigs-left, msigs-right, DefIn, MsigsFunction}
 use Rattle.typing.specs.Refusals.{ClassIs}
 use Rattle.members.specs.Lookup.{ownNamed}
-use Rattle.interfaces.specs.Cover.{Defines, Covers, Covered}
+use Rattle.interfaces.specs.Cover.{hasTypes, Defines, Covers, Covered}
 use Rattle.typing.proofs.Members.{found-some, found-none, msig-from, msig-by, own-found}
 use Rattle.typing.proofs.Joins.{class-one, decides-class}
 use Rattle.members.proofs.SubtypeLaws.{reads-list, reads-join, interface-declared, unmarked, marked-more}
@@ -85,21 +83,17 @@ module _ {s : List ℕ} (w : WithinLayout s) (c i name : ℕ) (h : c < countOf s
         class-one (programOf s) (regular s w) (suc (countOf s interfaces + c)) (classAt s c) e (signatureAt s i) ((methodAt s j) .signature)
         (msig-by (a-class (classAt s c)) e d) (msig-by (a-class (classAt s c)) e (own-def .0)) (sym p ∙ sym (own-def .1))
 
-    module _ (a b : ℕ) (a-is : a ≡ recordWord s signatures i 1) (b-is : b ≡ recordWord s methods j 1) where
-      pub defines-other : (a ≡ b → ⊥) → Decides (Defines s c i) false
-      unfolding signatureAt methodAt
-      defines-other n = fails (λ d. n (a-is ∙ ap (λ g. g .param) (defined-same d) ∙ sym b-is))
-
-      pub defines-same : (x y : ℕ) → a ≡ b → x ≡ recordWord s signatures i 2 → y ≡ recordWord s methods j 2 → Decides (Defines s c i) (eqb x y)
-      unfolding signatureAt methodAt
-      defines-same x y e x-is y-is =
-          decides-as
-          (λ r. rw (same r) (own-def .0))
-          (λ d. x-is ∙ ap (λ g. g .result) (defined-same d) ∙ sym y-is)
-          (decides-eq x y)
-        where
-          same : x ≡ y → signatureAt s i ≡ (methodAt s j) .signature
-          same r = λ k. record { name = (sym p ∙ sym (own-def .1)) k; param = (sym a-is ∙ e ∙ b-is) k; result = (sym x-is ∙ r ∙ y-is) k }
+    pub defines-typed : (a x : ℕ) {r : Bool} → a ≡ recordWord s signatures i 1 → x ≡ recordWord s signatures i 2 → r ≡ hasTypes s methods j a x → Decides (Defines s c i) r
+    unfolding signatureAt methodAt
+    defines-typed a x a-is x-is e =
+        rw e
+        (decides-as
+        (λ t. rw (same t) (own-def .0))
+        (λ d. (sym (ap (λ g. g .param) (defined-same d)) ∙ sym a-is, sym (ap (λ g. g .result) (defined-same d)) ∙ sym x-is))
+        (decides-and (decides-eq (recordWord s methods j 1) a) (decides-eq (recordWord s methods j 2) x)))
+      where
+        same : (recordWord s methods j 1 ≡ a) × (recordWord s methods j 2 ≡ x) → signatureAt s i ≡ (methodAt s j) .signature
+        same t = λ k. record { name = (sym p ∙ sym (own-def .1)) k; param = (sym a-is ∙ sym (t .0)) k; result = (sym x-is ∙ sym (t .1)) k }
 
 -- The interface of record i is a list, whose signatures are gone through.
 module _ (s : List ℕ) (c i : ℕ) (h : i < countOf s interfaces) (n : recordWord s interfaces i 0 ≡ 1 → ⊥) (from count : ℕ)
@@ -155,30 +149,5 @@ class-covers s c t r e d = rw e at d
 -- The test of question 10 answers the same of a class.
 pub class-test :
     {s : List ℕ} (w : WithinLayout s) → MsigsFunction (programOf s) → (c : ℕ) (r b : Bool) → c < countOf s classes → Decides (ClassIs (programOf s) (classAt s c)) r → r ≡ b
-    → classesTest s (programOf s) classes c ≡ b
-unfolding classesTest
+    → classTest (programOf s) (classAt s c) ≡ b
 class-test {s} w one c r b h d e = decided-same (decides-class (programOf s) (regular s w) one (suc (countOf s interfaces + c)) (classAt s c) (class-at s c h)) d ∙ e
-
--- Question 10 asks classes only.
-module _ (s : List ℕ) where
-  from-classes : lowestOut s (classesTest s (programOf s)) ≡ lowestIn s (classesTest s (programOf s)) (classes ∷ fields ∷ methods ∷ nodes ∷ [])
-  unfolding sections classesTest
-  from-classes =
-      lowest-skip s (classesTest s (programOf s)) interfaces (signatures ∷ classes ∷ fields ∷ methods ∷ nodes ∷ []) (λ i. refl)
-      ∙ lowest-skip s (classesTest s (programOf s)) signatures (classes ∷ fields ∷ methods ∷ nodes ∷ []) (λ i. refl)
-
-  after-classes : lowestIn s (classesTest s (programOf s)) (fields ∷ methods ∷ nodes ∷ []) ≡ lowestIn s (classesTest s (programOf s)) []
-  unfolding classesTest
-  after-classes =
-      lowest-skip s (classesTest s (programOf s)) fields (methods ∷ nodes ∷ []) (λ i. refl)
-      ∙ lowest-skip s (classesTest s (programOf s)) methods (nodes ∷ []) (λ i. refl)
-      ∙ lowest-skip s (classesTest s (programOf s)) nodes [] (λ i. refl)
-
-  pub classes-at :
-      (c place : ℕ) → At c ≡ foundOf (firstOut (classesTest s (programOf s) classes) 0 (countOf s classes)) → place ≡ recordAt s classes c
-      → At place ≡ foundOf (lowestOut s (classesTest s (programOf s)))
-  classes-at c place e p = lowest-at s (classesTest s (programOf s)) classes (fields ∷ methods ∷ nodes ∷ []) c place e p ∙ ap foundOf (sym from-classes)
-
-  pub classes-none : Nothing ≡ foundOf (firstOut (classesTest s (programOf s) classes) 0 (countOf s classes)) → Nothing ≡ foundOf (lowestOut s (classesTest s (programOf s)))
-  unfolding lowestIn
-  classes-none e = ap foundOf (sym (from-classes ∙ lowest-pass s (classesTest s (programOf s)) classes (fields ∷ methods ∷ nodes ∷ []) e ∙ after-classes))

@@ -1,14 +1,21 @@
 -- What the code of questions 9 and 10 goes by: signatures that agree, and what a class covers.
 use Prim.Native.Nat.{ℕ, suc, _<_}
 use mathlib.Core.Path.{_≡_}
+use mathlib.Core.Bool.{Bool, _&&_}
 use mathlib.Core.List.{List}
+use lib.Dec.{eqb}
 use lib.ListN.{length, getD}
 use Rattle.limits.specs.Limits.{INTERFACES}
+use Rattle.script.specs.declared.Section.{Section}
 use Rattle.script.specs.declared.Section.the-variants.{Signatures as signatures}
 use Rattle.script.specs.Section.{countOf, recordWord}
 use Rattle.script.specs.Syntax.{Signature}
 use Rattle.script.specs.Reading.{signatureAt, classAt, programOf}
 use Rattle.typing.specs.Published.{MsigIn, DefIn}
+
+-- Has record i of section k, a signature or a method, these types?
+abbrev pub hasTypes : List ℕ → Section → ℕ → ℕ → ℕ → Bool
+hasTypes s k i param result = eqb (recordWord s k i 1) param && eqb (recordWord s k i 2) result
 
 -- Signature j has another name, or these types.
 abbrev pub Agrees : List ℕ → ℕ → ℕ → ℕ → ℕ → Type 0

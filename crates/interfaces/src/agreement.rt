@@ -11,28 +11,35 @@ use sections::record_word;
 ghost use mathlib.Core.Path.{_≡_};
 ghost use Prim.Native.Nat.{ℕ, _<_, _≤_};
 ghost use Rattle.script.specs.declared.Section.the-variants.{Interfaces, Signatures};
-ghost use Rattle.script.specs.Section.{countOf};
+ghost use Rattle.script.specs.Section.{sizeOf, countOf};
 ghost use Rattle.script.specs.Reading.{signatureAt, programOf};
-ghost use Rattle.script.specs.Asking.{lowestOut};
+ghost use Rattle.script.specs.Asking.{lowestIn};
 ghost use Rattle.script.specs.Statements.{WithinLayout};
 ghost use Rattle.sections.specs.Laid.{Laid, foundOf};
 ghost use Rattle.typing.specs.Check.{sameTypes, joinsTest};
 ghost use Rattle.members.specs.Tables.{Starts};
 ghost use Rattle.members.specs.Lookup.{Meanings, NameTable, joinBy, FirstFault, placeIn};
+ghost use Rattle.interfaces.specs.Cover.{hasTypes};
+
+// Has record i of section k, a signature or a method, these types?
+pub fn has_types(s: &[u8], k: Section, i: usize, param: u16, result: u16) -> bool
+    requires { ⌜ Laid (now s) × (i < countOf (now s) k) × (5 < sizeOf k) ⌝ }
+    ensures { λ r. ⌜ r ≡ hasTypes (now (s .entry)) k i param result ⌝ }
+{
+    if record_word(s, k, i, 1) != param {
+        return false;
+    }
+    record_word(s, k, i, 2) == result
+}
 
 // Have signatures i and j the same types?
 fn same_types(s: &[u8], i: usize, j: usize) -> bool
     requires { ⌜ Laid (now s) × (i < countOf (now s) Signatures) × (j < countOf (now s) Signatures) ⌝ }
     ensures { λ r. ⌜ r ≡ sameTypes (signatureAt (now (s .entry)) i) (signatureAt (now (s .entry)) j) ⌝ }
 {
-    let a = record_word(s, Section::Signatures, i, 1);
-    let b = record_word(s, Section::Signatures, j, 1);
-    if a != b {
-        return false;
-    }
-    let c = record_word(s, Section::Signatures, i, 2);
-    let d = record_word(s, Section::Signatures, j, 2);
-    c == d
+    let param = record_word(s, Section::Signatures, j, 1);
+    let result = record_word(s, Section::Signatures, j, 2);
+    has_types(s, Section::Signatures, i, param, result)
 }
 
 // Do the parents of the join of record i agree on the name that the table is of?
@@ -100,7 +107,7 @@ fn place_of(s: &[u8], i: usize) -> Found
 // 9. Do all meanings of a method name in a join have the same types? The place of a no.
 pub fn joins_no(s: &[u8], starts: &[u16]) -> Found
     requires { ⌜ WithinLayout (now s) × Starts (now s) (now starts) ⌝ }
-    ensures { λ r. ⌜ r ≡ foundOf (lowestOut (now (s .entry)) (joinsTest (now (s .entry)) (programOf (now (s .entry))))) ⌝ }
+    ensures { λ r. ⌜ r ≡ foundOf (lowestIn (now (s .entry)) (joinsTest (now (s .entry)) (programOf (now (s .entry))))) ⌝ }
 {
     if no_clash(s) {
         return Found::Nothing;

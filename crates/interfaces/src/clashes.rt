@@ -1,4 +1,5 @@
 // Question 9, where its answer is plain: no two signatures of the whole script have one name and different types.
+use crate::agreement::has_types;
 use script::Section;
 use sections::count_of;
 use sections::record_word;
@@ -9,7 +10,7 @@ ghost use Prim.Native.Nat.{_<_};
 ghost use Rattle.script.specs.declared.Section.the-variants.{Signatures};
 ghost use Rattle.script.specs.Section.{countOf};
 ghost use Rattle.script.specs.Reading.{programOf};
-ghost use Rattle.script.specs.Asking.{lowestOut};
+ghost use Rattle.script.specs.Asking.{lowestIn};
 ghost use Rattle.script.specs.Statements.{WithinLayout};
 ghost use Rattle.sections.specs.Laid.{Laid};
 ghost use Rattle.typing.specs.Check.{joinsTest};
@@ -23,10 +24,7 @@ fn agrees(s: &[u8], j: usize, name: u16, param: u16, result: u16) -> bool
     if record_word(s, Section::Signatures, j, 0) != name {
         return true;
     }
-    if record_word(s, Section::Signatures, j, 1) != param {
-        return false;
-    }
-    record_word(s, Section::Signatures, j, 2) == result
+    has_types(s, Section::Signatures, j, param, result)
 }
 
 // Has a later signature the name of signature i and another type?
@@ -51,7 +49,7 @@ fn clashes(s: &[u8], i: usize) -> bool
 // Have all signatures of one name the same types? Then so have all meanings of a name in a join, and question 9 gets a yes.
 pub fn no_clash(s: &[u8]) -> bool
     requires { ⌜ WithinLayout (now s) ⌝ }
-    ensures { λ r. ⌜ (r ≡ true → lowestOut (now (s .entry)) (joinsTest (now (s .entry)) (programOf (now (s .entry)))) ≡ none) ⌝ }
+    ensures { λ r. ⌜ (r ≡ true → lowestIn (now (s .entry)) (joinsTest (now (s .entry)) (programOf (now (s .entry)))) ≡ none) ⌝ }
 {
     let n = count_of(s, Section::Signatures);
     let mut i = 0;

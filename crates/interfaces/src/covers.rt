@@ -1,4 +1,5 @@
 // Question 10: has each class every method of its interface, with the same types?
+use crate::agreement::has_types;
 use limits::Limits;
 use members::find_own;
 use script::Found;
@@ -12,7 +13,7 @@ ghost use Prim.Native.Nat.{suc, _<_};
 ghost use Rattle.script.specs.declared.Section.the-variants.{Interfaces, Signatures, Classes};
 ghost use Rattle.script.specs.Section.{countOf, recordWord};
 ghost use Rattle.script.specs.Reading.{classAt, programOf};
-ghost use Rattle.script.specs.Asking.{Decides, lowestOut};
+ghost use Rattle.script.specs.Asking.{Decides, lowestIn};
 ghost use Rattle.script.specs.Statements.{WithinLayout, InterfaceWord};
 ghost use Rattle.sections.specs.Laid.{foundOf};
 ghost use Rattle.typing.specs.Check.{classesTest};
@@ -37,10 +38,9 @@ fn defines(s: &[u8], starts: &[u16], c: usize, i: usize) -> bool
     ) else {
         return false;
     };
-    if record_word(s, Section::Signatures, i, 1) != record_word(s, Section::Methods, j, 1) {
-        return false;
-    }
-    record_word(s, Section::Signatures, i, 2) == record_word(s, Section::Methods, j, 2)
+    let param = record_word(s, Section::Signatures, i, 1);
+    let result = record_word(s, Section::Signatures, i, 2);
+    has_types(s, Section::Methods, j, param, result)
 }
 
 // Has class c every method of the interface of record i, which is a list?
@@ -108,7 +108,7 @@ fn implements(s: &[u8], starts: &[u16], c: usize) -> bool
 // 10. Has each class every method of its interface, with the same types? The place of a no.
 pub fn classes_no(s: &[u8], starts: &[u16]) -> Found
     requires { ⌜ WithinLayout (now s) × Starts (now s) (now starts) × MsigsFunction (programOf (now s)) ⌝ }
-    ensures { λ r. ⌜ r ≡ foundOf (lowestOut (now (s .entry)) (classesTest (now (s .entry)) (programOf (now (s .entry))))) ⌝ }
+    ensures { λ r. ⌜ r ≡ foundOf (lowestIn (now (s .entry)) (classesTest (now (s .entry)) (programOf (now (s .entry))))) ⌝ }
 {
     let n = count_of(s, Section::Classes);
     let mut c = 0;

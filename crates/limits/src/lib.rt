@@ -1,25 +1,7 @@
 // Every limit of document 01, named in one place.
 ghost use mathlib.Core.Path.{_≡_};
-ghost use Rattle.limits.specs.Limits.{
-  INTERFACES,
-  SIGNATURES,
-  CLASSES,
-  FIELDS,
-  METHODS,
-  NODES,
-  CONTENTS,
-  FILE,
-  CLASS-FIELDS,
-  BLOCK,
-  OBJECTS,
-  BINDINGS,
-  FRAMES,
-  THREADS,
-  POSITIONS,
-  CHOICES,
-  FLAGS,
-  SILENT,
-};
+ghost use Rattle.limits.specs.Limits.{INTERFACES, SIGNATURES, CLASSES, FIELDS, METHODS, NODES, CONTENTS, FILE, CLASS-FIELDS, BLOCK, OBJECTS, BINDINGS};
+ghost use Rattle.limits.specs.Limits.{FRAMES, THREADS, POSITIONS, CHOICES, FLAGS, SILENT};
 
 // The limits. `specs/Limits.antt` says what each one bounds.
 pub struct Limits {}

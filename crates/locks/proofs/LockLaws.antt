@@ -25,7 +25,7 @@ use Rattle.machine.proofs.Locks.{lock-listed}
 use Rattle.machine.proofs.Stores.{shutAt-object}
 use Rattle.block.specs.declared.Area.{Area}
 use Rattle.block.specs.declared.Area.the-variants.{Objects, Positions, Frames}
-use Rattle.block.specs.Layout.{width, counted, wordIn, rowsIn}
+use Rattle.block.specs.Layout.{width, counted, wordIn, rowsIn, SHUT}
 use Rattle.block.specs.Block.{preorder, positionWords, framesOf, frameWords, partsOf, rows}
 use Rattle.block.specs.Decode.{frameOf, configIn}
 use Rattle.representation.specs.InOrder.{FrameOk, is-awaits, is-casts, is-locks, InOrder}
@@ -117,7 +117,7 @@ module _ (fieldCount : ℕ → ℕ) (b : List ℕ) (o : InOrder fieldCount b) wh
 
   frame-locks : (p i : ℕ) → i < counted b Frames → (l : List Frame) → lockFrames p (frame-at i ∷ l) ≡ lockAt b p i + lockFrames p l
   unfolding run frame-at
-  frame-locks p i h l = go (o .frames i h)
+  frame-locks p i h l = go (o .areas Frames .records .each i h)
     where
       go : FrameOk (wordIn b Frames i) → lockFrames p (frame-at i ∷ l) ≡ lockAt b p i + lockFrames p l
       go (is-awaits k) = rw k (omega arith)
@@ -134,12 +134,12 @@ module _ (fieldCount : ℕ → ℕ) (b : List ℕ) (o : InOrder fieldCount b) wh
 
   shut-read : (p : ℕ) → shutAt (c .stores .objects) p ≡ shutIn b p
   shut-read p =
-      rw (objects-read fieldCount b o)
+      rw (objects-read fieldCount b (o .areas Objects))
       (elim (decLt p (counted b Objects)) [
         | yes h ↦
             let z : 0 + p ≡ p = omega arith in
             shutAt-object objects p (objectAt fieldCount b p) (object-run (objectAt fieldCount b) 0 (counted b Objects) p h ∙ rw z refl)
-            ∙ one (wordIn b Objects p 1) (o .objects p h .shut)
+            ∙ one (wordIn b Objects p SHUT) (o .areas Objects .records .each p h .shut)
             ∙ sym (shut-there b p h)
         | no h ↦ none-shut objects p (object-past (objectAt fieldCount b) 0 (counted b Objects) p (omega arith)) ∙ sym (shut-absent b p (omega arith))
       ])
@@ -162,7 +162,7 @@ module _ (fieldCount : ℕ → ℕ) (b : List ℕ) (o : InOrder fieldCount b) wh
   failed-read = none-failed (c .tree) ∙ ap (allOf goesOn) (ap (map (λ (r : List ℕ). getD r 0 0)) (sym (rows-of Positions)) ∙ firsts b Positions (omega arith))
 
   objects-many : length (c .stores .objects) ≡ counted b Objects
-  objects-many = ap length (objects-read fieldCount b o) ∙ length-run (objectAt fieldCount b) 0 (counted b Objects)
+  objects-many = ap length (objects-read fieldCount b (o .areas Objects)) ∙ length-run (objectAt fieldCount b) 0 (counted b Objects)
 
   -- the two tests
   distinct-test : Decides ((p : ℕ) → p ∈ lockList (c .tree) → lockCount p (c .tree) ≤ shutAt (c .stores .objects) p) (distinctTest (c .stores .objects) (c .tree))

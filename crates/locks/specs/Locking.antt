@@ -12,7 +12,7 @@ use Rattle.machine.specs.Machine.{oneIf}
 use Rattle.machine.specs.Decide.{distinctTest, coveredTest}
 use Rattle.block.specs.declared.Area.{Area}
 use Rattle.block.specs.declared.Area.the-variants.{Objects, Positions, Frames}
-use Rattle.block.specs.Layout.{most, counted, wordIn, FAILED, LOCKS}
+use Rattle.block.specs.Layout.{most, counted, wordIn, SHUT, KIND, OBJECT, FAILED, LOCKS}
 
 -- The bytes are as many as a block has, and the counts within the limits.
 pub record Sized (b : List ℕ) : Type 0 where
@@ -21,11 +21,11 @@ pub record Sized (b : List ℕ) : Type 0 where
 
 -- 1 for a shut object, 0 for an open one and where there is none: `shutAt` of the configuration.
 abbrev pub shutIn : List ℕ → ℕ → ℕ
-shutIn b o = cond (ltb o (counted b Objects)) (wordIn b Objects o 1) 0
+shutIn b o = cond (ltb o (counted b Objects)) (wordIn b Objects o SHUT) 0
 
 -- 1 where frame i is a lock frame of object o, else 0; and how many of the first n frames are.
 abbrev pub lockAt : List ℕ → ℕ → ℕ → ℕ
-lockAt b o i = cond (eqb (wordIn b Frames i 0) LOCKS) (oneIf (eqb o (wordIn b Frames i 1))) 0
+lockAt b o i = cond (eqb (wordIn b Frames i KIND) LOCKS) (oneIf (eqb o (wordIn b Frames i OBJECT))) 0
 
 abbrev pub locksIn : List ℕ → ℕ → ℕ → ℕ
 locksIn b o n = sumBelow (lockAt b o) n
@@ -43,7 +43,7 @@ pub data Marking (b : List ℕ) (n : ℕ) (marks : List ℕ) : Bool → Type 0 w
 
 -- What position i is, and whether it is something else than a failed thread.
 abbrev pub kindAt : List ℕ → ℕ → ℕ
-kindAt b i = wordIn b Positions i 0
+kindAt b i = wordIn b Positions i KIND
 
 abbrev pub goesOn : ℕ → Bool
 goesOn k = not (eqb k FAILED)

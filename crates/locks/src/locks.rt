@@ -1,5 +1,6 @@
 // The locks of a block: which objects its lock frames name.
 use block::Area;
+use block::Layout;
 use limits::Limits;
 ghost use mathlib.Core.Path.{_≡_};
 ghost use Prim.Native.Nat.{ℕ, _+_, _<_};
@@ -21,15 +22,15 @@ fn mark_frame(block: &[u8], i: usize, marks: &mut [u16]) -> bool
     requires { ⌜ Sized (now block) × (i < counted (now block) Frames) × Marks (now block) i (now marks) ⌝ }
     ensures { λ r. ⌜ Marking (now (block .entry)) (i + 1) (now (marks .exit)) r ⌝ }
 {
-    let kind = areas::word(block, Area::Frames, i, 0);
-    if kind != 3 {
+    let kind = areas::word(block, Area::Frames, i, Layout::KIND);
+    if kind != Layout::LOCKS {
         return true;
     }
-    let o = areas::word(block, Area::Frames, i, 1) as usize;
+    let o = areas::word(block, Area::Frames, i, Layout::OBJECT) as usize;
     if areas::count(block, Area::Objects) <= o {
         return false;
     }
-    let shut = areas::word(block, Area::Objects, o, 1);
+    let shut = areas::word(block, Area::Objects, o, Layout::SHUT);
     let mark = marks[o];
     // A shut object has the word 1 and may be marked once; an open one has 0.
     if shut <= mark {
@@ -63,7 +64,7 @@ fn none_failed(block: &[u8]) -> bool
     let count = areas::count(block, Area::Positions);
     let mut i = 0;
     while i < count {
-        if areas::word(block, Area::Positions, i, 0) == 3 {
+        if areas::word(block, Area::Positions, i, Layout::KIND) == Layout::FAILED {
             return false;
         }
         i += 1;
@@ -80,7 +81,7 @@ fn shut_are_marked(block: &[u8], marks: &[u16]) -> bool
 {
     let mut n = areas::count(block, Area::Objects);
     while 0 < n {
-        if marks[n - 1] < areas::word(block, Area::Objects, n - 1, 1) {
+        if marks[n - 1] < areas::word(block, Area::Objects, n - 1, Layout::SHUT) {
             return false;
         }
         n -= 1;

@@ -13,7 +13,7 @@ use Rattle.script.specs.Reading.{Kind, null-kind, var-kind, select-kind, update
 use Rattle.script.specs.Statements.{WithinLayout}
 use Rattle.script.proofs.Lists.{in-run, sum-more}
 use Rattle.script.proofs.Declarations.{class-from}
-use Rattle.script.proofs.Reading.{expr-at}
+use Rattle.script.proofs.Reading.{expr-at, in-order}
 use Rattle.script.proofs.Regular.{formed, regular}
 use Rattle.typing.specs.declared.Verdict.the-variants.{Accepted}
 use Rattle.typing.specs.Check.{checkOf}
@@ -53,7 +53,7 @@ module _ (s : List ℕ) where
     body-at m c h k =
         let x = in-run (methodAt s) (sumBelow (ownMethods s) c) (ownMethods s c) m k in
         let l : x .index < countOf s methods = omega (arith, sum-more (ownMethods s) c (countOf s classes) h, w .owners-are .of-methods, x .upto) in
-        record { point = recordWord s methods (x .index) 3; there = w .nodes-are methods (x .index) l; is = ap (λ (d : Method). d .body) (x .is) }
+        record { point = recordWord s methods (x .index) 3; there = w .nodes-are .0 (x .index) l; is = ap (λ (d : Method). d .body) (x .is) }
 
     bodies : (u : ℕ) (c : Class) (m : Method) → declarationAt (programOf s) u ≡ a-class c → m ∈ c .methods → BodyAt (codeOf s) m
     bodies u c m d k = let x = class-from s u c d in body-at m (x .0) (x .1) (rw (x .3) at k)
@@ -68,9 +68,9 @@ accepted s t bytes e =
       typed = exact s w t .0 e;
       most = w .counts-are .within nodes;
       a-node = w .counts-are .a-node;
-      built = λ n h. expr-at s n h (w .nodes-are nodes n h .in-order);
+      built = λ n h. expr-at s n h (in-order s w n h);
       formed = formed s w;
-      in-order = λ n h p m. let q = w .nodes-are nodes n h .in-order p m in record { after = q .later; there = q .there };
+      in-order = λ n h p m. let q = in-order s w n h p m in record { after = q .later; there = q .there };
       words = small s bytes;
       bodies = bodies s w;
       start = refl;

@@ -8,7 +8,7 @@ use Rattle.script.specs.Syntax.{declarationAt}
 use Rattle.script.specs.Questions.{allOf}
 use Rattle.typing.specs.Members.{valuesTo, valueAt, reach, below, meaning, ownMethod, methodIn, typeIn, fieldIn}
 use Rattle.typing.specs.declared.Answer.the-variants.{Typed}
-use Rattle.typing.specs.Typing.{without, fv, isIn, shares, inferred, checked, bodiesFrom, bodiesOf, walk}
+use Rattle.typing.specs.Typing.{without, fv, isIn, shares, answer, bodiesFrom, bodiesOf, walk}
 use Rattle.machine.specs.Machine.{locate, move, choice}
 use Rattle.machine.specs.Decide.{wellFormedTest}
 use Rattle.machine.specs.Runs.{look, report}
@@ -25,7 +25,7 @@ of-row P [] x h m = absurd (List·Memᴰ·not-nil m)
 of-row P (y ∷ l) x h m = ⊎-elim (λ (e : x ≡ y). subst P (sym e) (h .0)) (λ (k : x ∈ l). of-row P l x (h .1) k) (List·Memᴰ·cases-cons m)
 
 outcomes : Rows (λ x. choice exampleCode (x .room) (x .config) (x .position) ≡ x .outcome) examples
-unfolding named declarationAt valuesTo valueAt reach below typeIn inferred move choice exampleNodes exampleCode examples
+unfolding named declarationAt valuesTo valueAt reach below typeIn answer move choice exampleNodes exampleCode examples
 outcomes =
     (refl, (refl, (refl, (refl, (refl, (refl, (refl, (refl, (refl, (refl, (refl, (refl, (refl, (refl, (refl, (refl, (refl, (refl, (refl, (refl, (refl, (refl, (refl, (refl, (refl, (refl, (refl, (refl, (refl, (refl, (refl, (refl, (refl, (refl, (refl, (refl, (refl, (refl, (refl, (refl, (refl, (refl, (refl, (refl, (refl, (refl, (refl, (refl, (refl, (refl, (refl, (refl, (refl, (refl, (refl, (refl, (refl, tt)))))))))))))))))))))))))))))))))))))))))))))))))))))))))
 
@@ -50,13 +50,13 @@ holders =
     (refl, (refl, (refl, (refl, (refl, tt)))))
 
 formed : Rows (λ x. wellFormedTest exampleCode (x .room) 2 (x .config) ≡ true) examples
-unfolding named declarationAt allOf valuesTo valueAt reach below meaning ownMethod methodIn typeIn fieldIn without fv isIn shares inferred wellFormedTest exampleNodes exampleCode examples
+unfolding named declarationAt allOf valuesTo valueAt reach below meaning ownMethod methodIn typeIn fieldIn without fv isIn shares answer wellFormedTest exampleNodes exampleCode examples
 formed =
     (refl, (refl, (refl, (refl, (refl, (refl, (refl, (refl, (refl, (refl, (refl, (refl, (refl, (refl, (refl, (refl, (refl, (refl, (refl, (refl, (refl, (refl, (refl, (refl, (refl, (refl, (refl, (refl, (refl, (refl, (refl, (refl, (refl, (refl, (refl, (refl, (refl, (refl, (refl, (refl, (refl, (refl, (refl, (refl, (refl, (refl, (refl, (refl, (refl, (refl, (refl, (refl, (refl, (refl, (refl, (refl, (refl, tt)))))))))))))))))))))))))))))))))))))))))))))))))))))))))
 
 -- The script gets a yes to questions 11 to 15, and its start has type 2.
 pub example-typed : walk exampleProgram (bodiesOf exampleProgram) ≡ Typed 2
-unfolding named declarationAt valuesTo valueAt reach below meaning ownMethod methodIn typeIn fieldIn without fv isIn shares inferred checked bodiesFrom bodiesOf walk exampleNodes
+unfolding named declarationAt valuesTo valueAt reach below meaning ownMethod methodIn typeIn fieldIn without fv isIn shares answer bodiesFrom bodiesOf walk exampleNodes
 example-typed = refl
 
 -- the four tables

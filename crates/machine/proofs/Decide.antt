@@ -2,7 +2,7 @@
 use Prim.Native.Nat.{ℕ, zero, suc, _+_, _≤_, _<_}
 use native.Mathlib.Omega.{arith}
 use native.Mathlib.Decide.{decLt, ℕ-discrete}
-use mathlib.Core.Path.{_≡_, refl}
+use mathlib.Core.Path.{_≡_, refl, sym}
 use mathlib.Core.Bool.{Bool, true, false, cond, _&&_, _||_}
 use mathlib.Core.List.{List, [], _∷_, map, List·Memᴰ·head, List·Memᴰ·tail, List·Memᴰ·cases-cons, List·Memᴰ·not-nil}
 use mathlib.Core.Logic.{_⊎_, inl, inr, ⊎-elim}
@@ -13,19 +13,22 @@ use borrow.Author.Tests.{leb-true, le-leb, ltb-true, lt-ltb}
 use Rattle.script.specs.Lists.{_∈_}
 use Rattle.script.specs.Asking.{Decides, holds, fails}
 use Rattle.script.specs.Questions.{allOf}
-use Rattle.script.specs.Syntax.{Point, Node, n-null, n-var, n-select, n-update, n-call, n-bind, n-new, n-cast, n-fork, n-lock, Expr, null, var, select, update, call, bind, new, cast, fork, lock, isNull, parts, Slot, Signature, Program}
+use Rattle.script.specs.Syntax.{Point, Node, n-null, n-var, n-select, n-update, n-call, n-bind, n-new, n-cast, n-fork, n-lock, Expr, null, var, select, update, call, bind, new, cast, fork, lock, isNull, parts, Slot, Signature}
 use Rattle.script.specs.Regular.{IsType, IsClass, Formed}
 use Rattle.script.proofs.Tests.{says-yes, yes-said, decides-as, decides-and, decides-or, decides-not, decides-eq, decides-le, decides-lt, decides-all}
 use Rattle.script.proofs.Reading.{first, second}
+use Rattle.typing.specs.declared.Aim.the-variants.{Infers as infers}
 use Rattle.typing.specs.declared.Answer.{Answer}
 use Rattle.typing.specs.declared.Answer.the-variants.{Typed, Faulty}
+use Rattle.typing.specs.Environments.{TypeOf}
 use Rattle.typing.specs.Members.{typeIn, fieldIn, methodIn, fieldsOf}
 use Rattle.typing.specs.Typing.{inferred}
-use Rattle.typing.specs.Published.{WfType, Sub, WfEnv, WF-ENV, MsigIn, Infer}
+use Rattle.typing.specs.Published.{WfType, Sub, WfEnv, WF-ENV, MsigIn}
+use Rattle.typing.proofs.Environments.{type-in, typed-exactly}
 use Rattle.typing.proofs.Types.{type-wf}
 use Rattle.typing.proofs.Subtype.{decides-below}
 use Rattle.typing.proofs.Members.{field-in, method-in, method-only, signature-types}
-use Rattle.typing.proofs.Rules.{Judged, types, refuses, env-more, judged}
+use Rattle.typing.proofs.Rules.{infer-type, Judged, types, refuses, env-more, judged, inferred-typed}
 use Rattle.machine.specs.declared.Value.{Value}
 use Rattle.machine.specs.declared.Value.the-variants.{Null as nil, Ref as ref}
 use Rattle.machine.specs.declared.Frame.{Frame}
@@ -36,8 +39,8 @@ use Rattle.machine.specs.declared.Want.{Want}
 use Rattle.machine.specs.declared.Want.the-variants.{Any as any, Upto as upto}
 use Rattle.machine.specs.WellFormed.{Meets, meets-any, meets-type, ValueFits, fits-nil, fits-ref, Gives, gives-null, gives-type, NodeGives, BindingOk, BindingsOk, no-bindings, a-binding, FieldsOk, no-fields, a-field, StoresOk, Awaits, a-let, a-write, a-call, FramesOk, no-frames, a-node, a-cast, a-lock, TreeOk, running-ok, returning-ok, failed-ok, join-ok, lockCount, failures, shutAt, Within, WellFormed}
 use Rattle.machine.specs.Accepted.{LaterPart, AcceptedCode}
-use Rattle.machine.specs.Decide.{given, ifTyped, only, meetsTest, objectTest, valueFitsTest, answerTest, givesTest, atTest, isClassTest, fieldsTest, bindingTest, bindingsTest, storesTest, Turn, turn, castType, expects, wantTest, treeTest, lockList, distinctTest, numbersBelow, coveredTest, withinLimitsTest, wellFormedTest}
-use Rattle.machine.proofs.Types.{infer-computes, rules-function}
+use Rattle.machine.specs.Decide.{given, ifTyped, only, meetsTest, objectTest, valueFitsTest, answerTest, givesTest, atTest, isClassTest, fieldsTest, bindingTest, bindingsTest, storesTest, awaited, castType, expects, wantTest, treeTest, lockList, distinctTest, numbersBelow, coveredTest, withinLimitsTest, wellFormedTest}
+use Rattle.machine.proofs.Types.{null-meets, infer-computes, rules-function}
 use Rattle.machine.proofs.Locks.{lock-listed}
 
 -- a second test that decides where the first passes
@@ -99,7 +102,7 @@ pub context-wf : {s : Code} {xs : List Object} {bs : List Binding} → BindingsO
 context-wf ok e = WF-ENV (cond-types ok e)
 
 null-gives : {s : Code} {Γ : List Slot} {w : Want} (e : Expr) → isNull e ≡ true → Gives s Γ e w
-null-gives (null n) h = gives-null
+null-gives {w = w} (null n) h = gives-null (null-meets w)
 null-gives (var n x) h = absurd (let z : _≡_ {A = ℕ} 0 1 = cc in omega arith)
 null-gives (select n x f) h = absurd (let z : _≡_ {A = ℕ} 0 1 = cc in omega arith)
 null-gives (update n x f a) h = absurd (let z : _≡_ {A = ℕ} 0 1 = cc in omega arith)
@@ -128,12 +131,14 @@ fields-long f = elim f [ ]
 bindings-both : {s : Code} {xs : List Object} {b : Binding} {bs : List Binding} → BindingsOk s xs (b ∷ bs) → BindingOk s xs (length bs) b × BindingsOk s xs bs
 bindings-both (a-binding h ok) = (h, ok)
 
-judged-typed : {p : Program} {Γ : List Slot} {e : Expr} {t : ℕ} {r : Answer} → Judged p Γ e r → r ≡ Typed t → Infer p Γ e t × IsType p t
-judged-typed {t = t} (types {t = u} h i) e = let q : u ≡ t = cc in (rw q at h, rw q at i)
-judged-typed (refuses h) e = absurd (let z : _≡_ {A = ℕ} 0 1 = cc in omega arith)
+call-awaits :
+    {s : Code} {Γ : List Slot} {x m c : ℕ} {a : Point} {v : Want} (g : Signature) → TypeOf Γ x c → MsigIn (s .program) c g → g .name ≡ m → Meets s (g .result) v
+    → Awaits s Γ (n-call x m a) (g .param) v
+call-awaits g h i n k = rw (← n) (a-call h i k)
 
-call-awaits : {s : Code} {Γ : List Slot} {x m c : ℕ} {a : Point} (g : Signature) → typeIn Γ x ≡ some c → MsigIn (s .program) c g → g .name ≡ m → Awaits s Γ (n-call x m a) (g .param) (g .result)
-call-awaits g h i n = rw (← n) (a-call h i)
+answer-typed : (s : Code) (v : Want) (r : Answer) → answerTest s r v ≡ true → (u : ℕ) × (r ≡ Typed u) × (meetsTest s u v ≡ true)
+answer-typed s v (Typed u) h = (u, refl, h)
+answer-typed s v (Faulty q n) h = absurd (let z : _≡_ {A = ℕ} 0 1 = cc in omega arith)
 
 cast-view : (n : Node) (t : ℕ) → castType n ≡ some t → (a : Point) × (n ≡ n-cast t a)
 cast-view n-null t h = absurd (Option·none-ne-some _ h)
@@ -154,7 +159,7 @@ module _ {s : Code} {start : ℕ} (acc : AcceptedCode s start) where
 
   module _ (xs : List Object) (classes : Classes s xs) where
     decides-fits : (v : Value) (w : Want) → Decides (ValueFits s xs v w) (valueFitsTest s xs v w)
-    decides-fits nil w = holds fits-nil
+    decides-fits nil w = holds (fits-nil (null-meets w))
     decides-fits (ref o) w = go (object xs o) refl
       where
         go : (q : Option Object) → object xs o ≡ q → Decides (ValueFits s xs (ref o) w) (objectTest s w q)
@@ -191,15 +196,15 @@ module _ {s : Code} {start : ℕ} (acc : AcceptedCode s start) where
 
   -- an expression
   gives-back : {Γ : List Slot} {e : Expr} {t : ℕ} {w : Want} → Gives s Γ e w → isNull e ≡ false → inferred (s .program) Γ e ≡ Typed t → Meets s t w
-  gives-back gives-null n i = absurd (let z : _≡_ {A = ℕ} 0 1 = cc in omega arith)
+  gives-back (gives-null m) n i = absurd (let z : _≡_ {A = ℕ} 0 1 = cc in omega arith)
   gives-back {t = t} (gives-type {t = u} h m) n i = let k = infer-computes acc h in let q : u ≡ t = cc in rw q at m
 
   gives-never : {Γ : List Slot} {e : Expr} {w : Want} → Gives s Γ e w → isNull e ≡ false → ((t : ℕ) → inferred (s .program) Γ e ≡ Typed t → ⊥) → ⊥
-  gives-never gives-null n i = let z : _≡_ {A = ℕ} 0 1 = cc in omega arith
+  gives-never (gives-null m) n i = let z : _≡_ {A = ℕ} 0 1 = cc in omega arith
   gives-never (gives-type h m) n i = i _ (infer-computes acc h)
 
-  gives-judged : {Γ : List Slot} {e : Expr} {r : Answer} → Judged (s .program) Γ e r → inferred (s .program) Γ e ≡ r → (w : Want) → isNull e ≡ false → Decides (Gives s Γ e w) (answerTest s r w)
-  gives-judged (types {t = t} h i) e w n = decides-as (gives-type h) (λ g. gives-back g n e) (decides-meets t w i)
+  gives-judged : {Γ : List Slot} {e : Expr} {r : Answer} → Judged (s .program) Γ e infers r → inferred (s .program) Γ e ≡ r → (w : Want) → isNull e ≡ false → Decides (Gives s Γ e w) (answerTest s r w)
+  gives-judged (types {t = t} h) e w n = decides-as (gives-type h) (λ g. gives-back g n e) (decides-meets t w (infer-type (s .program) (acc .regular) h))
   gives-judged (refuses h) e w n = fails (λ g. gives-never g n (λ t k. let z : _≡_ {A = ℕ} 0 1 = cc in omega arith))
 
   decides-gives : (Γ : List Slot) (e : Expr) (w : Want) → WfEnv (s .program) Γ → Formed (s .program) e → Decides (Gives s Γ e w) (givesTest s Γ e w)
@@ -207,7 +212,7 @@ module _ {s : Code} {start : ℕ} (acc : AcceptedCode s start) where
     where
       go : (q : Bool) → isNull e ≡ q → Decides (Gives s Γ e w) (q || answerTest s (inferred (s .program) Γ e) w)
       go true n = holds (null-gives e n)
-      go false n = gives-judged (judged (s .program) (acc .regular) Γ e env f) refl w n
+      go false n = gives-judged (judged (s .program) (acc .regular) Γ e infers env tt f) refl w n
 
   decides-at : (Γ : List Slot) (a : Point) (w : Want) → WfEnv (s .program) Γ → Decides (NodeGives s Γ a w) (atTest s Γ a w)
   decides-at Γ a w env =
@@ -215,41 +220,50 @@ module _ {s : Code} {start : ℕ} (acc : AcceptedCode s start) where
       (decides-then (decides-lt a (s .size)) (λ l. decides-gives Γ (s .expr a) w env (acc .formed a l)))
 
   -- a node that waits
-  inferred-typed : (Γ : List Slot) (e : Expr) (t : ℕ) → WfEnv (s .program) Γ → Formed (s .program) e → inferred (s .program) Γ e ≡ Typed t → Infer (s .program) Γ e t × IsType (s .program) t
-  inferred-typed Γ e t env f h = judged-typed (judged (s .program) (acc .regular) Γ e env f) h
-
-  turn-sound : (Γ : List Slot) (i : Point) (n : Node) → WfEnv (s .program) Γ → ((q : Point) → q ∈ parts n → LaterPart s i q) → (k : Turn) → turn s Γ n ≡ some k
-      → Awaits s Γ n (k .wanted) (k .gives) × IsType (s .program) (k .gives)
-  turn-sound Γ i n-null env y k h = absurd (Option·none-ne-some _ h)
-  turn-sound Γ i (n-var x) env y k h = absurd (Option·none-ne-some _ h)
-  turn-sound Γ i (n-select x f) env y k h = absurd (Option·none-ne-some _ h)
-  turn-sound Γ i (n-update x f a) env y k h =
-      let p = given-some (typeIn Γ x) _ k h in
-      let q = given-some (fieldIn (s .program) (p .0) f) _ k (p .2) in
-      let e = some-same (record { wanted = q .0; gives = 0 }) k (q .2) in
-      rw (← e) (a-write (p .1) (field-in (s .program) (acc .regular) (p .0) f (q .0) .0 (q .1)), omega arith)
-  turn-sound Γ i (n-call x m a) env y k h =
-      let p = given-some (typeIn Γ x) _ k h in
-      let q = given-some (methodIn (s .program) (p .0) m) _ k (p .2) in
-      let e = some-same (record { wanted = q .0 .param; gives = q .0 .result }) k (q .2) in
+  awaited-sound : (Γ : List Slot) (i : Point) (n : Node) (v : Want) → WfEnv (s .program) Γ → ((q : Point) → q ∈ parts n → LaterPart s i q) → (w : Want) → awaited s Γ n v ≡ some w
+      → (t : ℕ) × (w ≡ upto t) × Awaits s Γ n t v
+  awaited-sound Γ i n-null v env y w h = absurd (Option·none-ne-some _ h)
+  awaited-sound Γ i (n-var x) v env y w h = absurd (Option·none-ne-some _ h)
+  awaited-sound Γ i (n-select x f) v env y w h = absurd (Option·none-ne-some _ h)
+  awaited-sound Γ i (n-update x f a) v env y w h =
+      let p = given-some (typeIn Γ x) _ w h in
+      let q = given-some (fieldIn (s .program) (p .0) f) _ w (p .2) in
+      let k = only-some (meetsTest s 0 v) (some (upto (q .0))) w (q .2) in (
+        q .0,
+        sym (some-same (upto (q .0)) w (k .1)),
+        a-write (typed-exactly Γ x (p .0) .0 (p .1)) (field-in (s .program) (acc .regular) (p .0) f (q .0) .0 (q .1)) (says-yes (decides-meets 0 v (omega arith)) (k .0)),
+      )
+  awaited-sound Γ i (n-call x m a) v env y w h =
+      let p = given-some (typeIn Γ x) _ w h in
+      let q = given-some (methodIn (s .program) (p .0) m) _ w (p .2) in
+      let k = only-some (meetsTest s (q .0 .result) v) (some (upto (q .0 .param))) w (q .2) in
       let j = method-in (s .program) (acc .regular) (p .0) m (q .0) (q .1) in
-      rw (← e) (call-awaits (q .0) (p .1) (j .0) (j .1), signature-types (s .program) (acc .regular) (j .0) .result)
-  turn-sound Γ i (n-bind x a b) env y k h =
-      let p = typed-some (inferred (s .program) Γ (s .expr a)) _ k h in
-      let q = typed-some (inferred (s .program) (record { name = x; type = p .0 } ∷ Γ) (s .expr b)) _ k (p .2) in
-      let e = some-same (record { wanted = p .0; gives = q .0 }) k (q .2) in
-      let u = inferred-typed Γ (s .expr a) (p .0) env (acc .formed a (y a first .there)) (p .1) in
-      let v = inferred-typed (record { name = x; type = p .0 } ∷ Γ) (s .expr b) (q .0) (env-more (s .program) Γ x (p .0) env (u .1)) (acc .formed b (y b second .there)) (q .1) in
-      rw (← e) (a-let (u .0) (v .0), v .1)
-  turn-sound Γ i (n-new c) env y k h = absurd (Option·none-ne-some _ h)
-  turn-sound Γ i (n-cast t a) env y k h = absurd (Option·none-ne-some _ h)
-  turn-sound Γ i (n-fork a b c) env y k h = absurd (Option·none-ne-some _ h)
-  turn-sound Γ i (n-lock x a) env y k h = absurd (Option·none-ne-some _ h)
+      let r = signature-types (s .program) (acc .regular) (j .0) .result in (
+        q .0 .param,
+        sym (some-same (upto (q .0 .param)) w (k .1)),
+        call-awaits (q .0) (typed-exactly Γ x (p .0) .0 (p .1)) (j .0) (j .1) (says-yes (decides-meets (q .0 .result) v r) (k .0)),
+      )
+  awaited-sound Γ i (n-bind x a b) v env y w h =
+      let p = typed-some (inferred (s .program) Γ (s .expr a)) _ w h in
+      let k = only-some (answerTest s (inferred (s .program) (record { name = x; type = p .0 } ∷ Γ) (s .expr b)) v) (some (upto (p .0))) w (p .2) in
+      let q = answer-typed s v (inferred (s .program) (record { name = x; type = p .0 } ∷ Γ) (s .expr b)) (k .0) in
+      let z = inferred-typed (s .program) (acc .regular) in
+      let u = z Γ (s .expr a) (p .0) env (acc .formed a (y a first .there)) (p .1) in
+      let o = env-more (s .program) Γ x (p .0) env (infer-type (s .program) (acc .regular) u) in
+      let j = z (record { name = x; type = p .0 } ∷ Γ) (s .expr b) (q .0) o (acc .formed b (y b second .there)) (q .1) in
+      (p .0, sym (some-same (upto (p .0)) w (k .1)), a-let u j (says-yes (decides-meets (q .0) v (infer-type (s .program) (acc .regular) j)) (q .2)))
+  awaited-sound Γ i (n-new c) v env y w h = absurd (Option·none-ne-some _ h)
+  awaited-sound Γ i (n-cast u a) v env y w h = absurd (Option·none-ne-some _ h)
+  awaited-sound Γ i (n-fork a b c) v env y w h = absurd (Option·none-ne-some _ h)
+  awaited-sound Γ i (n-lock x a) v env y w h = absurd (Option·none-ne-some _ h)
 
-  turn-complete : {Γ : List Slot} {t u : ℕ} (n : Node) → Awaits s Γ n t u → turn s Γ n ≡ some (record { wanted = t; gives = u })
-  turn-complete (n-bind x a b) (a-let p q) = rw (infer-computes acc p, infer-computes acc q)
-  turn-complete (n-update x f a) (a-write {c = c} {t = t} h d) = rw (h, field-in (s .program) (acc .regular) c f t .1 d)
-  turn-complete (n-call x m a) (a-call {c = c} h d) = rw (h, method-only (s .program) (acc .regular) (rules-function (acc .typed)) c _ d)
+  awaited-complete : {Γ : List Slot} {t : ℕ} {v : Want} (n : Node) → Awaits s Γ n t v → awaited s Γ n v ≡ some (upto t)
+  awaited-complete {v = v} (n-bind x a b) (a-let {u = u} p q m) =
+      rw (infer-computes acc p, infer-computes acc q, yes-said (decides-meets u v (infer-type (s .program) (acc .regular) q)) m)
+  awaited-complete {v = v} (n-update x f a) (a-write {c = c} {t = t} h d m) =
+      rw (type-in h, field-in (s .program) (acc .regular) c f t .1 d, yes-said (decides-meets 0 v (omega arith)) m)
+  awaited-complete {v = v} (n-call x o a) (a-call {c = c} {u = u} h d m) =
+      rw (type-in h, method-only (s .program) (acc .regular) (rules-function (acc .typed)) c _ d, yes-said (decides-meets u v (signature-types (s .program) (acc .regular) d .result)) m)
 
   -- frames
   cast-type : (n a : Point) (t : ℕ) → n < s .size → s .view n ≡ n-cast t a → IsType (s .program) t
@@ -262,12 +276,9 @@ module _ {s : Code} {start : ℕ} (acc : AcceptedCode s start) where
         let p = given-some (expects s bs w fs) _ u h in
         let j = only-some (ltb n (s .size)) _ u (p .2) in
         let q = only-some (leb e (length bs)) _ u (j .1) in
-        let i = given-some (turn s (context bs e) (s .view n)) _ u (q .1) in
-        let k = only-some (meetsTest s (i .0 .gives) (p .0)) (some (upto (i .0 .wanted))) u (i .2) in
         let l = ltb-true n (s .size) (j .0) in
-        let a = turn-sound (context bs e) n (s .view n) (env e) (acc .in-order n l) (i .0) (i .1) in
-        rw (← some-same (upto (i .0 .wanted)) u (k .1))
-        (a-node l (leb-true e (length bs) (q .0)) (a .0) (says-yes (decides-meets (i .0 .gives) (p .0) (a .1)) (k .0)) (expects-sound w (p .0) fs (p .1)))
+        let a = awaited-sound (context bs e) n (s .view n) (p .0) (env e) (acc .in-order n l) u (q .1) in
+        rw (a .1) (a-node l (leb-true e (length bs) (q .0)) (a .2) (expects-sound w (p .0) fs (p .1)))
     expects-sound w u (casts n ∷ fs) h =
         let p = given-some (expects s bs w fs) _ u h in
         let j = only-some (ltb n (s .size)) _ u (p .2) in
@@ -279,14 +290,9 @@ module _ {s : Code} {start : ℕ} (acc : AcceptedCode s start) where
         (a-cast l (v .1) (says-yes (decides-meets (i .0) (p .0) (cast-type n (v .0) (i .0) l (v .1))) (k .0)) (expects-sound w (p .0) fs (p .1)))
     expects-sound w u (locks o ∷ fs) h = a-lock (expects-sound w u fs h)
 
-    meets-complete : {n : Point} (e : ℕ) {t u : ℕ} {v : Want} → n < s .size → Awaits s (context bs e) (s .view n) t u → Meets s u v → meetsTest s u v ≡ true
-    meets-complete {n} e {t} {u} {v} l a m =
-        yes-said (decides-meets u v (turn-sound (context bs e) n (s .view n) (env e) (acc .in-order n l) (record { wanted = t; gives = u }) (turn-complete (s .view n) a) .1)) m
-
     expects-complete : {w u : Want} {fs : List Frame} → FramesOk s bs w fs u → expects s bs w fs ≡ some u
     expects-complete no-frames = refl
-    expects-complete (a-node {n = n} {e = e} l h p m r) =
-        rw (expects-complete r, lt-ltb n (s .size) l, le-leb e (length bs) h, turn-complete (s .view n) p, meets-complete e l p m)
+    expects-complete (a-node {n = n} {e = e} l h p r) = rw (expects-complete r, lt-ltb n (s .size) l, le-leb e (length bs) h, awaited-complete (s .view n) p)
     expects-complete (a-cast {n = n} {a = a} {t = t} {v = v} l h m r) =
         rw (expects-complete r, lt-ltb n (s .size) l, h, yes-said (decides-meets t v (cast-type n a t l h)) m)
     expects-complete (a-lock r) = expects-complete r

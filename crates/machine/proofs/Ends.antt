@@ -2,118 +2,79 @@
 use Prim.Native.Nat.{ℕ, _+_, _≤_}
 use native.Mathlib.Omega.{arith}
 use native.Mathlib.Decide.{decLe}
-use mathlib.Core.Path.{_≡_, refl, sym, _∙_, ap}
+use mathlib.Core.Path.{_≡_, refl, ap}
 use mathlib.Core.Bool.{false}
 use mathlib.Core.Option.{Option, some}
 use mathlib.Core.Logic.{_⊎_, inl, inr, ⊎-elim}
 use mathlib.Core.List.{List, [], _∷_, _++_}
-use Rattle.script.specs.Syntax.{Point, Node}
+use Rattle.script.specs.Syntax.{Point}
 use Rattle.machine.specs.declared.Ending.{Ending}
-use Rattle.machine.specs.declared.Value.{Value}
 use Rattle.machine.specs.declared.Frame.{Frame}
 use Rattle.machine.specs.declared.Frame.the-variants.{Awaits as awaits, Casts as casts, Locks as locks}
 use Rattle.machine.specs.Config.{Code, Stores, Tree, running, returning, failed, join, Config}
-use Rattle.machine.specs.Machine.{lockFrames, Places, Outcome, spare, still, full, moved, Phase, finished, broken, busy, phase, fold, inLeft, inRight, Path, here, left, right, moveAt, move}
+use Rattle.machine.specs.Machine.{lockFrames, Places, still, Phase, finished, broken, busy, phase, Path, here, left, right, move, At, at-root, at-left, at-right}
 use Rattle.machine.specs.declared.Want.{Want}
-use Rattle.machine.specs.WellFormed.{StoresOk, TreeOk, running-ok, returning-ok, join-ok, lockCount, failures, shutAt, WfConfig}
+use Rattle.machine.specs.WellFormed.{lockCount, failures, shutAt, WfConfig}
 use Rattle.machine.specs.Accepted.{AcceptedCode}
-use Rattle.machine.specs.Standing.{Waits, waits, ThreadAt, thread-running, thread-returning, thread-left, thread-right, FinishedAt, finished-here, finished-left, finished-right, WaitsAt, waits-here, waits-left, waits-right, heldBy, Blocked, Deadlock, ending, End, ends-finished, ends-failed, ends-deadlocked}
-use Rattle.machine.proofs.Move.{Judged, no-move, run-good, resume-good}
-use Rattle.machine.proofs.Trees.{finished-locks}
+use Rattle.machine.specs.CannotMove.{StaysHere, stays-waiting, stays-finished, stays-failed}
+use Rattle.machine.specs.Ends.{Waits, waits, Thread, thread-running, thread-returning, thread-failed, FinishedThread, has-value, heldBy, Blocked, Deadlock, ending, End, ends-finished, ends-failed, ends-deadlocked}
+use Rattle.machine.proofs.Places.{part-at}
+use Rattle.machine.proofs.Trees.{finished-locks, is-broken}
+use Rattle.machine.proofs.CannotMove.{finished-at, finished-or, busy-unfinished, unfailed-finished, unfailed-busy, join-both, join-left, join-right, place-stays}
 
--- A tree in which nothing can move and nothing has failed.
-data Stands (s : Code) (st : Stores) : List Frame → Tree → Type 0 where
-  stands-finished : {above : List Frame} {v : Value} → Stands s st above (returning v [])
-  stands-waiting : {above fs : List Frame} {a : Point} {e o : ℕ} → Waits st above fs e o (s .view a) → Stands s st above (running a e fs)
-  stands-join : {above fs : List Frame} {a : Point} {e : ℕ} {l r : Tree} → Stands s st (fs ++ above) l → Stands s st [] r
-      → (phase l ≡ finished → phase r ≡ finished → ⊥) → Stands s st above (join fs a e l r)
+-- No part of the tree can move.
+abbrev AllStay : Code → Stores → List Frame → Tree → Type 0
+AllStay s st above t = (p : Path) (handed : List Frame) (u : Tree) → At above t p handed u → StaysHere s st handed u
 
-because : {s : Code} {w : Want} {st : Stores} {t : Tree} {Q : Type 0} → Judged s w st t Q still → Q
-because (no-move q) = q
+-- a thread of it that waits
+record Waiter (s : Code) (st : Stores) (above : List Frame) (t : Tree) : Type 0 where
+  place : Path
+  handed : List Frame
+  thread : Tree
+  object : ℕ
+  there : At above t place handed thread
+  waiting : Waits s st handed object thread
 
-still≢moved : {A : Type 0} {st : Stores} {t : Tree} → moved st t ≡ still → A
-still≢moved h = let z : _≡_ {A = ℕ} 0 1 = cc in absurd (omega arith)
+at-whole : {above handed : List Frame} {t u : Tree} {p : Path} → At above t p handed u → failures t ≡ 0 → failures u ≡ 0
+at-whole at-root z = z
+at-whole (at-left k) z = at-whole k (omega arith)
+at-whole (at-right k) z = at-whole k (omega arith)
 
--- an outcome of a part is no move if that of the whole is none
-left-still : (fs : List Frame) (a : Point) (e : ℕ) (r : Tree) (o : Outcome) → inLeft fs a e r o ≡ still → o ≡ still
-left-still fs a e r still h = refl
-left-still fs a e r (full k) h = cc
-left-still fs a e r (moved st t) h = cc
+module _ {s : Code} {st : Stores} where
+  -- it has no failed thread, unless it is one
+  whole : (above : List Frame) (t : Tree) → AllStay s st above t → (t ≡ failed → ⊥) → failures t ≡ 0
+  whole above (running a e fs) k n = refl
+  whole above (returning v fs) k n = refl
+  whole above failed k n = absurd (n refl)
+  whole above (join fs a e l r) k n =
+      let x = k here above (join fs a e l r) at-root in
+      omega (arith, whole (fs ++ above) l (λ p h u i. k (left p) h u (at-left i)) (join-left x), whole [] r (λ p h u i. k (right p) h u (at-right i)) (join-right x))
 
-right-still : (fs : List Frame) (a : Point) (e : ℕ) (l : Tree) (o : Outcome) → inRight fs a e l o ≡ still → o ≡ still
-right-still fs a e l still h = refl
-right-still fs a e l (full k) h = cc
-right-still fs a e l (moved st t) h = cc
+  -- each thread is finished or waits, and if it is not itself finished some thread waits
+  each : {above : List Frame} {u : Tree} → Thread u → StaysHere s st above u → failures u ≡ 0 → FinishedThread u ⊎ ((o : ℕ) × Waits s st above o u)
+  each thread-running (stays-waiting {o = o} x) z = inr (o, x)
+  each thread-returning stays-finished z = inl has-value
+  each thread-failed stays-failed z = absurd (omega arith)
 
-pub fold-broken : (st : Stores) (fs : List Frame) (a : Point) (e : ℕ) (q : Phase) → fold st fs a e q broken ≡ moved st failed
-fold-broken st fs a e finished = refl
-fold-broken st fs a e broken = refl
-fold-broken st fs a e busy = refl
+  itself : (above : List Frame) (t : Tree) → Thread t → AllStay s st above t → failures t ≡ 0 → (FinishedThread t → ⊥) → Waiter s st above t
+  itself above t x k z n =
+      ⊎-elim (λ f. absurd (n f)) (λ w. record { place = here; handed = above; thread = t; object = w .0; there = at-root; waiting = w .1 }) (each x (k here above t at-root) z)
 
-join-stands : {s : Code} {st : Stores} (above fs : List Frame) (a : Point) (e : ℕ) (l r : Tree) → fold st fs a e (phase l) (phase r) ≡ still
-    → (l ≡ failed) ⊎ Stands s st (fs ++ above) l → (r ≡ failed) ⊎ Stands s st [] r → Stands s st above (join fs a e l r)
-join-stands {st = st} above fs a e l r n (inl p) y = still≢moved {st = st} {t = failed} (rw p at n)
-join-stands {st = st} above fs a e l r n (inr x) (inl p) = still≢moved {st = st} {t = failed} (sym (fold-broken st fs a e (phase l)) ∙ (rw p at n))
-join-stands {st = st} above fs a e l r n (inr x) (inr y) = stands-join x y (λ u v. still≢moved {st = st} {t = running a e fs} (rw (u, v) at n))
+  in-left : {above fs : List Frame} {a : Point} {e : ℕ} {l r : Tree} → Waiter s st (fs ++ above) l → Waiter s st above (join fs a e l r)
+  in-left w = record { place = left (w .place); handed = w .handed; thread = w .thread; object = w .object; there = at-left (w .there); waiting = w .waiting }
 
-returning-stands : {s : Code} {st : Stores} (above : List Frame) (v : Value) (fs : List Frame) → fs ≡ [] → Stands s st above (returning v fs)
-returning-stands above v fs h = rw h stands-finished
+  in-right : {above fs : List Frame} {a : Point} {e : ℕ} {l r : Tree} → Waiter s st [] r → Waiter s st above (join fs a e l r)
+  in-right w = record { place = right (w .place); handed = w .handed; thread = w .thread; object = w .object; there = at-right (w .there); waiting = w .waiting }
 
-module _ {s : Code} {st : Stores} {start : ℕ} (acc : AcceptedCode s start) (room : Places) (ok : StoresOk s st) where
-  stands : {w : Want} (above : List Frame) (t : Tree) → TreeOk s st w t → ((o : ℕ) → lockCount o t ≤ shutAt (st .objects) o)
-      → ((p : Path) → moveAt s room st above t p ≡ still) → (t ≡ failed) ⊎ Stands s st above t
-  stands above (running a e fs) (running-ok le g r) k n = inr (stands-waiting (because (rw (n here) at (run-good ok acc room above fs a _ r e le (s .view a) (g .node) refl (acc .in-order a (g .node)) (rw (acc .built a (g .node)) at (g .gives)))) .1))
-  stands above (returning v fs) (returning-ok f r) k n = inr (returning-stands above v fs (because (rw (n here) at (resume-good ok acc room v fs _ r f k))))
-  stands above failed x k n = inl refl
-  stands above (join fs a e l r) (join-ok le g h x y) k n =
-      inr
-      (join-stands above fs a e l r (n here) (stands (fs ++ above) l x (λ o. omega (arith, k o)) (λ p. left-still fs a e r _ (n (left p))))
-      (stands [] r y (λ o. omega (arith, k o)) (λ p. right-still fs a e l _ (n (right p)))))
-
-stands-whole : {s : Code} {st : Stores} {above : List Frame} {t : Tree} → Stands s st above t → failures t ≡ 0
-stands-whole stands-finished = refl
-stands-whole (stands-waiting x) = refl
-stands-whole (stands-join x y z) = omega (arith, stands-whole x, stands-whole y)
-
--- each thread of such a tree is finished or waits
-abbrev Waiter : Code → Stores → List Frame → Tree → Path → Type 0
-Waiter s st above t p = (o : ℕ) × WaitsAt s st o above t p
-
-either-left : {s : Code} {st : Stores} {above fs : List Frame} {a : Point} {e : ℕ} {l r : Tree} {p : Path} → FinishedAt l p ⊎ Waiter s st (fs ++ above) l p
-    → FinishedAt (join fs a e l r) (left p) ⊎ Waiter s st above (join fs a e l r) (left p)
-either-left (inl f) = inl (finished-left f)
-either-left (inr w) = inr (w .0, waits-left (w .1))
-
-either-right : {s : Code} {st : Stores} {above fs : List Frame} {a : Point} {e : ℕ} {l r : Tree} {p : Path} → FinishedAt r p ⊎ Waiter s st [] r p
-    → FinishedAt (join fs a e l r) (right p) ⊎ Waiter s st above (join fs a e l r) (right p)
-either-right (inl f) = inl (finished-right f)
-either-right (inr w) = inr (w .0, waits-right (w .1))
-
-each : {s : Code} {st : Stores} {above : List Frame} {t : Tree} → Stands s st above t → {p : Path} → ThreadAt t p → FinishedAt t p ⊎ Waiter s st above t p
-each stands-finished thread-returning = inl finished-here
-each (stands-waiting {o = o} x) thread-running = inr (o, waits-here x)
-each (stands-join x y z) (thread-left p) = either-left (each x p)
-each (stands-join x y z) (thread-right p) = either-right (each y p)
-
--- a tree that is not finished has a thread that waits
-one-of : {s : Code} {st : Stores} (above fs : List Frame) (a : Point) (e : ℕ) (l r : Tree) → (phase l ≡ finished → phase r ≡ finished → ⊥)
-    → ((phase l ≡ finished → ⊥) → (p : Path) × Waiter s st (fs ++ above) l p) → ((phase r ≡ finished → ⊥) → (p : Path) × Waiter s st [] r p)
-    → (q : Phase) → phase l ≡ q → (p : Path) × Waiter s st above (join fs a e l r) p
-one-of above fs a e l r z x y finished h = let w = y (z h) in (right (w .0), (w .1 .0, waits-right (w .1 .1)))
-one-of above fs a e l r z x y broken h = let w = x (λ k. absurd (clash h k)) in (left (w .0), (w .1 .0, waits-left (w .1 .1)))
-  where
-    clash : phase l ≡ broken → phase l ≡ finished → ⊥
-    clash h k = let z : _≡_ {A = ℕ} 0 1 = cc in omega arith
-one-of above fs a e l r z x y busy h = let w = x (λ k. absurd (clash h k)) in (left (w .0), (w .1 .0, waits-left (w .1 .1)))
-  where
-    clash : phase l ≡ busy → phase l ≡ finished → ⊥
-    clash h k = let z : _≡_ {A = ℕ} 0 1 = cc in omega arith
-
-someone : {s : Code} {st : Stores} {above : List Frame} {t : Tree} → Stands s st above t → (phase t ≡ finished → ⊥) → (p : Path) × Waiter s st above t p
-someone stands-finished h = absurd (h refl)
-someone (stands-waiting {o = o} x) h = (here, (o, waits-here x))
-someone (stands-join {above = above} {fs = fs} {a = a} {e = e} {l = l} {r = r} x y z) h =
-    one-of above fs a e l r z (someone x) (someone y) (phase l) refl
+  someone : (above : List Frame) (t : Tree) → AllStay s st above t → failures t ≡ 0 → (FinishedThread t → ⊥) → Waiter s st above t
+  someone above (running a e fs) k z n = itself above (running a e fs) thread-running k z n
+  someone above (returning v fs) k z n = itself above (returning v fs) thread-returning k z n
+  someone above failed k z n = itself above failed thread-failed k z n
+  someone above (join fs a e l r) k z n =
+      ⊎-elim
+      (λ f. in-right (someone [] r (λ p h u i. k (right p) h u (at-right i)) (omega arith) (join-both (k here above (join fs a e l r) at-root) f)))
+      (λ f. in-left (someone (fs ++ above) l (λ p h u i. k (left p) h u (at-left i)) (omega arith) f))
+      (finished-or l)
 
 -- a thread that waits does not hold, and some thread holds
 pub frames-append : (o : ℕ) (fs gs : List Frame) → lockFrames o (fs ++ gs) ≡ lockFrames o fs + lockFrames o gs
@@ -122,21 +83,13 @@ frames-append o (awaits n e ∷ fs) gs = frames-append o fs gs
 frames-append o (casts n ∷ fs) gs = frames-append o fs gs
 frames-append o (locks p ∷ fs) gs = omega (arith, frames-append o fs gs)
 
-wait-held : {st : Stores} {above fs : List Frame} {e o : ℕ} {n : Node} → Waits st above fs e o n → lockFrames o fs + lockFrames o above ≡ 0
-wait-held (waits h k z q) = q
+waits-without : {s : Code} {st : Stores} {o : ℕ} {above handed : List Frame} {t u : Tree} {p : Path} → At above t p handed u → Waits s st handed o u → (n : ℕ) → n ≡ lockFrames o above → heldBy o n t p ≡ 0
+waits-without at-root (waits i k z q) n c = omega (arith, q)
+waits-without {o = o} (at-left {above = above} {fs = fs} k) x n c = waits-without k x _ (omega (arith, frames-append o fs above))
+waits-without (at-right k) x n c = waits-without k x 0 refl
 
-wait-shut : {st : Stores} {above fs : List Frame} {e o : ℕ} {n : Node} → Waits st above fs e o n → shutAt (st .objects) o ≡ 1
-wait-shut (waits h k z q) = z
-
-waits-without : {s : Code} {st : Stores} {o : ℕ} {above : List Frame} {t : Tree} {p : Path} → WaitsAt s st o above t p → (n : ℕ) → n ≡ lockFrames o above → heldBy o n t p ≡ 0
-waits-without (waits-here x) n c = omega (arith, wait-held x)
-waits-without {o = o} (waits-left {above = above} {fs = fs} x) n c = waits-without x _ (omega (arith, frames-append o fs above))
-waits-without (waits-right x) n c = waits-without x 0 refl
-
-waits-shut : {s : Code} {st : Stores} {o : ℕ} {above : List Frame} {t : Tree} {p : Path} → WaitsAt s st o above t p → shutAt (st .objects) o ≡ 1
-waits-shut (waits-here x) = wait-shut x
-waits-shut (waits-left x) = waits-shut x
-waits-shut (waits-right x) = waits-shut x
+waits-shut : {s : Code} {st : Stores} {o : ℕ} {above : List Frame} {u : Tree} → Waits s st above o u → shutAt (st .objects) o ≡ 1
+waits-shut (waits i k z q) = z
 
 unfoldable pub Holder : ℕ → ℕ → Tree → Type 0
 Holder o n t = (p : Path) × (1 ≤ heldBy o n t p)
@@ -153,33 +106,20 @@ holder o n (join fs a e l r) z h = go (holder o (lockFrames o fs + n) l (omega a
     go x y (yes k) = let q = x k in (left (q .0), q .1)
     go x y (no k) = let q = y (omega arith) in (right (q .0), q .1)
 
-blocked : {s : Code} {st : Stores} (t : Tree) (p : Path) → failures t ≡ 0 → ((o : ℕ) → shutAt (st .objects) o ≤ lockCount o t) → Waiter s st [] t p → Blocked s st t p
+blocked : {s : Code} {st : Stores} {o : ℕ} {handed : List Frame} (t : Tree) (p : Path) (u : Tree) → failures t ≡ 0 → ((o : ℕ) → shutAt (st .objects) o ≤ lockCount o t)
+    → At [] t p handed u → Waits s st handed o u → Blocked s st t p u
 unfolding Holder
-blocked t p z k w =
-    let o : ℕ = w .0 in
-    let q : Holder o 0 t = holder o 0 t z (omega (arith, k o, waits-shut (w .1))) in
+blocked {o = o} {handed = handed} t p u z k i w =
+    let q : Holder o 0 t = holder o 0 t z (omega (arith, k o, waits-shut w)) in
     record {
       object = o;
-      waiting = w .1;
+      handed = handed;
+      there = i;
+      waiting = w;
       holder = q .0;
-      another = λ h. omega (arith, q .1, waits-without (w .1) 0 refl, ap (heldBy o 0 t) h);
+      another = λ h. omega (arith, q .1, waits-without i w 0 refl, ap (heldBy o 0 t) h);
       holds = q .1;
     }
-
-clash : {A : Type 0} → finished ≡ busy → A
-clash h = let z : _≡_ {A = ℕ} 0 1 = cc in absurd (omega arith)
-
-finished-at : (t : Tree) → phase t ≡ finished → FinishedAt t here
-finished-at (running a e fs) h = clash (sym h)
-finished-at (returning v []) h = finished-here
-finished-at (returning v (f ∷ fs)) h = clash (sym h)
-finished-at failed h = let z : _≡_ {A = ℕ} 0 1 = cc in absurd (omega arith)
-finished-at (join fs a e l r) h = clash (sym h)
-
-stands-unbroken : {s : Code} {st : Stores} {above : List Frame} {t : Tree} → Stands s st above t → phase t ≡ broken → ⊥
-stands-unbroken stands-finished h = let z : _≡_ {A = ℕ} 0 1 = cc in omega arith
-stands-unbroken (stands-waiting x) h = let z : _≡_ {A = ℕ} 0 1 = cc in omega arith
-stands-unbroken (stands-join x y q) h = let z : _≡_ {A = ℕ} 0 1 = cc in omega arith
 
 -- an end is seen, and it is that of the configuration
 pub data SeenEnd (s : Code) (c : Config) : Option Ending → Type 0 where
@@ -191,37 +131,27 @@ seen-end (seen x) = x
 pub some-end : {s : Code} {c : Config} {o : Option Ending} → SeenEnd s c o → (k : Ending) × End s c k
 some-end (seen {k = k} x) = (k, x)
 
-module _ {s : Code} {w : Want} {c : Config} (h : WfConfig s w c) (x : Stands s (c .stores) [] (c .tree)) where
-  whole-locks : (o : ℕ) → shutAt (c .stores .objects) o ≤ lockCount o (c .tree)
-  whole-locks = h .covered (stands-whole x)
-
-  deadlocked : (phase (c .tree) ≡ finished → ⊥) → Deadlock s (c .stores) (c .tree)
-  deadlocked n =
-      let y = someone x n in
+module _ {s : Code} {w : Want} {c : Config} (h : WfConfig s w c) (k : AllStay s (c .stores) [] (c .tree)) where
+  deadlocked : failures (c .tree) ≡ 0 → (FinishedThread (c .tree) → ⊥) → Deadlock s (c .stores) (c .tree)
+  deadlocked z n =
+      let y = someone [] (c .tree) k z n in
       record {
-        every = λ p k. ⊎-elim inl (λ v. inr (blocked (c .tree) p (stands-whole x) whole-locks v)) (each x k);
-        place = y .0;
-        waiting = blocked (c .tree) (y .0) (stands-whole x) whole-locks (y .1);
+        every = λ p u e x.
+            let i = part-at [] (c .tree) p e in
+            ⊎-elim inl (λ v. inr (blocked (c .tree) p u z (h .covered z) (i .1) (v .1))) (each x (k p (i .0) u (i .1)) (at-whole (i .1) z));
+        place = y .place;
+        thread = y .thread;
+        waiting = blocked (c .tree) (y .place) (y .thread) z (h .covered z) (y .there) (y .waiting);
       }
 
   ended : (q : Phase) → phase (c .tree) ≡ q → SeenEnd s c (ending q false)
-  ended finished e = seen (ends-finished (finished-at (c .tree) e) (λ o. omega (arith, whole-locks o, finished-locks (c .tree) e o)))
-  ended broken e = absurd (stands-unbroken x e)
-  ended busy e = seen (ends-deadlocked (deadlocked (λ k. absurd (let z : _≡_ {A = ℕ} 0 1 = cc in omega arith))))
-
-failed-end : {s : Code} {c : Config} → c .tree ≡ failed → SeenEnd s c (ending (phase (c .tree)) false)
-failed-end {s} {c} e = let p : phase (c .tree) ≡ broken = ap phase e in rw p (seen (ends-failed e))
+  ended finished e =
+      let z = whole [] (c .tree) k (unfailed-finished e) in
+      seen (ends-finished (finished-at (c .tree) e) (λ o. omega (arith, h .covered z o, finished-locks (c .tree) e o)))
+  ended broken e = seen (ends-failed (is-broken (c .tree) e))
+  ended busy e = seen (ends-deadlocked (deadlocked (whole [] (c .tree) k (unfailed-busy e)) (busy-unfinished e)))
 
 -- Where no place can move, the run has ended in one of the three ways.
 pub classified : {s : Code} {start : ℕ} (acc : AcceptedCode s start) (lim : Places) {w : Want} {c : Config} → WfConfig s w c → ((p : Path) → move s lim c p ≡ still)
     → SeenEnd s c (ending (phase (c .tree)) false)
-unfolding move
-classified acc lim {c = c} h n =
-    ⊎-elim failed-end (λ x. ended h x (phase (c .tree)) refl) (stands acc (spare lim (c .stores) (c .tree)) (h .stores) [] (c .tree) (h .tree) (h .distinct) n)
-
-pub is-broken : (t : Tree) → phase t ≡ broken → t ≡ failed
-is-broken (running a e fs) h = cc
-is-broken (returning v []) h = cc
-is-broken (returning v (f ∷ fs)) h = cc
-is-broken failed h = refl
-is-broken (join fs a e l r) h = cc
+classified acc lim {c = c} h n = ended h (λ p a u i. place-stays acc lim h i .0 (n p)) (phase (c .tree)) refl

@@ -25,7 +25,7 @@ pub record Grows (st su : Stores) : Type 0 where
   pub same : (e : ℕ) → e ≤ length (st .bindings) → scope (su .bindings) e ≡ scope (st .bindings) e
 
 pub fits-grows : {s : Code} {xs ys : List Object} {v : Value} {w : Want} → Keeps xs ys → ValueFits s xs v w → ValueFits s ys v w
-fits-grows g fits-nil = fits-nil
+fits-grows g (fits-nil m) = fits-nil m
 fits-grows {s} g (fits-ref {o = o} {x = x} {w = w} h m) =
     let k = g o x h in
     fits-ref {w = w} (k .there) (rw (k .class) m)
@@ -47,8 +47,8 @@ module _ {s : Code} {st su : Stores} (g : Grows st su) where
 
   pub frames-grow : {w v : Want} {fs : List Frame} → FramesOk s (st .bindings) w fs v → FramesOk s (su .bindings) w fs v
   frames-grow no-frames = no-frames
-  frames-grow (a-node {n = n} {e = e} {t = t} {u = u} i h p m r) =
-      a-node {n = n} {e = e} {t = t} {u = u} i (omega (arith, g .more)) (rw (context-same g e h) p) m (frames-grow r)
+  frames-grow (a-node {n = n} {e = e} {t = t} {v = v} i h p r) =
+      a-node {n = n} {e = e} {t = t} {v = v} i (omega (arith, g .more)) (rw (context-same g e h) p) (frames-grow r)
   frames-grow (a-cast i h m r) = a-cast i h m (frames-grow r)
   frames-grow (a-lock r) = a-lock (frames-grow r)
 

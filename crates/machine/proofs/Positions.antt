@@ -8,15 +8,14 @@ use mathlib.Core.List.{List, [], _++_}
 use mathlib.Core.Option.{some, Option·none-ne-some}
 use borrow.Author.Tests.{lt-ltb, le-ltb}
 use Rattle.typing.specs.Published.{T-SUB-EQ}
-use Rattle.script.specs.Syntax.{Point}
 use Rattle.machine.specs.declared.Frame.{Frame}
 use Rattle.machine.specs.Config.{Code, Stores, Tree, running, returning, failed, join, Config}
-use Rattle.machine.specs.Machine.{phase, lockFrames, Places, limits, spare, still, Path, here, left, right, inLeft, inRight, moveAt, move, size, locate, chosen, choice, initial, threadCount}
+use Rattle.machine.specs.Machine.{phase, lockFrames, Places, limits, spare, still, Path, here, left, right, inLeft, inRight, moveAt, move, size, locate, chosen, choice, initial, threadCount, At, at-root, at-left, at-right}
 use Rattle.machine.specs.declared.Want.{Want}
 use Rattle.machine.specs.declared.Want.the-variants.{Upto as upto}
 use Rattle.machine.specs.WellFormed.{meets-type, gives-type, no-bindings, no-frames, running-ok, lockCount, WfConfig, WellFormed}
 use Rattle.machine.specs.Accepted.{AcceptedCode}
-use Rattle.machine.specs.Standing.{heldBy, ending}
+use Rattle.machine.specs.Ends.{heldBy, ending}
 use Rattle.machine.proofs.Types.{start-typed, start-type}
 use Rattle.machine.proofs.Stores.{shutAt-le}
 use Rattle.machine.proofs.Ends.{SeenEnd, classified}
@@ -64,23 +63,18 @@ pub record Located (t : Tree) (p : Path) : Type 0 where
   pub inside : position < size t
   pub there : locate t position ≡ some p
 
-pub data PlaceIn : Tree → Path → Type 0 where
-  root-place : {t : Tree} → PlaceIn t here
-  left-place : {fs : List Frame} {a : Point} {e : ℕ} {l r : Tree} {p : Path} → PlaceIn l p → PlaceIn (join fs a e l r) (left p)
-  right-place : {fs : List Frame} {a : Point} {e : ℕ} {l r : Tree} {p : Path} → PlaceIn r p → PlaceIn (join fs a e l r) (right p)
-
 root-located : (t : Tree) → Located t here
 root-located (running a e fs) = record { position = 0; inside = omega arith; there = refl }
 root-located (returning v fs) = record { position = 0; inside = omega arith; there = refl }
 root-located failed = record { position = 0; inside = omega arith; there = refl }
 root-located (join fs a e l r) = record { position = 0; inside = omega arith; there = refl }
 
-located : {t : Tree} {p : Path} → PlaceIn t p → Located t p
-located {t} root-place = root-located t
-located (left-place {l = l} {r = r} x) =
+located : {above handed : List Frame} {t u : Tree} {p : Path} → At above t p handed u → Located t p
+located {t = t} at-root = root-located t
+located (at-left {l = l} {r = r} x) =
     let k = located x in
     record { position = suc (k .position); inside = omega (arith, k .inside); there = rw (lt-ltb (k .position) (size l) (k .inside), k .there) }
-located (right-place {l = l} {r = r} x) =
+located (at-right {l = l} {r = r} x) =
     let k = located x in
     let m : (size l + k .position) - size l ≡ k .position = omega arith in
     record {
@@ -90,8 +84,9 @@ located (right-place {l = l} {r = r} x) =
     }
 
 -- where there is no node of the tree nothing moves
-place-or-still : (s : Code) (room : Places) (st : Stores) (above : List Frame) (t : Tree) (p : Path) → PlaceIn t p ⊎ (moveAt s room st above t p ≡ still)
-place-or-still s room st above t here = inl root-place
+place-or-still : (s : Code) (room : Places) (st : Stores) (above : List Frame) (t : Tree) (p : Path)
+    → ((handed : List Frame) × (u : Tree) × At above t p handed u) ⊎ (moveAt s room st above t p ≡ still)
+place-or-still s room st above t here = inl (above, t, at-root)
 place-or-still s room st above (running a e fs) (left p) = inr refl
 place-or-still s room st above (running a e fs) (right p) = inr refl
 place-or-still s room st above (returning v fs) (left p) = inr refl
@@ -99,20 +94,20 @@ place-or-still s room st above (returning v fs) (right p) = inr refl
 place-or-still s room st above failed (left p) = inr refl
 place-or-still s room st above failed (right p) = inr refl
 place-or-still s room st above (join fs a e l r) (left p) =
-    ⊎-elim (λ x. inl (left-place x)) (λ h. inr (ap (inLeft fs a e r) h)) (place-or-still s room st (fs ++ above) l p)
+    ⊎-elim (λ x. inl (x .0, x .1, at-left (x .2))) (λ h. inr (ap (inLeft fs a e r) h)) (place-or-still s room st (fs ++ above) l p)
 place-or-still s room st above (join fs a e l r) (right p) =
-    ⊎-elim (λ x. inl (right-place x)) (λ h. inr (ap (inRight fs a e l) h)) (place-or-still s room st [] r p)
+    ⊎-elim (λ x. inl (x .0, x .1, at-right (x .2))) (λ h. inr (ap (inRight fs a e l) h)) (place-or-still s room st [] r p)
 
 -- A place that can move has a position.
 pub move-located : (s : Code) (lim : Places) (c : Config) (p : Path) → (move s lim c p ≡ still → ⊥) → Located (c .tree) p
 unfolding move
-move-located s lim c p h = ⊎-elim located (λ e. absurd (h e)) (place-or-still s (spare lim (c .stores) (c .tree)) (c .stores) [] (c .tree) p)
+move-located s lim c p h = ⊎-elim (λ x. located (x .2)) (λ e. absurd (h e)) (place-or-still s (spare lim (c .stores) (c .tree)) (c .stores) [] (c .tree) p)
 
 no-move-at : (s : Code) (lim : Places) (c : Config) → ((n : ℕ) → n < size (c .tree) → choice s lim c n ≡ still) → (p : Path) → move s lim c p ≡ still
 unfolding move choice
 no-move-at s lim c h p =
     ⊎-elim
-    (λ x. let k = located x in sym (ap (chosen s lim c) (k .there)) ∙ h (k .position) (k .inside))
+    (λ x. let k = located (x .2) in sym (ap (chosen s lim c) (k .there)) ∙ h (k .position) (k .inside))
     (λ e. e)
     (place-or-still s (spare lim (c .stores) (c .tree)) (c .stores) [] (c .tree) p)
 

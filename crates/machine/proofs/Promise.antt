@@ -15,10 +15,11 @@ use Rattle.machine.specs.Machine.{Places, Outcome, still, full, moved, c
 use Rattle.machine.specs.declared.Want.the-variants.{Upto as upto}
 use Rattle.machine.specs.WellFormed.{ValueFits, BindingsOk, no-bindings, a-binding, WellFormed}
 use Rattle.machine.specs.Accepted.{AcceptedCode}
-use Rattle.machine.specs.Runs.{look, Report, report, Runs, ends, spends, passes, moves, fills}
+use Rattle.machine.specs.Runs.{look, Report, report, Runs, ends, spends, passes, makes, fills}
 use Rattle.machine.specs.Promise.{Promised, Kept}
 use Rattle.machine.proofs.Types.{field-declared}
-use Rattle.machine.proofs.Stores.{field-seen}
+use Rattle.machine.proofs.Places.{part-ok}
+use Rattle.machine.proofs.Stores.{fit-field}
 use Rattle.machine.proofs.Ends.{some-end}
 use Rattle.machine.proofs.Positions.{ended, exclusive}
 use Rattle.machine.proofs.Asks.{field-there, method-there}
@@ -39,12 +40,12 @@ module _ {s : Code} {start : ℕ} (acc : AcceptedCode s start) (lim : Places) wh
   pub promised : {c : Config} → WellFormed s lim start c → Promised s lim c
   promised {c} h =
       record {
-        field-asked = λ f y p g. field-there acc (h .formed .stores) f y g (h .formed .tree);
-        method-asked = λ m y p g. method-there acc (h .formed .stores) m y g (h .formed .tree);
+        field-asked = λ f y p t k g. field-there acc (h .formed .stores) f y (part-ok (c .tree) p (h .formed .tree) k .1) g;
+        method-asked = λ m y p t k g. method-there acc (h .formed .stores) m y (part-ok (c .tree) p (h .formed .tree) k .1) g;
         binding-typed = binding-fits (h .formed .stores .bindings);
         field-typed =
             λ o y f u v e d k.
-            let q = field-seen (h .formed .stores .heap o y e .fields) f u (field-declared acc d .1) in
+            let q = fit-field (h .formed .stores .heap o y e .fields) f u (field-declared acc d .1) in
             let i : q .value ≡ v = cc (q .there) in
             rw i at (q .fits);
         exclusive = exclusive (h .formed);
@@ -56,7 +57,7 @@ module _ {s : Code} {start : ℕ} (acc : AcceptedCode s start) (lim : Places) wh
   runs-keep (ends {c = c} e) h = kept-same c
   runs-keep (spends {c = c} e) h = kept-same c
   runs-keep (passes l e k) h = runs-keep k h
-  runs-keep (moves {n = n} l e k) h = kept-then (moved-keeps acc lim n h e) (runs-keep k (moved-choice acc lim n h e))
+  runs-keep (makes {n = n} l e k) h = kept-then (moved-keeps acc lim n h e) (runs-keep k (moved-choice acc lim n h e))
   runs-keep (fills {c = c} l e) h = kept-same c
 
   pub run-keeps : (ns : List ℕ) (c : Config) → WellFormed s lim start c → Kept c (report s lim c ns .config)

@@ -17,8 +17,8 @@ use Rattle.machine.specs.Config.{Code, Stores, Tree, running, returning,
 use Rattle.machine.specs.Machine.{Places, Outcome, still, full, moved, Phase, finished, broken, busy, phase, Path, here, move, size, locate, chosen, choice, able}
 use Rattle.machine.specs.WellFormed.{WellFormed}
 use Rattle.machine.specs.Accepted.{AcceptedCode}
-use Rattle.machine.specs.Standing.{ending, End}
-use Rattle.machine.specs.Runs.{anyAble, look, Report, stopped, passed, made, unless, follow, spentUnless, report, Runs, ends, spends, passes, moves, fills, CanMove, Stopped, spent, at-end, no-places, Leaves, LastFull, onto}
+use Rattle.machine.specs.Ends.{ending, End}
+use Rattle.machine.specs.Runs.{anyAble, look, Report, stopped, passed, made, unless, follow, spentUnless, report, Runs, ends, spends, passes, makes, fills, CanMove, StopMeans, spent, at-end, no-places, Leaves, LastFull, onto}
 use Rattle.machine.specs.Promise.{Kept}
 use Rattle.machine.proofs.Trees.{preservation, growth}
 use Rattle.machine.proofs.Ends.{seen-end}
@@ -77,8 +77,8 @@ module _ (s : Code) (lim : Places) where
     where
       go : (o : Outcome) → choice s lim c k ≡ o → cond (able o) true (anyAble s lim c k) ≡ true → (anyAble s lim c k ≡ true → CanMove s lim c) → CanMove s lim c
       go still e q rec = rec q
-      go (full j) e q rec = record { position = k; moves = able-moves (choice s lim c k) (ap able e) }
-      go (moved st t) e q rec = record { position = k; moves = able-moves (choice s lim c k) (ap able e) }
+      go (full j) e q rec = record { position = k; can = able-moves (choice s lim c k) (ap able e) }
+      go (moved st t) e q rec = record { position = k; can = able-moves (choice s lim c k) (ap able e) }
 
   -- where the root is a finished or a failed thread, nothing can move
   still-root : (c : Config) → size (c .tree) ≡ 1 → move s lim c here ≡ still → (n : ℕ) → choice s lim c n ≡ still
@@ -133,7 +133,7 @@ module _ (s : Code) (lim : Places) where
       → Runs s lim c (n ∷ ns) (follow c (λ e. report s lim e ns) o)
   runs-some c n ns rec l still e = passes l e (rec c)
   runs-some c n ns rec l (full k) e = fills l e
-  runs-some c n ns rec l (moved st t) e = moves l e (rec _)
+  runs-some c n ns rec l (moved st t) e = makes l e (rec _)
 
   runs-unless : (c : Config) (n : ℕ) (ns : List ℕ) → ((d : Config) → Runs s lim d ns (report s lim d ns)) → (o : Option Ending) → look s lim c ≡ o
       → Runs s lim c (n ∷ ns) (unless o c (λ d. follow d (λ e. report s lim e ns) (choice s lim d n)))
@@ -155,7 +155,7 @@ module _ (s : Code) (lim : Places) where
   runs-report (ends {c = c} {ns = ns} {k = k} e) = ends-report ns c k e
   runs-report (spends e) = rw e
   runs-report (passes l e h) = rw (l, e) (ap passed (runs-report h))
-  runs-report (moves l e h) = rw (l, e) (ap made (runs-report h))
+  runs-report (makes l e h) = rw (l, e) (ap made (runs-report h))
   runs-report (fills l e) = rw (l, e)
 
   -- Where a run stops before its choices are spent, more choices change nothing.
@@ -163,7 +163,7 @@ module _ (s : Code) (lim : Places) where
   runs-same ms (ends e) k = ends e
   runs-same ms (spends e) k = absurd (k refl)
   runs-same ms (passes l e h) k = passes l e (runs-same ms h k)
-  runs-same ms (moves l e h) k = moves l e (runs-same ms h k)
+  runs-same ms (makes l e h) k = makes l e (runs-same ms h k)
   runs-same ms (fills l e) k = fills l e
 
   pub run-same : (ns ms : List ℕ) (c : Config) → (report s lim c ns .stop ≡ Spent → ⊥) → report s lim c (ns ++ ms) ≡ report s lim c ns
@@ -177,7 +177,7 @@ module _ (s : Code) (lim : Places) where
   runs-full (passes {n = n} l e h) z =
       let q = runs-full h z in
       record { before = n ∷ q .before; last = q .last; after = q .after; split = ap (λ (x : List ℕ). n ∷ x) (q .split); count = ap suc (q .count); met = rw (l, e) (q .met) }
-  runs-full (moves {n = n} l e h) z =
+  runs-full (makes {n = n} l e h) z =
       let q = runs-full h z in
       record { before = n ∷ q .before; last = q .last; after = q .after; split = ap (λ (x : List ℕ). n ∷ x) (q .split); count = ap suc (q .count); met = rw (l, e) (q .met) }
   runs-full (fills {n = n} {ns = ns} l e) z = record { before = []; last = n; after = ns; split = refl; count = refl; met = cc }
@@ -190,7 +190,7 @@ module _ (s : Code) (lim : Places) where
   runs-all (ends e) z = absurd (let z : _≡_ {A = ℕ} 0 1 = cc in omega arith)
   runs-all (spends e) z = refl
   runs-all (passes l e k) z = ap suc (runs-all k z)
-  runs-all (moves l e k) z = ap suc (runs-all k z)
+  runs-all (makes l e k) z = ap suc (runs-all k z)
   runs-all (fills l e) z = absurd (let z : _≡_ {A = ℕ} 0 1 = cc in omega arith)
 
   pub run-all : (ns : List ℕ) (c : Config) → report s lim c ns .stop ≡ Spent → report s lim c ns .read ≡ length ns
@@ -203,7 +203,7 @@ module _ (s : Code) (lim : Places) where
   runs-more ms (passes {r = r} l e k) z =
       let q = report s lim (r .config) ms in
       rw (l, e) (ap passed (runs-more ms k z) ∙ same-report (q .stop) (q .config) _ _ _ _ (omega arith) refl)
-  runs-more ms (moves {r = r} l e k) z =
+  runs-more ms (makes {r = r} l e k) z =
       let q = report s lim (r .config) ms in
       rw (l, e) (ap made (runs-more ms k z) ∙ same-report (q .stop) (q .config) _ _ _ _ (omega arith) (omega arith))
   runs-more ms (fills l e) z = absurd (let z : _≡_ {A = ℕ} 0 1 = cc in omega arith)
@@ -216,7 +216,7 @@ module _ (s : Code) (lim : Places) where
   runs-read (ends e) = omega arith
   runs-read (spends e) = omega arith
   runs-read (passes l e h) = omega (arith, runs-read h)
-  runs-read (moves l e h) = omega (arith, runs-read h)
+  runs-read (makes l e h) = omega (arith, runs-read h)
   runs-read (fills l e) = omega arith
 
   pub run-read : (ns : List ℕ) (c : Config) → report s lim c ns .read ≤ length ns
@@ -263,7 +263,7 @@ module _ {s : Code} {start : ℕ} (acc : AcceptedCode s start) (lim : Places) wh
       go none i = absurd (let z : _≡_ {A = ℕ} 0 1 = cc in omega arith)
       go (some p) i = let g = growth acc lim (h .formed) p i in record { added = g .added; there = g .grown }
 
-  ending-holds : {c : Config} → WellFormed s lim start c → (p : Phase) → phase (c .tree) ≡ p → (q : Bool) → anyAble s lim c (size (c .tree)) ≡ q → Stopped s lim c (spentUnless (ending p q))
+  ending-holds : {c : Config} → WellFormed s lim start c → (p : Phase) → phase (c .tree) ≡ p → (q : Bool) → anyAble s lim c (size (c .tree)) ≡ q → StopMeans s lim c (spentUnless (ending p q))
   ending-holds {c} h finished e q k =
       let n = finished-still s lim (c .stores) (c .tree) e in
       at-end (seen-end (rw e at (ended acc lim (h .formed) (λ i l. n i)))) n
@@ -275,16 +275,16 @@ module _ {s : Code} {start : ℕ} (acc : AcceptedCode s start) (lim : Places) wh
       let n = none-able s lim c (size (c .tree)) k in
       at-end (seen-end (rw e at (ended acc lim (h .formed) n))) (λ i. beyond s lim c n i)
 
-  pub look-holds : (c : Config) → WellFormed s lim start c → Stopped s lim c (spentUnless (look s lim c))
+  pub look-holds : (c : Config) → WellFormed s lim start c → StopMeans s lim c (spentUnless (look s lim c))
   unfolding look
   look-holds c h = ending-holds h (phase (c .tree)) refl (anyAble s lim c (size (c .tree))) refl
 
   runs-leaves : {ns : List ℕ} {c : Config} {r : Report} → Runs s lim c ns r → WellFormed s lim start c → Leaves s lim start r
-  runs-leaves (ends {c = c} e) h = record { formed = h; stopped = rw e at (look-holds c h) }
-  runs-leaves (spends {c = c} e) h = record { formed = h; stopped = rw e at (look-holds c h) }
-  runs-leaves (passes l e k) h = let q = runs-leaves k h in record { formed = q .formed; stopped = q .stopped }
-  runs-leaves (moves {n = n} l e k) h = let q = runs-leaves k (moved-choice n h e) in record { formed = q .formed; stopped = q .stopped }
-  runs-leaves (fills {n = n} l e) h = record { formed = h; stopped = no-places n e }
+  runs-leaves (ends {c = c} e) h = record { formed = h; means = rw e at (look-holds c h) }
+  runs-leaves (spends {c = c} e) h = record { formed = h; means = rw e at (look-holds c h) }
+  runs-leaves (passes l e k) h = let q = runs-leaves k h in record { formed = q .formed; means = q .means }
+  runs-leaves (makes {n = n} l e k) h = let q = runs-leaves k (moved-choice n h e) in record { formed = q .formed; means = q .means }
+  runs-leaves (fills {n = n} l e) h = record { formed = h; means = no-places n e }
 
   -- A run from a well-formed configuration leaves one, and has spent its choices where a position can move, or has come to one of the three ends, where none can, or stops
   -- where a move that is due finds a full store. With the first choices of a list: "A point between moves of a Run is the block that it would leave with only its first n choices".
@@ -292,10 +292,10 @@ module _ {s : Code} {start : ℕ} (acc : AcceptedCode s start) (lim : Places) wh
   run-leaves ns c h = runs-leaves (run-runs s lim ns c) h
 
 -- A run has ended exactly where nothing can move.
-pub stopped-still : {s : Code} {lim : Places} {c : Config} {k : Ending} → Stopped s lim c (Ended k) → End s c k × ((n : ℕ) → choice s lim c n ≡ still)
+pub stopped-still : {s : Code} {lim : Places} {c : Config} {k : Ending} → StopMeans s lim c (Ended k) → End s c k × ((n : ℕ) → choice s lim c n ≡ still)
 stopped-still (at-end e n) = (e, n)
 
-pub still-stopped : {s : Code} {lim : Places} {c : Config} {j : Stop} → Stopped s lim c j → ((n : ℕ) → choice s lim c n ≡ still) → (k : Ending) × (j ≡ Ended k)
-still-stopped (spent k) n = absurd (k .moves (n (k .position)))
+pub still-stopped : {s : Code} {lim : Places} {c : Config} {j : Stop} → StopMeans s lim c j → ((n : ℕ) → choice s lim c n ≡ still) → (k : Ending) × (j ≡ Ended k)
+still-stopped (spent k) n = absurd (k .can (n (k .position)))
 still-stopped (at-end {k = k} e n) m = (k, refl)
 still-stopped {s} {lim} {c} (no-places n e) m = absurd (let p : choice s lim c n ≡ still = m n in let z : _≡_ {A = ℕ} 0 1 = cc in omega arith)

@@ -1,80 +1,35 @@
--- "A thread makes at most 1,024 silent moves in a row": each goes to a larger node.
-use Prim.Native.Nat.{ℕ, zero, suc, _-_, _≤_, _<_}
+-- The silent moves of a thread in a row, counted; "A thread makes at most 1,024 silent moves in a row".
+use Prim.Native.Nat.{ℕ, zero, suc, _+_, _≤_, _<_}
 use native.Mathlib.Omega.{arith}
-use mathlib.Core.Path.{_≡_, refl, ap}
-use mathlib.Core.Bool.{true, false}
-use mathlib.Core.List.{List, [], _∷_, _++_}
+use mathlib.Core.Path.{_≡_, refl, sym, ap}
+use mathlib.Core.Bool.{Bool, true, false}
+use mathlib.Core.List.{List, [], _∷_}
 use mathlib.Core.Option.{Option, none, some}
 use Rattle.limits.specs.Limits.{SILENT}
 use Rattle.script.specs.Lists.{_∈_}
-use Rattle.script.specs.Syntax.{Point, Node, n-null, n-var, n-select, n-update, n-call, n-bind, n-new, n-cast, n-fork, n-lock, parts}
+use Rattle.script.specs.Syntax.{Point, Node, n-null, n-var, n-select, n-update, n-call, n-bind, n-new, n-cast, n-fork, n-lock, build, parts}
 use Rattle.script.proofs.Reading.{first}
 use Rattle.machine.specs.declared.Value.the-variants.{Null as nil}
 use Rattle.machine.specs.declared.Frame.{Frame}
 use Rattle.machine.specs.declared.Frame.the-variants.{Awaits as awaits, Casts as casts}
 use Rattle.machine.specs.Config.{Code, Stores, Tree, running, returning, failed, join, Config}
-use Rattle.machine.specs.Machine.{Places, spare, Outcome, still, full, moved, descend, runNode, inLeft, inRight, Path, here, left, right, moveAt, move, part}
+use Rattle.machine.specs.Machine.{Places, spare, moved, descend, runNode, Path, here, left, right, moveAt, move, part}
 use Rattle.machine.specs.declared.Want.{Want}
-use Rattle.machine.specs.WellFormed.{TreeOk, running-ok, returning-ok, failed-ok, join-ok, WfConfig}
-use Rattle.machine.specs.Accepted.{LaterPart, AcceptedCode}
-use Rattle.machine.specs.Silent.{quiet, quietIn, SilentMove, null-value, into-write, into-call, into-let, into-cast, SilentAt, silent-here, silent-left, silent-right, InARow, row-ends, and-then, meanwhile, samePlace}
+use Rattle.machine.specs.WellFormed.{TreeOk, running-ok, WfConfig}
+use Rattle.machine.specs.Accepted.{AcceptedCode}
+use Rattle.machine.proofs.Places.{part-ok}
+use Rattle.machine.proofs.Outcomes.{Made, made-move, made}
+use Rattle.machine.specs.Silent.{quiet, quietIn, SilentMove, null-value, into-write, into-call, into-let, into-cast, ChangedAt, changed-here, changed-left, changed-right, SilentAt, chain, due, Row, row-none, and-then, meanwhile, samePlace}
 
--- What a move made of a side of a join.
-pub record Side (f : Tree → Tree) (o : Outcome) (su : Stores) (u : Tree) : Type 0 where
-  pub now : Tree
-  pub moves : o ≡ moved su now
-  pub whole : u ≡ f now
-
-pub left-side : {fs : List Frame} {a : Point} {e : ℕ} {r u : Tree} {su : Stores} (o : Outcome) → inLeft fs a e r o ≡ moved su u → Side (λ l. join fs a e l r) o su u
-left-side still h = absurd (let z : _≡_ {A = ℕ} 0 1 = cc in omega arith)
-left-side (full k) h = absurd (let z : _≡_ {A = ℕ} 0 1 = cc in omega arith)
-left-side (moved st t) h = record { now = t; moves = cc; whole = cc }
-
-pub right-side : {fs : List Frame} {a : Point} {e : ℕ} {l u : Tree} {su : Stores} (o : Outcome) → inRight fs a e l o ≡ moved su u → Side (λ r. join fs a e l r) o su u
-right-side still h = absurd (let z : _≡_ {A = ℕ} 0 1 = cc in omega arith)
-right-side (full k) h = absurd (let z : _≡_ {A = ℕ} 0 1 = cc in omega arith)
-right-side (moved st t) h = record { now = t; moves = cc; whole = cc }
-
--- a thread at a node, and how many nodes are left from there on
+-- a thread at a place is at a node
 abbrev pub OnNode : Code → Option Tree → Type 0
-OnNode s none = Unit {0}
-OnNode s (some (running a e fs)) = a < s .size
-OnNode s (some (returning v fs)) = Unit {0}
-OnNode s (some failed) = Unit {0}
-OnNode s (some (join fs a e l r)) = Unit {0}
+OnNode s o = (a : Point) (e : ℕ) (fs : List Frame) → o ≡ some (running a e fs) → a < s .size
 
-abbrev pub ahead : Code → Option Tree → ℕ
-ahead s none = 0
-ahead s (some (running a e fs)) = s .size - a
-ahead s (some (returning v fs)) = 0
-ahead s (some failed) = 0
-ahead s (some (join fs a e l r)) = 0
-
-pub ahead-bound : (s : Code) (o : Option Tree) → ahead s o ≤ s .size
-ahead-bound s none = omega arith
-ahead-bound s (some (running a e fs)) = omega arith
-ahead-bound s (some (returning v fs)) = omega arith
-ahead-bound s (some failed) = omega arith
-ahead-bound s (some (join fs a e l r)) = omega arith
+running-node : {s : Code} {st : Stores} {w : Want} {a : Point} {e : ℕ} {fs : List Frame} → TreeOk s st w (running a e fs) → a < s .size
+running-node (running-ok le g r) = g .node
 
 pub on-node : {s : Code} {st : Stores} {w : Want} {t : Tree} → TreeOk s st w t → (p : Path) → OnNode s (part t p)
-on-node (running-ok le g r) here = g .node
-on-node (running-ok le g r) (left p) = tt
-on-node (running-ok le g r) (right p) = tt
-on-node (returning-ok f r) here = tt
-on-node (returning-ok f r) (left p) = tt
-on-node (returning-ok f r) (right p) = tt
-on-node failed-ok here = tt
-on-node failed-ok (left p) = tt
-on-node failed-ok (right p) = tt
-on-node (join-ok le g k x y) here = tt
-on-node (join-ok le g k x y) (left p) = on-node x p
-on-node (join-ok le g k x y) (right p) = on-node y p
-
--- a silent move comes nearer to the last node
-pub record Nearer (s : Code) (o q : Option Tree) : Type 0 where
-  pub node : OnNode s q
-  pub less : suc (ahead s q) ≤ ahead s o
+on-node {t = t} x p a e fs h = running-node (part-ok t p x h .1)
 
 -- A silent move is one of the listed ones.
 descended : (st : Stores) (fs : List Frame) (e : ℕ) (f : Frame) (b : Point) (k : ℕ) {su : Stores} {u : Tree} → descend st fs e f b k ≡ moved su u → u ≡ running b e (f ∷ fs)
@@ -95,49 +50,48 @@ module _ (s : Code) (room : Places) (st : Stores) where
   silent-now above fs e a (n-fork b c d) i q m = absurd (let z : _≡_ {A = ℕ} 0 1 = cc in omega arith)
   silent-now above fs e a (n-lock x b) i q m = absurd (let z : _≡_ {A = ℕ} 0 1 = cc in omega arith)
 
+  silent-root : (above : List Frame) (t : Tree) {su : Stores} {u : Tree} → quietIn s (some t) ≡ true → moveAt s room st above t here ≡ moved su u → SilentMove s t u
+  silent-root above (running a e fs) q m = silent-now above fs e a (s .view a) refl q m
+  silent-root above (returning v fs) q m = absurd (let z : _≡_ {A = ℕ} 0 1 = cc in omega arith)
+  silent-root above failed q m = absurd (let z : _≡_ {A = ℕ} 0 1 = cc in omega arith)
+  silent-root above (join fs a e l r) q m = absurd (let z : _≡_ {A = ℕ} 0 1 = cc in omega arith)
+
+  changed-silent : {su : Stores} {p : Path} {t u : Tree} → ChangedAt (λ x y. (above : List Frame) × (moveAt s room st above x here ≡ moved su y)) p t u → quietIn s (part t p) ≡ true → SilentAt s p t u
+  changed-silent (changed-here {t = t} x) q = changed-here (silent-root (x .0) t q (x .1))
+  changed-silent (changed-left x) q = changed-left (changed-silent x q)
+  changed-silent (changed-right x) q = changed-right (changed-silent x q)
+
+  made-silent : {su : Stores} {p : Path} {t u : Tree} → Made s room st t p (moved su u) → quietIn s (part t p) ≡ true → SilentAt s p t u
+  made-silent (made-move x) q = changed-silent x q
+
   pub silent-at : (above : List Frame) (t : Tree) (p : Path) (su : Stores) (u : Tree) → quietIn s (part t p) ≡ true → moveAt s room st above t p ≡ moved su u → SilentAt s p t u
-  silent-at above (running a e fs) here su u q m = silent-here (silent-now above fs e a (s .view a) refl q m)
-  silent-at above (running a e fs) (left p) su u q m = absurd (let z : _≡_ {A = ℕ} 0 1 = cc in omega arith)
-  silent-at above (running a e fs) (right p) su u q m = absurd (let z : _≡_ {A = ℕ} 0 1 = cc in omega arith)
-  silent-at above (returning v fs) here su u q m = absurd (let z : _≡_ {A = ℕ} 0 1 = cc in omega arith)
-  silent-at above (returning v fs) (left p) su u q m = absurd (let z : _≡_ {A = ℕ} 0 1 = cc in omega arith)
-  silent-at above (returning v fs) (right p) su u q m = absurd (let z : _≡_ {A = ℕ} 0 1 = cc in omega arith)
-  silent-at above failed here su u q m = absurd (let z : _≡_ {A = ℕ} 0 1 = cc in omega arith)
-  silent-at above failed (left p) su u q m = absurd (let z : _≡_ {A = ℕ} 0 1 = cc in omega arith)
-  silent-at above failed (right p) su u q m = absurd (let z : _≡_ {A = ℕ} 0 1 = cc in omega arith)
-  silent-at above (join fs a e l r) here su u q m = absurd (let z : _≡_ {A = ℕ} 0 1 = cc in omega arith)
-  silent-at above (join fs a e l r) (left p) su u q m =
-      let k = left-side {fs = fs} {a = a} {e = e} {r = r} (moveAt s room st (fs ++ above) l p) m in
-      rw (k .whole) (silent-left (silent-at (fs ++ above) l p su (k .now) q (k .moves)))
-  silent-at above (join fs a e l r) (right p) su u q m =
-      let k = right-side {fs = fs} {a = a} {e = e} {l = l} (moveAt s room st [] r p) m in
-      rw (k .whole) (silent-right (silent-at [] r p su (k .now) q (k .moves)))
+  silent-at above t p su u q m = made-silent (rw m at (made s room st above t p)) q
 
--- and goes to a larger node,
-later : {s : Code} {a b : Point} {e d : ℕ} {fs gs : List Frame} → LaterPart s a b → Nearer s (some (running a e fs)) (some (running b d gs))
-later l = record { node = l .there; less = omega (arith, l .after, l .there) }
-
+-- It makes the chain before the thread shorter by one,
 module _ {s : Code} {start : ℕ} (acc : AcceptedCode s start) where
-  first-later : {a : Point} {n : Node} (b : Point) → a < s .size → s .view a ≡ n → b ∈ parts n → LaterPart s a b
-  first-later {a} b h i m = acc .in-order a h b (rw i m)
+  into : {a b : Point} {e d : ℕ} {fs gs : List Frame} (n : Node) → OnNode s (some (running a e fs)) → s .view a ≡ n → b ∈ parts n → chain (build a (s .expr) n) ≡ suc (chain (s .expr b))
+      → OnNode s (some (running b d gs)) × (suc (chain (s .expr b)) ≡ chain (s .expr a))
+  into {a} {b} {e} {fs = fs} n h i m c =
+      let y = h a e fs refl in
+      (λ q k hs z. let j : q ≡ b = cc in rw j (acc .in-order a y b (rw i m) .there), rw (acc .built a y, i) (sym c))
 
-  silent-nearer : {t u : Tree} → SilentMove s t u → OnNode s (some t) → Nearer s (some t) (some u)
-  silent-nearer (null-value i) h = record { node = tt; less = omega arith }
-  silent-nearer (into-write {b = b} i) h = later (first-later b h i first)
-  silent-nearer (into-call {b = b} i) h = later (first-later b h i first)
-  silent-nearer (into-let {b = b} i) h = later (first-later b h i first)
-  silent-nearer (into-cast {b = b} i) h = later (first-later b h i first)
+  silent-counts : {t u : Tree} → SilentMove s t u → OnNode s (some t) → OnNode s (some u) × (suc (due s (some u)) ≡ due s (some t))
+  silent-counts (null-value {a = a} {e = e} {fs = fs} i) h = (λ b d gs k. absurd (let z : _≡_ {A = ℕ} 0 1 = cc in omega arith), rw (acc .built a (h a e fs refl), i) refl)
+  silent-counts (into-write i) h = into _ h i first refl
+  silent-counts (into-call i) h = into _ h i first refl
+  silent-counts (into-let i) h = into _ h i first refl
+  silent-counts (into-cast i) h = into _ h i first refl
 
-  place-nearer : {p : Path} {t u : Tree} → SilentAt s p t u → OnNode s (part t p) → Nearer s (part t p) (part u p)
-  place-nearer (silent-here x) h = silent-nearer x h
-  place-nearer (silent-left x) h = place-nearer x h
-  place-nearer (silent-right x) h = place-nearer x h
+  place-counts : {p : Path} {t u : Tree} → SilentAt s p t u → OnNode s (part t p) → OnNode s (part u p) × (suc (due s (part u p)) ≡ due s (part t p))
+  place-counts (changed-here x) h = silent-counts x h
+  place-counts (changed-left x) h = place-counts x h
+  place-counts (changed-right x) h = place-counts x h
 
-  pub move-nearer : (room : Places) (st : Stores) (above : List Frame) (t : Tree) (p : Path) (su : Stores) (u : Tree) → OnNode s (part t p) → quietIn s (part t p) ≡ true
-      → moveAt s room st above t p ≡ moved su u → Nearer s (part t p) (part u p)
-  move-nearer room st above t p su u h q m = place-nearer (silent-at s room st above t p su u q m) h
+  pub move-counts : (room : Places) (st : Stores) (above : List Frame) (t : Tree) (p : Path) (su : Stores) (u : Tree) → OnNode s (part t p) → quietIn s (part t p) ≡ true
+      → moveAt s room st above t p ≡ moved su u → OnNode s (part u p) × (suc (due s (part u p)) ≡ due s (part t p))
+  move-counts room st above t p su u h q m = place-counts (silent-at s room st above t p su u q m) h
 
--- while every other place stays as near as it was.
+-- while every other place stays as it was.
 leaf-below : {s : Code} {t u : Tree} → SilentMove s t u → (q : Path) → (part u (left q) ≡ part t (left q)) × (part u (right q) ≡ part t (right q))
 leaf-below (null-value i) q = (refl, refl)
 leaf-below (into-write i) q = (refl, refl)
@@ -145,30 +99,75 @@ leaf-below (into-call i) q = (refl, refl)
 leaf-below (into-let i) q = (refl, refl)
 leaf-below (into-cast i) q = (refl, refl)
 
-others-stay : {s : Code} {p : Path} {t u : Tree} → SilentAt s p t u → (q : Path) → samePlace q p ≡ false → ahead s (part u q) ≡ ahead s (part t q)
-others-stay (silent-here x) here k = absurd (let z : _≡_ {A = ℕ} 0 1 = cc in omega arith)
-others-stay {s} (silent-here x) (left q) k = ap (ahead s) (leaf-below x q .0)
-others-stay {s} (silent-here x) (right q) k = ap (ahead s) (leaf-below x q .1)
-others-stay (silent-left x) here k = refl
-others-stay (silent-left x) (left q) k = others-stay x q k
-others-stay (silent-left x) (right q) k = refl
-others-stay (silent-right x) here k = refl
-others-stay (silent-right x) (left q) k = refl
-others-stay (silent-right x) (right q) k = others-stay x q k
+others-stay : {s : Code} {p : Path} {t u : Tree} → SilentAt s p t u → (q : Path) → samePlace q p ≡ false → due s (part u q) ≡ due s (part t q)
+others-stay (changed-here x) here k = absurd (let z : _≡_ {A = ℕ} 0 1 = cc in omega arith)
+others-stay {s} (changed-here x) (left q) k = ap (due s) (leaf-below x q .0)
+others-stay {s} (changed-here x) (right q) k = ap (due s) (leaf-below x q .1)
+others-stay (changed-left x) here k = refl
+others-stay (changed-left x) (left q) k = others-stay x q k
+others-stay (changed-left x) (right q) k = refl
+others-stay (changed-right x) here k = refl
+others-stay (changed-right x) (left q) k = refl
+others-stay (changed-right x) (right q) k = others-stay x q k
 
-pub others-ahead : (s : Code) (room : Places) (st : Stores) (above : List Frame) (t : Tree) (p : Path) (su : Stores) (u : Tree) → quietIn s (part t p) ≡ true
-    → moveAt s room st above t p ≡ moved su u → (q : Path) → samePlace q p ≡ false → ahead s (part u q) ≡ ahead s (part t q)
-others-ahead s room st above t p su u h m = others-stay (silent-at s room st above t p su u h m)
+pub others-due : (s : Code) (room : Places) (st : Stores) (above : List Frame) (t : Tree) (p : Path) (su : Stores) (u : Tree) → quietIn s (part t p) ≡ true
+    → moveAt s room st above t p ≡ moved su u → (q : Path) → samePlace q p ≡ false → due s (part u q) ≡ due s (part t q)
+others-due s room st above t p su u h m = others-stay (silent-at s room st above t p su u h m)
+
+-- The chain at a node is no longer than there are nodes from there on, and it is there exactly if the node is silent.
+abbrev pub Counted : Bool → ℕ → Type 0
+Counted true n = 1 ≤ n
+Counted false n = n ≡ 0
+
+module _ {s : Code} {start : ℕ} (acc : AcceptedCode s start) where
+  chain-node : (n : Point) (m : Node) → ((b : Point) → b ∈ parts m → (n < b) × (b + chain (s .expr b) ≤ s .size)) → n < s .size
+      → (n + chain (build n (s .expr) m) ≤ s .size) × Counted (quiet m) (chain (build n (s .expr) m))
+  chain-node n n-null r h = (omega arith, omega arith)
+  chain-node n (n-var x) r h = (omega arith, refl)
+  chain-node n (n-select x f) r h = (omega arith, refl)
+  chain-node n (n-update x f b) r h = let k = r b first in (omega (arith, k .0, k .1), omega arith)
+  chain-node n (n-call x m b) r h = let k = r b first in (omega (arith, k .0, k .1), omega arith)
+  chain-node n (n-bind x b c) r h = let k = r b first in (omega (arith, k .0, k .1), omega arith)
+  chain-node n (n-new c) r h = (omega arith, refl)
+  chain-node n (n-cast t b) r h = let k = r b first in (omega (arith, k .0, k .1), omega arith)
+  chain-node n (n-fork b c d) r h = (omega arith, refl)
+  chain-node n (n-lock x b) r h = (omega arith, refl)
+
+  chain-bound : (k : ℕ) (n : Point) → s .size ≤ n + k → n < s .size → (n + chain (s .expr n) ≤ s .size) × Counted (quiet (s .view n)) (chain (s .expr n))
+  chain-bound zero n l h = absurd (omega arith)
+  chain-bound (suc k) n l h =
+      rw (acc .built n h) (chain-node n (s .view n) (λ b m. let q = acc .in-order n h b m in (q .after, chain-bound k b (omega (arith, q .after)) (q .there) .0)) h)
+
+  -- And so of the thread at a place: its count is at most the nodes, and there is one exactly if its move due is silent.
+  pub due-told : (o : Option Tree) → OnNode s o → (due s o ≤ s .size) × Counted (quietIn s o) (due s o)
+  due-told none h = (omega arith, refl)
+  due-told (some (running a e fs)) h = let k = chain-bound (s .size) a (omega arith) (h a e fs refl) in (omega (arith, k .0), k .1)
+  due-told (some (returning v fs)) h = (omega arith, refl)
+  due-told (some failed) h = (omega arith, refl)
+  due-told (some (join fs a e l r)) h = (omega arith, refl)
 
 module _ {s : Code} {start : ℕ} (acc : AcceptedCode s start) (lim : Places) (p : Path) where
-  row-ahead : {c : Config} {n : ℕ} → InARow s lim p c n → OnNode s (part (c .tree) p) → n ≤ ahead s (part (c .tree) p)
+  row-due : {c d : Config} {n : ℕ} → Row s lim p c n d → OnNode s (part (c .tree) p) → OnNode s (part (d .tree) p) × (n + due s (part (d .tree) p) ≡ due s (part (c .tree) p))
   unfolding move
-  row-ahead row-ends h = omega arith
-  row-ahead (and-then {c = c} {st = st} {t = t} q m r) h =
-      let k = move-nearer acc (spare lim (c .stores) (c .tree)) (c .stores) [] (c .tree) p st t h q m in
-      omega (arith, k .less, row-ahead r (k .node))
-  row-ahead (meanwhile e r) h = omega (arith, row-ahead r (rw e h), ap (ahead s) e)
+  row-due row-none h = (h, omega arith)
+  row-due (and-then {c = c} {st = st} {t = t} q m r) h =
+      let k = move-counts acc (spare lim (c .stores) (c .tree)) (c .stores) [] (c .tree) p st t h q m in
+      let j = row-due r (k .0) in
+      (j .0, omega (arith, k .1, j .1))
+  row-due (meanwhile e r) h = let j = row-due r (rw e h) in (j .0, omega (arith, j .1, ap (due s) e))
 
-  -- At most 1,024 silent moves of a thread in a row.
-  pub row-bound : {w : Want} {c : Config} {n : ℕ} → WfConfig s w c → InARow s lim p c n → n ≤ SILENT
-  row-bound {c = c} h r = omega (arith, row-ahead r (on-node (h .tree) p), ahead-bound s (part (c .tree) p), acc .most)
+  module _ {w : Want} {c d : Config} {n : ℕ} (h : WfConfig s w c) (r : Row s lim p c n d) where
+    -- The silent moves of a thread in a row, and those that it still has before it, are those that it had.
+    pub row-counts : n + due s (part (d .tree) p) ≡ due s (part (c .tree) p)
+    row-counts = row-due r (on-node (h .tree) p) .1
+
+    -- So a row that ends where its move due is not silent is exactly as long.
+    pub row-exact : quietIn s (part (d .tree) p) ≡ false → n ≡ due s (part (c .tree) p)
+    row-exact q =
+        let k = row-due r (on-node (h .tree) p) in
+        let z : due s (part (d .tree) p) ≡ 0 = rw q at (due-told acc (part (d .tree) p) (k .0) .1) in
+        omega (arith, k .1)
+
+    -- At most 1,024 silent moves of a thread in a row.
+    pub row-bound : n ≤ SILENT
+    row-bound = omega (arith, row-counts, due-told acc (part (c .tree) p) (on-node (h .tree) p) .0, acc .most)

@@ -9,13 +9,14 @@ use lib.Dec.{eqb, eqb·zero-suc, eqb·suc-zero, eqb·suc-suc}
 use lib.ListN.{length}
 use borrow.Author.Tests.{eq-eqb, ne-eqb}
 use Rattle.script.specs.Lists.{named}
-use Rattle.script.specs.Syntax.{Slot}
+use Rattle.script.specs.Syntax.{Slot, Program}
 use Rattle.typing.specs.Members.{typeIn}
 use Rattle.machine.specs.declared.Value.{Value}
 use Rattle.machine.specs.Config.{Code, Object, Binding}
-use Rattle.machine.specs.Machine.{scope, slot, context, find, object, setShut, setFields, fieldValue, setField, nulls, oneIf}
+use Rattle.machine.specs.Machine.{scope, slot, context, find, object, setShut, setFields, fieldValue, setField, initials, oneIf}
 use Rattle.machine.specs.declared.Want.the-variants.{Upto as upto}
 use Rattle.machine.specs.WellFormed.{ValueFits, fits-nil, BindingsOk, no-bindings, a-binding, FieldsOk, no-fields, a-field, shutAt}
+use Rattle.machine.proofs.Types.{null-meets}
 
 -- either branch of a test
 cond-both {ℓ κ} : {A : Type ℓ} (P : A → Type κ) (t : Bool) {x y : A} → P x → P y → P (cond t x y)
@@ -42,39 +43,39 @@ scope-fits {s} {xs} (a-binding {b = b} {bs = bs} h ok) e =
     cond-both (AllFit s xs) (eqb e (suc (length bs))) (one-more (h .value) (scope-fits ok (b .link))) (scope-fits ok e)
 
 -- a variable that has a type has a binding with a value that fits
-pub record Seen (s : Code) (xs : List Object) (l : List Binding) (x t : ℕ) : Type 0 where
+pub record FitBinding (s : Code) (xs : List Object) (l : List Binding) (x t : ℕ) : Type 0 where
   pub binding : Binding
   pub there : find l x ≡ some binding
   pub fits : ValueFits s xs (binding .value) (upto t)
 
 module _ {s : Code} {xs : List Object} where
-  seen-step :
-      (b : Binding) (l : List Binding) (x t : ℕ) → ValueFits s xs (b .value) (upto (b .type)) → (typeIn (map slot l) x ≡ some t → Seen s xs l x t)
-      → (q : Bool) → eqb (b .name) x ≡ q → Option·map (λ (d : Slot). d .type) (cond q (some (slot b)) (named (λ (d : Slot). d .name) x (map slot l))) ≡ some t → Seen s xs (b ∷ l) x t
+  fit-step :
+      (b : Binding) (l : List Binding) (x t : ℕ) → ValueFits s xs (b .value) (upto (b .type)) → (typeIn (map slot l) x ≡ some t → FitBinding s xs l x t)
+      → (q : Bool) → eqb (b .name) x ≡ q → Option·map (λ (d : Slot). d .type) (cond q (some (slot b)) (named (λ (d : Slot). d .name) x (map slot l))) ≡ some t → FitBinding s xs (b ∷ l) x t
   unfolding typeIn named
-  seen-step b l x t f rec true p h =
+  fit-step b l x t f rec true p h =
       let e : b .type ≡ t = cc in
       record { binding = b; there = rw p; fits = rw e at f }
-  seen-step b l x t f rec false p h =
+  fit-step b l x t f rec false p h =
       let r = rec h in
       record { binding = r .binding; there = rw p (r .there); fits = r .fits }
 
-  seen-in : {l : List Binding} → AllFit s xs l → (x t : ℕ) → typeIn (map slot l) x ≡ some t → Seen s xs l x t
+  fit-in : {l : List Binding} → AllFit s xs l → (x t : ℕ) → typeIn (map slot l) x ≡ some t → FitBinding s xs l x t
   unfolding typeIn named
-  seen-in none-left x t h = absurd (Option·none-ne-some _ h)
-  seen-in (one-more {b = b} {l = l} f fs) x t h = seen-step b l x t f (seen-in fs x t) (eqb (b .name) x) refl h
+  fit-in none-left x t h = absurd (Option·none-ne-some _ h)
+  fit-in (one-more {b = b} {l = l} f fs) x t h = fit-step b l x t f (fit-in fs x t) (eqb (b .name) x) refl h
 
-  pub seen : {bs : List Binding} (e x t : ℕ) → BindingsOk s xs bs → typeIn (context bs e) x ≡ some t → Seen s xs (scope bs e) x t
-  seen e x t ok h = seen-in (scope-fits ok e) x t h
+  pub fit-binding : {bs : List Binding} (e x t : ℕ) → BindingsOk s xs bs → typeIn (context bs e) x ≡ some t → FitBinding s xs (scope bs e) x t
+  fit-binding e x t ok h = fit-in (scope-fits ok e) x t h
 
 -- an object keeps its class
-pub record Kept (ys : List Object) (o : ℕ) (x : Object) : Type 0 where
+pub record SameClass (ys : List Object) (o : ℕ) (x : Object) : Type 0 where
   pub now : Object
   pub there : object ys o ≡ some now
   pub class : now .class ≡ x .class
 
 abbrev pub Keeps : List Object → List Object → Type 0
-Keeps xs ys = (o : ℕ) (x : Object) → object xs o ≡ some x → Kept ys o x
+Keeps xs ys = (o : ℕ) (x : Object) → object xs o ≡ some x → SameClass ys o x
 
 pub keeps-same : (xs : List Object) → Keeps xs xs
 keeps-same xs o x h = record { now = x; there = h; class = refl }
@@ -158,23 +159,23 @@ shutAt-fields l (x ∷ xs) (suc o) zero = refl
 shutAt-fields l (x ∷ xs) (suc o) (suc p) = shutAt-fields l xs o p
 
 -- a declared field has a value that fits
-pub record FieldSeen (s : Code) (xs : List Object) (ds : List Slot) (l : List Value) (f u : ℕ) : Type 0 where
+pub record FitField (s : Code) (xs : List Object) (ds : List Slot) (l : List Value) (f u : ℕ) : Type 0 where
   pub value : Value
   pub there : fieldValue ds l f ≡ some value
   pub fits : ValueFits s xs value (upto u)
 
 module _ {s : Code} {xs : List Object} where
   field-step :
-      (d : Slot) (ds : List Slot) (v : Value) (l : List Value) (f u : ℕ) → ValueFits s xs v (upto (d .type)) → (typeIn ds f ≡ some u → FieldSeen s xs ds l f u)
-      → (q : Bool) → eqb (d .name) f ≡ q → Option·map (λ (b : Slot). b .type) (cond q (some d) (named (λ (b : Slot). b .name) f ds)) ≡ some u → FieldSeen s xs (d ∷ ds) (v ∷ l) f u
+      (d : Slot) (ds : List Slot) (v : Value) (l : List Value) (f u : ℕ) → ValueFits s xs v (upto (d .type)) → (typeIn ds f ≡ some u → FitField s xs ds l f u)
+      → (q : Bool) → eqb (d .name) f ≡ q → Option·map (λ (b : Slot). b .type) (cond q (some d) (named (λ (b : Slot). b .name) f ds)) ≡ some u → FitField s xs (d ∷ ds) (v ∷ l) f u
   unfolding typeIn
   field-step d ds v l f u k rec true p h = let e : d .type ≡ u = cc in record { value = v; there = rw p; fits = rw e at k }
   field-step d ds v l f u k rec false p h = let r = rec h in record { value = r .value; there = rw p (r .there); fits = r .fits }
 
-  pub field-seen : {ds : List Slot} {l : List Value} → FieldsOk s xs ds l → (f u : ℕ) → typeIn ds f ≡ some u → FieldSeen s xs ds l f u
+  pub fit-field : {ds : List Slot} {l : List Value} → FieldsOk s xs ds l → (f u : ℕ) → typeIn ds f ≡ some u → FitField s xs ds l f u
   unfolding typeIn named
-  field-seen no-fields f u h = absurd (Option·none-ne-some _ h)
-  field-seen (a-field {d = d} {ds = ds} {v = v} {l = l} k ks) f u h = field-step d ds v l f u k (field-seen ks f u) (eqb (d .name) f) refl h
+  fit-field no-fields f u h = absurd (Option·none-ne-some _ h)
+  fit-field (a-field {d = d} {ds = ds} {v = v} {l = l} k ks) f u h = field-step d ds v l f u k (fit-field ks f u) (eqb (d .name) f) refl h
 
   set-step :
       (d : Slot) (ds : List Slot) (v x : Value) (l : List Value) (f u : ℕ) → ValueFits s xs x (upto u) → ValueFits s xs v (upto (d .type)) → FieldsOk s xs ds l
@@ -195,6 +196,6 @@ module _ {s : Code} {xs : List Object} where
   fields-long no-fields = refl
   fields-long (a-field h k) = ap suc (fields-long k)
 
-  pub nulls-ok : (ds : List Slot) → FieldsOk s xs ds (nulls ds)
-  nulls-ok [] = no-fields
-  nulls-ok (d ∷ ds) = a-field fits-nil (nulls-ok ds)
+  pub initials-ok : (p : Program) (ds : List Slot) → FieldsOk s xs ds (initials p ds)
+  initials-ok p [] = no-fields
+  initials-ok p (d ∷ ds) = a-field (fits-nil (null-meets (upto (d .type)))) (initials-ok p ds)

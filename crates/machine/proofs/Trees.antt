@@ -29,6 +29,18 @@ finished-locks (returning v (f ∷ fs)) h o = cc
 finished-locks failed h o = cc
 finished-locks (join fs a e l r) h o = cc
 
+pub fold-broken : (st : Stores) (fs : List Frame) (a : Point) (e : ℕ) (q : Phase) → fold st fs a e q broken ≡ moved st failed
+fold-broken st fs a e finished = refl
+fold-broken st fs a e broken = refl
+fold-broken st fs a e busy = refl
+
+pub is-broken : (t : Tree) → phase t ≡ broken → t ≡ failed
+is-broken (running a e fs) h = cc
+is-broken (returning v []) h = cc
+is-broken (returning v (f ∷ fs)) h = cc
+is-broken failed h = refl
+is-broken (join fs a e l r) h = cc
+
 finished-whole : (t : Tree) → phase t ≡ finished → failures t ≡ 0
 finished-whole (running a e fs) h = cc
 finished-whole (returning v []) h = refl

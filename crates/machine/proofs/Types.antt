@@ -1,7 +1,7 @@
 -- Facts of typing that the machine uses: nothing but itself is below a class, methods are handed down, and what is inferred is what the walk computes.
 use Prim.Native.Nat.{ℕ, _<_}
 use mathlib.Core.Path.{_≡_, refl, sym, _∙_, ap, subst}
-use mathlib.Core.List.{List, [], _∷_, List·Memᴰ·head, List·Memᴰ·not-nil}
+use mathlib.Core.List.{List, [], _∷_, List·Memᴰ·head}
 use mathlib.Core.Option.{some}
 use native.Mathlib.Omega.{arith}
 use Rattle.script.specs.Lists.{_∈_}
@@ -13,26 +13,31 @@ use Rattle.typing.specs.declared.Answer.the-variants.{Typed}
 use Rattle.typing.specs.Members.{typeIn, fieldIn, fieldsOf, definedIn}
 use Rattle.typing.specs.Environments.{bodyEnv}
 use Rattle.typing.specs.Typing.{inferred}
-use Rattle.typing.specs.Published.{WfType, Sub, T-SUB-CLASS, T-SUB-INTERFACE-LEFT, T-SUB-INTERFACE-RIGHT, T-SUB-TRANS, T-SUB-EQ, WfEnv, WF-ENV, MsigIn, msigs-left, msigs-right, msigs-class, FieldIn, fields-class, Infer, BD-INFER-VAR, BD-INFER-LET, BD-INFER-CALL, BD-INFER-CAST, BD-INFER-SELECT, BD-INFER-UPDATE, BD-INFER-NEW, BD-INFER-LOCK, BD-INFER-FJ, Check, BD-CHECK-NULL, BD-CHECK-SUB, WfMethod, WF-METHOD, DefIn, WfClass, WF-CLASS, MsigsFunction, WfProgram, WF-PROGRAM}
+use Rattle.typing.specs.Published.{WfType, Sub, T-SUB-CLASS, T-SUB-INTERFACE-LEFT, T-SUB-INTERFACE-RIGHT, T-SUB-TRANS, T-SUB-EQ, WfEnv, WF-ENV, MsigIn, msigs-left, msigs-right, msigs-class, FieldIn, fields-class, any-type, Infer, BD-INFER-VAR, BD-INFER-LET, BD-INFER-CALL, BD-INFER-CAST, BD-INFER-SELECT, BD-INFER-UPDATE, BD-INFER-NEW, BD-INFER-LOCK, BD-INFER-FJ, Check, BD-CHECK-NULL, BD-CHECK-SUB, WfMethod, WF-METHOD, DefIn, WfClass, WF-CLASS, MsigsFunction, WfProgram, WF-PROGRAM}
 use Rattle.typing.proofs.Types.{type-wf, parent-types}
 use Rattle.typing.proofs.Members.{field-in, msig-from}
-use Rattle.typing.proofs.Rules.{Judged, types, judged, infer-complete}
+use Rattle.typing.proofs.Rules.{infer-type, infer-complete}
 use Rattle.machine.specs.Config.{Code}
 use Rattle.machine.specs.declared.Want.{Want}
-use Rattle.machine.specs.declared.Want.the-variants.{Upto as upto}
-use Rattle.machine.specs.WellFormed.{Meets, meets-any, meets-type, Gives, gives-null, gives-type}
+use Rattle.machine.specs.declared.Want.the-variants.{Any as any, Upto as upto}
+use Rattle.machine.specs.WellFormed.{Meets, meets-any, meets-type, NullMeets, null-any, null-type, Gives, gives-null, gives-type}
 use Rattle.machine.specs.Accepted.{AcceptedCode}
 
 pub meets-below : {s : Code} {t u : ℕ} {w : Want} → Sub (s .program) t u → Meets s u w → Meets s t w
 meets-below b meets-any = meets-any
 meets-below b (meets-type c) = meets-type (T-SUB-TRANS b c)
 
+-- Null meets whatever is wanted.
+pub null-meets : {s : Code} (w : Want) → NullMeets s w
+null-meets any = null-any
+null-meets (upto t) = null-type any-type
+
 pub check-gives : {s : Code} {Γ : List Slot} {a : Expr} {t : ℕ} → Check (s .program) Γ a t → Gives s Γ a (upto t)
-check-gives (BD-CHECK-NULL w i) = gives-null
+check-gives (BD-CHECK-NULL w i o) = gives-null (null-type o)
 check-gives (BD-CHECK-SUB h b n) = gives-type h (meets-type b)
 
 pub gives-meets : {s : Code} {Γ : List Slot} {a : Expr} {t : ℕ} {w : Want} → Gives s Γ a (upto t) → Meets s t w → Gives s Γ a w
-gives-meets gives-null m = gives-null
+gives-meets {w = w} (gives-null n) m = gives-null (null-meets w)
 gives-meets (gives-type h (meets-type b)) m = gives-type h (meets-below b m)
 
 module _ {p : Program} where
@@ -41,16 +46,16 @@ module _ {p : Program} where
     infer-env : {Γ : List Slot} {e : Expr} {t : ℕ} → Infer p Γ e t → WfEnv p Γ
     infer-env (BD-INFER-VAR w h) = w
     infer-env (BD-INFER-LET h k) = infer-env h
-    infer-env (BD-INFER-CALL h c m) = infer-env h
+    infer-env (BD-INFER-CALL h c m o) = infer-env h
     infer-env (BD-INFER-CAST c) = check-env c
-    infer-env (BD-INFER-SELECT h f) = infer-env h
-    infer-env (BD-INFER-UPDATE h c f) = infer-env h
+    infer-env (BD-INFER-SELECT h f o) = infer-env h
+    infer-env (BD-INFER-UPDATE h c f o) = infer-env h
     infer-env (BD-INFER-NEW w d) = w
-    infer-env (BD-INFER-LOCK h k) = infer-env h
+    infer-env (BD-INFER-LOCK h o k) = infer-env h
     infer-env (BD-INFER-FJ d h k l) = infer-env h
 
     check-env : {Γ : List Slot} {e : Expr} {t : ℕ} → Check p Γ e t → WfEnv p Γ
-    check-env (BD-CHECK-NULL w i) = w
+    check-env (BD-CHECK-NULL w i o) = w
     check-env (BD-CHECK-SUB h b n) = infer-env h
 
   env-first : {Γ : List Slot} {b : Slot} → WfEnv p (b ∷ Γ) → WfType p (b .type)
@@ -124,18 +129,12 @@ module _ {s : Code} {start : ℕ} (acc : AcceptedCode s start) where
   pub infer-computes : {Γ : List Slot} {e : Expr} {t : ℕ} → Infer (s .program) Γ e t → inferred (s .program) Γ e ≡ Typed t
   infer-computes = infer-complete (s .program) (acc .regular) (rules-function (acc .typed))
 
-  judged-type : {Γ : List Slot} {e : Expr} {t : ℕ} → Judged (s .program) Γ e (Typed t) → IsType (s .program) t
-  judged-type (types h i) = i
-
   -- The start is typed, and its type is a type.
   pub start-typed : Infer (s .program) [] (s .expr 0) start
   start-typed = subst (λ (e : Expr). Infer (s .program) [] e start) (acc .start) (rules-start (acc .typed))
 
   pub start-type : WfType (s .program) start
-  start-type =
-      let h = rules-start (acc .typed) in
-      type-wf (s .program) start .0
-      (judged-type (rw (infer-computes h) at (judged (s .program) (acc .regular) [] (s .program .start) (WF-ENV (λ b m. absurd (List·Memᴰ·not-nil m))) (acc .regular .start))))
+  start-type = type-wf (s .program) start .0 (infer-type (s .program) (acc .regular) (rules-start (acc .typed)))
 
   -- A field that the rules give is found among those of the class.
   pub field-declared : {c f u : ℕ} → FieldIn (s .program) c f u → IsClass (s .program) c × (typeIn (fieldsOf (s .program) c) f ≡ some u)

@@ -20,7 +20,7 @@ use Rattle.machine.specs.declared.Frame.{Frame}
 use Rattle.machine.specs.declared.Frame.the-variants.{Awaits as awaits, Casts as casts, Locks as locks}
 use Rattle.machine.specs.Config.{Code, Object, Binding, Tree, running, returning, failed, join, Config}
 use Rattle.machine.specs.Machine.{Places, Outcome, still, full, moved, Path, locate, choice, canMove, part}
-use Rattle.machine.specs.Standing.{heldBy}
+use Rattle.machine.specs.Ends.{heldBy}
 use Rattle.machine.specs.Silent.{quietIn}
 use Rattle.machine.specs.Runs.{Report, report}
 use Rattle.machine.specs.Decide.{wellFormedTest}

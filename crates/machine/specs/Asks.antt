@@ -9,26 +9,21 @@ use Rattle.machine.specs.declared.Value.{Value}
 use Rattle.machine.specs.declared.Value.the-variants.{Ref as ref}
 use Rattle.machine.specs.declared.Frame.{Frame}
 use Rattle.machine.specs.declared.Frame.the-variants.{Awaits as awaits}
-use Rattle.machine.specs.Config.{Code, Object, Binding, Stores, Tree, running, returning, join}
-use Rattle.machine.specs.Machine.{scope, find, object, Path, here, left, right}
+use Rattle.machine.specs.Config.{Code, Object, Stores, Tree, running, returning}
+use Rattle.machine.specs.Machine.{ValueOf, object}
 
 -- In this environment the variable holds this object.
 pub record TargetObject (st : Stores) (e x : ℕ) (y : Object) : Type 0 where
-  pub binding : Binding
   pub number : ℕ
-  pub there : find (scope (st .bindings) e) x ≡ some binding
-  pub value : binding .value ≡ ref number
+  pub holds : ValueOf st e x (ref number)
   pub object : object (st .objects) number ≡ some y
 
-pub data AsksField (s : Code) (st : Stores) (f : ℕ) (y : Object) : Tree → Path → Type 0 where
-  reads : {a : Point} {x e : ℕ} {fs : List Frame} → s .view a ≡ n-select x f → TargetObject st e x y → AsksField s st f y (running a e fs) here
+-- The move due of this part of a tree is a read or a waiting write of the field f with y as target; a waiting call of the method m.
+pub data AsksField (s : Code) (st : Stores) (f : ℕ) (y : Object) : Tree → Type 0 where
+  reads : {a : Point} {x e : ℕ} {fs : List Frame} → s .view a ≡ n-select x f → TargetObject st e x y → AsksField s st f y (running a e fs)
   writes : {a b : Point} {x e : ℕ} {v : Value} {fs : List Frame} → s .view a ≡ n-update x f b → TargetObject st e x y
-      → AsksField s st f y (returning v (awaits a e ∷ fs)) here
-  field-left : {fs : List Frame} {a : Point} {e : ℕ} {l r : Tree} {p : Path} → AsksField s st f y l p → AsksField s st f y (join fs a e l r) (left p)
-  field-right : {fs : List Frame} {a : Point} {e : ℕ} {l r : Tree} {p : Path} → AsksField s st f y r p → AsksField s st f y (join fs a e l r) (right p)
+      → AsksField s st f y (returning v (awaits a e ∷ fs))
 
-pub data AsksMethod (s : Code) (st : Stores) (m : ℕ) (y : Object) : Tree → Path → Type 0 where
+pub data AsksMethod (s : Code) (st : Stores) (m : ℕ) (y : Object) : Tree → Type 0 where
   invokes : {a b : Point} {x e : ℕ} {v : Value} {fs : List Frame} → s .view a ≡ n-call x m b → TargetObject st e x y
-      → AsksMethod s st m y (returning v (awaits a e ∷ fs)) here
-  method-left : {fs : List Frame} {a : Point} {e : ℕ} {l r : Tree} {p : Path} → AsksMethod s st m y l p → AsksMethod s st m y (join fs a e l r) (left p)
-  method-right : {fs : List Frame} {a : Point} {e : ℕ} {l r : Tree} {p : Path} → AsksMethod s st m y r p → AsksMethod s st m y (join fs a e l r) (right p)
+      → AsksMethod s st m y (returning v (awaits a e ∷ fs))

@@ -84,26 +84,24 @@ storesTest s st =
     allOf (isClassTest s) (st .objects)
     && (allOf (λ x. fieldsTest s (st .objects) (fieldsOf (s .program) (x .class)) (x .fields)) (st .objects) && bindingsTest s (st .objects) (st .bindings))
 
--- What a waiting node waits for and gives.
-pub record Turn : Type 0 where
-  pub wanted : ℕ
-  pub gives : ℕ
+-- A value of type t is waited for, if one of type u, which is given then, meets what is expected.
+abbrev pub wants : Code → ℕ → Want → ℕ → Option Want
+wants s u v t = only (meetsTest s u v) (some (upto t))
 
-abbrev pub turns : ℕ → ℕ → Option Turn
-turns t u = some (record { wanted = t; gives = u })
-
-abbrev pub turn : Code → List Slot → Node → Option Turn
-turn s Γ n-null = none
-turn s Γ (n-var x) = none
-turn s Γ (n-select x f) = none
-turn s Γ (n-update x f a) = given (typeIn Γ x) (λ c. given (fieldIn (s .program) c f) (λ t. turns t 0))
-turn s Γ (n-call x m a) = given (typeIn Γ x) (λ c. given (methodIn (s .program) c m) (λ g. turns (g .param) (g .result)))
-turn s Γ (n-bind x a b) =
-    ifTyped (inferred (s .program) Γ (s .expr a)) (λ t. ifTyped (inferred (s .program) (record { name = x; type = t } ∷ Γ) (s .expr b)) (λ u. turns t u))
-turn s Γ (n-new c) = none
-turn s Γ (n-cast t a) = none
-turn s Γ (n-fork a b c) = none
-turn s Γ (n-lock x a) = none
+-- Awaits: what a waiting node waits for, where v is expected beneath its frame.
+abbrev pub awaited : Code → List Slot → Node → Want → Option Want
+awaited s Γ n-null v = none
+awaited s Γ (n-var x) v = none
+awaited s Γ (n-select x f) v = none
+awaited s Γ (n-update x f a) v = given (typeIn Γ x) (λ c. given (fieldIn (s .program) c f) (λ t. wants s 0 v t))
+awaited s Γ (n-call x m a) v = given (typeIn Γ x) (λ c. given (methodIn (s .program) c m) (λ g. wants s (g .result) v (g .param)))
+awaited s Γ (n-bind x a b) v =
+    ifTyped (inferred (s .program) Γ (s .expr a))
+    (λ t. only (answerTest s (inferred (s .program) (record { name = x; type = t } ∷ Γ) (s .expr b)) v) (some (upto t)))
+awaited s Γ (n-new c) v = none
+awaited s Γ (n-cast t a) v = none
+awaited s Γ (n-fork a b c) v = none
+awaited s Γ (n-lock x a) v = none
 
 abbrev pub castType : Node → Option ℕ
 castType n-null = none
@@ -123,11 +121,9 @@ expects s bs w [] = some w
 expects s bs w (awaits n e ∷ fs) =
     given (expects s bs w fs)
     (λ v.
-    only (ltb n (s .size))
-    (only (leb e (length bs))
-    (given (turn s (context bs e) (s .view n)) (λ k. only (meetsTest s (k .gives) v) (some (upto (k .wanted)))))))
+    only (ltb n (s .size)) (only (leb e (length bs)) (awaited s (context bs e) (s .view n) v)))
 expects s bs w (casts n ∷ fs) =
-    given (expects s bs w fs) (λ v. only (ltb n (s .size)) (given (castType (s .view n)) (λ t. only (meetsTest s t v) (some (upto t)))))
+    given (expects s bs w fs) (λ v. only (ltb n (s .size)) (given (castType (s .view n)) (λ t. wants s t v t)))
 expects s bs w (locks o ∷ fs) = expects s bs w fs
 
 -- The tree

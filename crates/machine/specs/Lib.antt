@@ -3,14 +3,13 @@ pub mod Config
 pub mod Machine
 pub mod WellFormed
 pub mod Accepted
-pub mod Standing
-pub mod Stays
+pub mod Ends
+pub mod CannotMove
 pub mod Silent
 pub mod Runs
 pub mod Asks
 pub mod OnNull
-pub mod Short
+pub mod FullStore
 pub mod Decide
 pub mod Promise
-pub mod Calls
 pub mod AllMoves

@@ -1,5 +1,6 @@
 -- Moves: what a thread or a join does when it is chosen. Program points are the script's nodes, so the machine goes from node to node.
 use Prim.Native.Nat.{ℕ, zero, suc, _+_, _-_}
+use mathlib.Core.Path.{_≡_}
 use mathlib.Core.Bool.{Bool, true, false, cond}
 use mathlib.Core.List.{List, [], _∷_, _++_, map}
 use mathlib.Core.Option.{Option, none, some}
@@ -7,7 +8,7 @@ use lib.Dec.{eqb, ltb}
 use lib.ListN.{length}
 use Rattle.limits.specs.Limits.{OBJECTS, BINDINGS, FRAMES, THREADS}
 use Rattle.script.specs.Lists.{named}
-use Rattle.script.specs.Syntax.{Point, Node, n-null, n-var, n-select, n-update, n-call, n-bind, n-new, n-cast, n-fork, n-lock, pointOf, Slot, Method}
+use Rattle.script.specs.Syntax.{Point, Node, n-null, n-var, n-select, n-update, n-call, n-bind, n-new, n-cast, n-fork, n-lock, pointOf, Slot, Method, Program}
 use Rattle.script.specs.Reading.{programOf}
 use Rattle.typing.specs.declared.Answer.{Answer}
 use Rattle.typing.specs.declared.Answer.the-variants.{Typed, Faulty}
@@ -41,6 +42,12 @@ context bs e = map slot (scope bs e)
 abbrev pub find : List Binding → ℕ → Option Binding
 find l x = named (λ (b : Binding). b .name) x l
 
+-- In this environment the variable has this value.
+pub record ValueOf (st : Stores) (e x : ℕ) (v : Value) : Type 0 where
+  pub binding : Binding
+  pub there : find (scope (st .bindings) e) x ≡ some binding
+  pub value : binding .value ≡ v
+
 -- H(ι)
 abbrev pub object : List Object → ℕ → Option Object
 object [] o = none
@@ -70,10 +77,13 @@ setField x [] l f = l
 setField x (d ∷ ds) [] f = []
 setField x (d ∷ ds) (v ∷ l) f = cond (eqb (d .name) f) (x ∷ l) (v ∷ setField x ds l f)
 
--- f₁ ↦ null, .., fₙ ↦ null
-abbrev pub nulls : List Slot → List Value
-nulls [] = []
-nulls (d ∷ ds) = nil ∷ nulls ds
+-- f₁ ↦ null, .., fₙ ↦ null: the initial value of a field by its type, and those of an object's fields.
+abbrev pub initialOf : Program → ℕ → Value
+initialOf p t = nil
+
+abbrev pub initials : Program → List Slot → List Value
+initials p [] = []
+initials p (d ∷ ds) = initialOf p (d .type) ∷ initials p ds
 
 abbrev pub oneIf : Bool → ℕ
 oneIf true = 1
@@ -108,6 +118,16 @@ abbrev pub give : Stores → List Frame → Option Binding → Outcome
 give st fs none = still
 give st fs (some b) = moved st (returning (b .value) fs)
 
+-- The target of a read, a write, a call or a lock: "Targets are tested after the argument; null fails the thread." "Lock: null fails".
+-- With an object the move goes on.
+abbrev pub onValue : Stores → (ℕ → Option Object → Outcome) → Value → Outcome
+onValue st go nil = moved st failed
+onValue st go (ref o) = go o (object (st .objects) o)
+
+abbrev pub onTarget : Stores → (ℕ → Option Object → Outcome) → Option Binding → Outcome
+onTarget st go none = still
+onTarget st go (some b) = onValue st go (b .value)
+
 -- "kinds 3, 4, 5 and 7 descend into their first-run part and leave a frame". Here and below k, or zero and suc k, is how many places the store has left.
 abbrev pub descend : Stores → List Frame → ℕ → Frame → Point → ℕ → Outcome
 descend st fs e f a zero = full Frames
@@ -118,7 +138,10 @@ abbrev pub make : Code → Stores → List Frame → ℕ → ℕ → Outcome
 make s st fs c zero = full Objects
 make s st fs c (suc k) =
     moved
-    (record { objects = st .objects ++ (record { class = c; shut = false; fields = nulls (fieldsOf (s .program) c) } ∷ []); bindings = st .bindings })
+    (record {
+      objects = st .objects ++ (record { class = c; shut = false; fields = initials (s .program) (fieldsOf (s .program) c) } ∷ []);
+      bindings = st .bindings;
+    })
     (returning (ref (length (st .objects))) fs)
 
 -- "A fork becomes a join that keeps its frames, its last part and the bindings for it, which both asyncs also start with"
@@ -146,14 +169,8 @@ lockObject st above fs a e k o none = still
 lockObject st above fs a e k o (some x) =
     elim (x .shut) [ true ↦ enter st fs a e (lockFrames o fs + lockFrames o above) | false ↦ shutAndEnter st fs a e o k ]
 
--- "Lock: null fails"
-abbrev pub lockValue : Stores → List Frame → List Frame → Point → ℕ → ℕ → Value → Outcome
-lockValue st above fs a e k nil = moved st failed
-lockValue st above fs a e k (ref o) = lockObject st above fs a e k o (object (st .objects) o)
-
 abbrev pub lockTarget : Stores → List Frame → List Frame → Point → ℕ → ℕ → Option Binding → Outcome
-lockTarget st above fs a e k none = still
-lockTarget st above fs a e k (some b) = lockValue st above fs a e k (b .value)
+lockTarget st above fs a e k q = onTarget st (lockObject st above fs a e k) q
 
 -- "a waiting let adds one binding, its type the one inferred for the let's first part under the frame's bindings"
 abbrev pub extend : Stores → List Frame → ℕ → Value → Point → ℕ → Answer → ℕ → Outcome
@@ -164,7 +181,7 @@ extend st fs x v b e (Typed t) (suc k) =
     (record { objects = st .objects; bindings = record { name = x; type = t; value = v; link = e } ∷ st .bindings })
     (running b (suc (length (st .bindings))) fs)
 
--- "a read gives the field"; "null fails the thread".
+-- "a read gives the field"
 abbrev pub selectField : Stores → List Frame → Option Value → Outcome
 selectField st fs none = still
 selectField st fs (some v) = moved st (returning v fs)
@@ -173,28 +190,18 @@ abbrev pub selectObject : Code → Stores → List Frame → ℕ → Option Obje
 selectObject s st fs f none = still
 selectObject s st fs f (some y) = selectField st fs (fieldValue (fieldsOf (s .program) (y .class)) (y .fields) f)
 
-abbrev pub selectValue : Code → Stores → List Frame → ℕ → Value → Outcome
-selectValue s st fs f nil = moved st failed
-selectValue s st fs f (ref o) = selectObject s st fs f (object (st .objects) o)
-
 abbrev pub selectTarget : Code → Stores → List Frame → ℕ → Option Binding → Outcome
-selectTarget s st fs f none = still
-selectTarget s st fs f (some b) = selectValue s st fs f (b .value)
+selectTarget s st fs f q = onTarget st (λ o. selectObject s st fs f) q
 
--- "a waiting write stores and gives null"; "Targets are tested after the argument; null fails the thread."
+-- "a waiting write stores and gives null"
 abbrev pub updateObject : Code → Stores → List Frame → ℕ → Value → ℕ → Option Object → Outcome
 updateObject s st fs f v o none = still
 updateObject s st fs f v o (some y) =
     moved (record { objects = setFields (setField v (fieldsOf (s .program) (y .class)) (y .fields) f) (st .objects) o; bindings = st .bindings })
     (returning nil fs)
 
-abbrev pub updateValue : Code → Stores → List Frame → ℕ → Value → Value → Outcome
-updateValue s st fs f v nil = moved st failed
-updateValue s st fs f v (ref o) = updateObject s st fs f v o (object (st .objects) o)
-
 abbrev pub updateTarget : Code → Stores → List Frame → ℕ → Value → Option Binding → Outcome
-updateTarget s st fs f v none = still
-updateTarget s st fs f v (some b) = updateValue s st fs f v (b .value)
+updateTarget s st fs f v q = onTarget st (updateObject s st fs f v) q
 
 -- "a waiting call adds two, this with the object's class and the parameter with its declared type, and enters the body with no others"
 abbrev pub callBindings : ℕ → ℕ → ℕ → Value → List Binding → List Binding
@@ -215,13 +222,8 @@ abbrev pub callObject : Code → Stores → List Frame → ℕ → Value → ℕ
 callObject s st fs m v k o none = still
 callObject s st fs m v k o (some y) = callMethod st fs v o (y .class) (definedIn (s .program) (y .class) m) k
 
-abbrev pub callValue : Code → Stores → List Frame → ℕ → Value → ℕ → Value → Outcome
-callValue s st fs m v k nil = moved st failed
-callValue s st fs m v k (ref o) = callObject s st fs m v k o (object (st .objects) o)
-
 abbrev pub callTarget : Code → Stores → List Frame → ℕ → Value → ℕ → Option Binding → Outcome
-callTarget s st fs m v k none = still
-callTarget s st fs m v k (some b) = callValue s st fs m v k (b .value)
+callTarget s st fs m v k q = onTarget st (callObject s st fs m v k) q
 
 -- A thread at the node n, whose view is the last argument.
 abbrev pub runNode : Code → Places → Stores → List Frame → List Frame → ℕ → Point → Node → Outcome
@@ -391,6 +393,13 @@ part failed (left p) = none
 part failed (right p) = none
 part (join fs a e l r) (left p) = part l p
 part (join fs a e l r) (right p) = part r p
+
+-- `At above t p handed u`: at the place p of the tree t, itself handed the frames above, stands u, handed these: "a join's are resumed by its leftmost thread".
+pub data At : List Frame → Tree → Path → List Frame → Tree → Type 0 where
+  at-root : {above : List Frame} {t : Tree} → At above t here above t
+  at-left : {above fs handed : List Frame} {a : Point} {e : ℕ} {l r u : Tree} {p : Path} → At (fs ++ above) l p handed u
+      → At above (join fs a e l r) (left p) handed u
+  at-right : {above fs handed : List Frame} {a : Point} {e : ℕ} {l r u : Tree} {p : Path} → At [] r p handed u → At above (join fs a e l r) (right p) handed u
 
 -- The objects of lock frames; `lockFrames` counts one of them (`frames-held`).
 abbrev pub held : List Frame → List ℕ

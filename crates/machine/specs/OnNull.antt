@@ -2,26 +2,21 @@
 use Prim.Native.Nat.{ℕ}
 use mathlib.Core.Path.{_≡_}
 use mathlib.Core.List.{List, _∷_}
-use mathlib.Core.Option.{some}
 use Rattle.script.specs.Syntax.{Point, n-select, n-update, n-call, n-lock}
 use Rattle.machine.specs.declared.Value.{Value}
 use Rattle.machine.specs.declared.Value.the-variants.{Null as nil}
 use Rattle.machine.specs.declared.Frame.{Frame}
 use Rattle.machine.specs.declared.Frame.the-variants.{Awaits as awaits}
-use Rattle.machine.specs.Config.{Code, Binding, Stores, Tree, running, returning, failed, join}
-use Rattle.machine.specs.Machine.{scope, find}
-
--- In this environment the variable is null.
-pub record NullAt (st : Stores) (e x : ℕ) : Type 0 where
-  pub binding : Binding
-  pub there : find (scope (st .bindings) e) x ≡ some binding
-  pub value : binding .value ≡ nil
+use Rattle.machine.specs.Config.{Code, Stores, Tree, running, returning, failed, join}
+use Rattle.machine.specs.Machine.{ValueOf}
 
 -- The move due has a null target, or a side of the join is a failed thread.
 pub data Fails (s : Code) (st : Stores) : Tree → Type 0 where
-  null-read : {a : Point} {x f e : ℕ} {fs : List Frame} → s .view a ≡ n-select x f → NullAt st e x → Fails s st (running a e fs)
-  null-lock : {a b : Point} {x e : ℕ} {fs : List Frame} → s .view a ≡ n-lock x b → NullAt st e x → Fails s st (running a e fs)
-  null-write : {n a : Point} {x f e : ℕ} {v : Value} {fs : List Frame} → s .view n ≡ n-update x f a → NullAt st e x → Fails s st (returning v (awaits n e ∷ fs))
-  null-call : {n a : Point} {x m e : ℕ} {v : Value} {fs : List Frame} → s .view n ≡ n-call x m a → NullAt st e x → Fails s st (returning v (awaits n e ∷ fs))
+  null-read : {a : Point} {x f e : ℕ} {fs : List Frame} → s .view a ≡ n-select x f → ValueOf st e x nil → Fails s st (running a e fs)
+  null-lock : {a b : Point} {x e : ℕ} {fs : List Frame} → s .view a ≡ n-lock x b → ValueOf st e x nil → Fails s st (running a e fs)
+  null-write : {n a : Point} {x f e : ℕ} {v : Value} {fs : List Frame} → s .view n ≡ n-update x f a → ValueOf st e x nil
+      → Fails s st (returning v (awaits n e ∷ fs))
+  null-call : {n a : Point} {x m e : ℕ} {v : Value} {fs : List Frame} → s .view n ≡ n-call x m a → ValueOf st e x nil
+      → Fails s st (returning v (awaits n e ∷ fs))
   left-failed : {fs : List Frame} {a : Point} {e : ℕ} {l r : Tree} → l ≡ failed → Fails s st (join fs a e l r)
   right-failed : {fs : List Frame} {a : Point} {e : ℕ} {l r : Tree} → r ≡ failed → Fails s st (join fs a e l r)

@@ -2,23 +2,26 @@
 use Prim.Native.Nat.{ℕ, _≤_}
 use mathlib.Core.Path.{_≡_}
 use mathlib.Core.List.{List, _++_}
-use mathlib.Core.Option.{some}
+use mathlib.Core.Logic.{_⊎_}
+use mathlib.Core.Option.{Option, none, some}
 use Rattle.script.specs.Lists.{_∈_}
 use Rattle.typing.specs.Published.{FieldIn, MsigIn}
 use Rattle.machine.specs.declared.Ending.{Ending}
 use Rattle.machine.specs.declared.Value.{Value}
-use Rattle.machine.specs.Config.{Code, Object, Binding, Config}
+use Rattle.machine.specs.Config.{Code, Object, Binding, Tree, failed, Config}
 use Rattle.typing.specs.Members.{fieldsOf}
-use Rattle.machine.specs.Machine.{object, fieldValue, Places, still, Path, choice}
+use Rattle.machine.specs.Machine.{object, fieldValue, Places, still, Path, locate, choice, part}
 use Rattle.machine.specs.declared.Want.the-variants.{Upto as upto}
 use Rattle.machine.specs.WellFormed.{ValueFits}
-use Rattle.machine.specs.Standing.{heldBy, End}
+use Rattle.machine.specs.Ends.{heldBy, End}
 use Rattle.machine.specs.Asks.{AsksField, AsksMethod}
+use Rattle.machine.specs.OnNull.{Fails}
 
 pub record Promised (s : Code) (lim : Places) (c : Config) : Type 0 where
   -- every read, waiting write and waiting call due on an object names a field or method that its class has
-  pub field-asked : (f : ℕ) (y : Object) (p : Path) → AsksField s (c .stores) f y (c .tree) p → (u : ℕ) × FieldIn (s .program) (y .class) f u
-  pub method-asked : (m : ℕ) (y : Object) (p : Path) → AsksMethod s (c .stores) m y (c .tree) p
+  pub field-asked : (f : ℕ) (y : Object) (p : Path) (t : Tree) → part (c .tree) p ≡ some t → AsksField s (c .stores) f y t
+      → (u : ℕ) × FieldIn (s .program) (y .class) f u
+  pub method-asked : (m : ℕ) (y : Object) (p : Path) (t : Tree) → part (c .tree) p ≡ some t → AsksMethod s (c .stores) m y t
       → (t u : ℕ) × MsigIn (s .program) (y .class) (record { name = m; param = t; result = u })
   -- every binding and field holds null or an object whose class is below its type
   pub binding-typed : (b : Binding) → b ∈ c .stores .bindings → ValueFits s (c .stores .objects) (b .value) (upto (b .type))
@@ -33,3 +36,15 @@ pub record Promised (s : Code) (lim : Places) (c : Config) : Type 0 where
 pub record Kept (c d : Config) : Type 0 where
   pub added : List Binding
   pub there : d .stores .bindings ≡ added ++ c .stores .bindings
+
+-- The choice names this place of the tree. A Start is no choice and names none.
+abbrev pub NamesPlace : Tree → Option ℕ → Path → Type 0
+NamesPlace t none q = ⊥
+NamesPlace t (some n) q = locate t n ≡ some q
+
+-- A thread that is failed in e, one choice after d, was so in d; or that choice names its very place, where in d a thread stood before a null target or a join
+-- with a failed side.
+abbrev pub FailsOnNull : Code → Option ℕ → Config → Config → Type 0
+FailsOnNull s o d e =
+    (q : Path) → part (e .tree) q ≡ some failed
+    → (part (d .tree) q ≡ some failed) ⊎ (NamesPlace (d .tree) o q × (t : Tree) × (part (d .tree) q ≡ some t) × Fails s (d .stores) t)

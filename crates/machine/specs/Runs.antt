@@ -12,7 +12,7 @@ use Rattle.machine.specs.declared.Stop.the-variants.{Spent, Ended, Full}
 use Rattle.machine.specs.Config.{Code, Stores, Tree, Config}
 use Rattle.machine.specs.Machine.{Places, Outcome, still, full, moved, phase, size, choice, canMove}
 use Rattle.machine.specs.WellFormed.{WellFormed}
-use Rattle.machine.specs.Standing.{ending, End}
+use Rattle.machine.specs.Ends.{ending, End}
 
 -- Whether one of the first n positions can move.
 abbrev pub anyAble : Code → Places → Config → ℕ → Bool
@@ -68,7 +68,7 @@ pub data Runs (s : Code) (lim : Places) : Config → List ℕ → Report → Typ
   spends : {c : Config} → look s lim c ≡ none → Runs s lim c [] (record { stop = Spent; read = 0; moves = 0; config = c })
   passes : {c : Config} {n : ℕ} {ns : List ℕ} {r : Report} → look s lim c ≡ none → choice s lim c n ≡ still → Runs s lim c ns r
       → Runs s lim c (n ∷ ns) (record { stop = r .stop; read = suc (r .read); moves = r .moves; config = r .config })
-  moves : {c : Config} {st : Stores} {t : Tree} {n : ℕ} {ns : List ℕ} {r : Report} → look s lim c ≡ none → choice s lim c n ≡ moved st t
+  makes : {c : Config} {st : Stores} {t : Tree} {n : ℕ} {ns : List ℕ} {r : Report} → look s lim c ≡ none → choice s lim c n ≡ moved st t
       → Runs s lim (record { stores = st; tree = t }) ns r
       → Runs s lim c (n ∷ ns) (record { stop = r .stop; read = suc (r .read); moves = suc (r .moves); config = r .config })
   fills : {c : Config} {n : ℕ} {k : Store} {ns : List ℕ} → look s lim c ≡ none → choice s lim c n ≡ full k
@@ -77,19 +77,19 @@ pub data Runs (s : Code) (lim : Places) : Config → List ℕ → Report → Typ
 -- A position that can move.
 pub record CanMove (s : Code) (lim : Places) (c : Config) : Type 0 where
   pub position : ℕ
-  pub moves : choice s lim c position ≡ still → ⊥
+  pub can : choice s lim c position ≡ still → ⊥
 
 -- What holds of the configuration that a run leaves with its stop: a position can move; or the run has come to one of the three ends, and none can; or a store
 -- is full for a move that is due.
-pub data Stopped (s : Code) (lim : Places) (c : Config) : Stop → Type 0 where
-  spent : CanMove s lim c → Stopped s lim c Spent
-  at-end : {k : Ending} → End s c k → ((n : ℕ) → choice s lim c n ≡ still) → Stopped s lim c (Ended k)
-  no-places : {k : Store} (n : ℕ) → choice s lim c n ≡ full k → Stopped s lim c (Full k)
+pub data StopMeans (s : Code) (lim : Places) (c : Config) : Stop → Type 0 where
+  spent : CanMove s lim c → StopMeans s lim c Spent
+  at-end : {k : Ending} → End s c k → ((n : ℕ) → choice s lim c n ≡ still) → StopMeans s lim c (Ended k)
+  no-places : {k : Store} (n : ℕ) → choice s lim c n ≡ full k → StopMeans s lim c (Full k)
 
 -- What a run leaves.
 pub record Leaves (s : Code) (lim : Places) (t : ℕ) (r : Report) : Type 0 where
   pub formed : WellFormed s lim t (r .config)
-  pub stopped : Stopped s lim (r .config) (r .stop)
+  pub means : StopMeans s lim (r .config) (r .stop)
 
 -- The last choice read met this full store: it does where the run with the choices before it leaves off.
 pub record LastFull (s : Code) (lim : Places) (c : Config) (ns : List ℕ) (r : Report) (k : Store) : Type 0 where

@@ -4,7 +4,8 @@ use mathlib.Core.Path.{_≡_}
 use mathlib.Core.Bool.{Bool, true, false}
 use mathlib.Core.List.{List, _∷_}
 use mathlib.Core.Option.{Option, none, some}
-use Rattle.script.specs.Syntax.{Point, Node, n-null, n-var, n-select, n-update, n-call, n-bind, n-new, n-cast, n-fork, n-lock}
+use Rattle.script.specs.Syntax.{Point, Expr, null, var, select, update, call, bind, new, cast, fork, lock}
+use Rattle.script.specs.Syntax.{Node, n-null, n-var, n-select, n-update, n-call, n-bind, n-new, n-cast, n-fork, n-lock}
 use Rattle.machine.specs.declared.Value.the-variants.{Null as nil}
 use Rattle.machine.specs.declared.Frame.{Frame}
 use Rattle.machine.specs.declared.Frame.the-variants.{Awaits as awaits, Casts as casts}
@@ -49,20 +50,47 @@ pub data SilentMove (s : Code) : Tree → Tree → Type 0 where
   into-let : {a b c : Point} {e x : ℕ} {fs : List Frame} → s .view a ≡ n-bind x b c → SilentMove s (running a e fs) (running b e (awaits a e ∷ fs))
   into-cast : {a b : Point} {e t : ℕ} {fs : List Frame} → s .view a ≡ n-cast t b → SilentMove s (running a e fs) (running b e (casts a ∷ fs))
 
--- The thread at this place of the tree makes a silent move, and all else stays as it was.
-pub data SilentAt (s : Code) : Path → Tree → Tree → Type 0 where
-  silent-here : {t u : Tree} → SilentMove s t u → SilentAt s here t u
-  silent-left : {fs : List Frame} {a : Point} {e : ℕ} {l k r : Tree} {p : Path} → SilentAt s p l k → SilentAt s (left p) (join fs a e l r) (join fs a e k r)
-  silent-right : {fs : List Frame} {a : Point} {e : ℕ} {l r k : Tree} {p : Path} → SilentAt s p r k → SilentAt s (right p) (join fs a e l r) (join fs a e l k)
+-- The part of the tree at this place changes so, and all else stays as it was.
+pub data ChangedAt (R : Tree → Tree → Type 0) : Path → Tree → Tree → Type 0 where
+  changed-here : {t u : Tree} → R t u → ChangedAt R here t u
+  changed-left : {fs : List Frame} {a : Point} {e : ℕ} {l k r : Tree} {p : Path} → ChangedAt R p l k
+      → ChangedAt R (left p) (join fs a e l r) (join fs a e k r)
+  changed-right : {fs : List Frame} {a : Point} {e : ℕ} {l r k : Tree} {p : Path} → ChangedAt R p r k
+      → ChangedAt R (right p) (join fs a e l r) (join fs a e l k)
 
--- `InARow s lim p c n`: from c on, the thread at p makes n silent moves and no other; in between others may move, while it stays as it is.
-pub data InARow (s : Code) (lim : Places) (p : Path) : Config → ℕ → Type 0 where
-  row-ends : {c : Config} → InARow s lim p c 0
-  and-then : {c : Config} {st : Stores} {t : Tree} {n : ℕ} → quietIn s (part (c .tree) p) ≡ true → move s lim c p ≡ moved st t
-      → InARow s lim p (record { stores = st; tree = t }) n → InARow s lim p c (suc n)
-  meanwhile : {c d : Config} {n : ℕ} → part (d .tree) p ≡ part (c .tree) p → InARow s lim p d n → InARow s lim p c n
+-- The thread at this place of the tree makes a silent move.
+abbrev pub SilentAt : Code → Path → Tree → Tree → Type 0
+SilentAt s p t u = ChangedAt (SilentMove s) p t u
 
--- How often a place is among others.
+-- How many silent moves a thread has before it at an expression, along "their first-run part": one for each descent and one for a null at the end.
+abbrev pub chain : Expr → ℕ
+chain (null n) = 1
+chain (var n x) = 0
+chain (select n x f) = 0
+chain (update n x f e) = suc (chain e)
+chain (call n x m e) = suc (chain e)
+chain (bind n x e₁ e₂) = suc (chain e₁)
+chain (new n c) = 0
+chain (cast n t e) = suc (chain e)
+chain (fork n e₁ e₂ e₃) = 0
+chain (lock n x e) = 0
+
+-- And the part of the tree at a place.
+abbrev pub due : Code → Option Tree → ℕ
+due s none = 0
+due s (some (running a e fs)) = chain (s .expr a)
+due s (some (returning v fs)) = 0
+due s (some failed) = 0
+due s (some (join fs a e l r)) = 0
+
+-- `Row s lim p c n d`: from c to d the thread at p makes n silent moves and no other; in between others may move, while it stays as it is.
+pub data Row (s : Code) (lim : Places) (p : Path) : Config → ℕ → Config → Type 0 where
+  row-none : {c : Config} → Row s lim p c 0 c
+  and-then : {c d : Config} {st : Stores} {t : Tree} {n : ℕ} → quietIn s (part (c .tree) p) ≡ true → move s lim c p ≡ moved st t
+      → Row s lim p (record { stores = st; tree = t }) n d → Row s lim p c (suc n) d
+  meanwhile : {c d e : Config} {n : ℕ} → part (d .tree) p ≡ part (c .tree) p → Row s lim p d n e → Row s lim p c n e
+
+-- Whether two places are one.
 abbrev pub samePlace : Path → Path → Bool
 samePlace here here = true
 samePlace here (left q) = false

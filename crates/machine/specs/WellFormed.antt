@@ -8,8 +8,9 @@ use lib.ListN.{length}
 use Rattle.words.specs.Word.{WORD}
 use Rattle.script.specs.Syntax.{Point, Node, n-bind, n-cast, n-update, n-call, Expr, null, Slot}
 use Rattle.script.specs.Regular.{IsType, IsClass}
-use Rattle.typing.specs.Members.{typeIn, fieldsOf}
-use Rattle.typing.specs.Published.{Sub, FieldIn, MsigIn, Infer}
+use Rattle.typing.specs.Environments.{TypeOf}
+use Rattle.typing.specs.Members.{fieldsOf}
+use Rattle.typing.specs.Published.{Sub, FieldIn, MsigIn, NullFits, Infer}
 use Rattle.machine.specs.declared.Value.{Value}
 use Rattle.machine.specs.declared.Want.{Want}
 use Rattle.machine.specs.declared.Want.the-variants.{Any as any, Upto as upto}
@@ -24,17 +25,22 @@ pub data Meets (s : Code) : ℕ → Want → Type 0 where
   meets-any : {t : ℕ} → Meets s t any
   meets-type : {t u : ℕ} → Sub (s .program) t u → Meets s t (upto u)
 
+-- Null has the type that is wanted, where one is: the premise `NullFits` of BD-CHECK-NULL.
+pub data NullMeets (s : Code) : Want → Type 0 where
+  null-any : NullMeets s any
+  null-type : {t : ℕ} → NullFits (s .program) t → NullMeets s (upto t)
+
 -- Γ ⊢ v : t, of Figure 5: "value types fit".
 pub data ValueFits (s : Code) (xs : List Object) : Value → Want → Type 0 where
   -- WF-NULL
-  fits-nil : {w : Want} → ValueFits s xs nil w
+  fits-nil : {w : Want} → NullMeets s w → ValueFits s xs nil w
   -- WF-LOC: Γ(ι) is the object's class
   fits-ref : {o : ℕ} {x : Object} {w : Want} → object xs o ≡ some x → Meets s (x .class) w → ValueFits s xs (ref o) w
 
 -- Γ ⊢ e ⇐ t of Figure 11, and where any type will do the same with some t.
 pub data Gives (s : Code) (Γ : List Slot) : Expr → Want → Type 0 where
   -- BD-CHECK-NULL: "A null is checked against any type and inferred never."
-  gives-null : {n : Point} {w : Want} → Gives s Γ (null n) w
+  gives-null : {n : Point} {w : Want} → NullMeets s w → Gives s Γ (null n) w
   -- BD-CHECK-SUB
   gives-type : {a : Expr} {t : ℕ} {w : Want} → Infer (s .program) Γ a t → Meets s t w → Gives s Γ a w
 
@@ -76,25 +82,25 @@ pub record StoresOk (s : Code) (st : Stores) : Type 0 where
   -- WF-HEAP
   pub heap : (o : ℕ) (x : Object) → object (st .objects) o ≡ some x → TypedObject s (st .objects) x
 
--- `Awaits s Γ n t u`: the node waits for a value of type t, or below, and then gives one of type u, or below. Each is the rule of Figure 11 for the whole node,
--- less the premise about the part that the value has come from.
-pub data Awaits (s : Code) (Γ : List Slot) : Node → ℕ → ℕ → Type 0 where
+-- `Awaits s Γ n t v`: the node waits for a value of type t, or below, and then gives one that fits v, what is expected beneath its frame. Each is the rule of
+-- Figure 11 for the whole node, less the premise about the part that the value has come from; then BD-CHECK-SUB.
+pub data Awaits (s : Code) (Γ : List Slot) : Node → ℕ → Want → Type 0 where
   -- BD-INFER-LET; its premise Γ ⊢ e₁ ⇒ t₁ stays: "what a let frame waits for fits the type inferred for the let's first part under the frame's bindings (there
   -- must be one)"
-  a-let : {x t u : ℕ} {a b : Point} → Infer (s .program) Γ (s .expr a) t → Infer (s .program) (record { name = x; type = t } ∷ Γ) (s .expr b) u
-      → Awaits s Γ (n-bind x a b) t u
+  a-let : {x t u : ℕ} {a b : Point} {v : Want} → Infer (s .program) Γ (s .expr a) t → Infer (s .program) (record { name = x; type = t } ∷ Γ) (s .expr b) u
+      → Meets s u v → Awaits s Γ (n-bind x a b) t v
   -- BD-INFER-UPDATE, less Γ ⊢ e ⇐ t
-  a-write : {x f c t : ℕ} {a : Point} → typeIn Γ x ≡ some c → FieldIn (s .program) c f t → Awaits s Γ (n-update x f a) t 0
+  a-write : {x f c t : ℕ} {a : Point} {v : Want} → TypeOf Γ x c → FieldIn (s .program) c f t → Meets s 0 v → Awaits s Γ (n-update x f a) t v
   -- BD-INFER-CALL, less Γ ⊢ e ⇐ t₂
-  a-call : {x m c t u : ℕ} {a : Point} → typeIn Γ x ≡ some c → MsigIn (s .program) c (record { name = m; param = t; result = u })
-      → Awaits s Γ (n-call x m a) t u
+  a-call : {x m c t u : ℕ} {a : Point} {v : Want} → TypeOf Γ x c → MsigIn (s .program) c (record { name = m; param = t; result = u }) → Meets s u v
+      → Awaits s Γ (n-call x m a) t v
 
 -- `FramesOk s bs w fs v`: the frames turn a value that fits v into an answer that fits w. Γ ⊢ E[v] : t, one frame at a time: "frames are typed up to the
 -- start's type or below at the root and to any type at an async".
 pub data FramesOk (s : Code) (bs : List Binding) (w : Want) : List Frame → Want → Type 0 where
   no-frames : FramesOk s bs w [] w
-  -- a write, call or let; then BD-CHECK-SUB
-  a-node : {n : Point} {e t u : ℕ} {fs : List Frame} {v : Want} → n < s .size → e ≤ length bs → Awaits s (context bs e) (s .view n) t u → Meets s u v
+  -- a write, call or let
+  a-node : {n : Point} {e t : ℕ} {fs : List Frame} {v : Want} → n < s .size → e ≤ length bs → Awaits s (context bs e) (s .view n) t v
       → FramesOk s bs w fs v → FramesOk s bs w (awaits n e ∷ fs) (upto t)
   -- BD-INFER-CAST, less Γ ⊢ e ⇐ t; then BD-CHECK-SUB
   a-cast : {n a : Point} {t : ℕ} {fs : List Frame} {v : Want} → n < s .size → s .view n ≡ n-cast t a → Meets s t v

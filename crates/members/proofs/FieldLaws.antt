@@ -1,5 +1,5 @@
 -- The numbers of fields, and what the code of their look-up answers: a law for each return, with the callees' results as variables.
-use mathlib.Core.Path.{_≡_, refl, ap}
+use mathlib.Core.Path.{_≡_, refl}
 use mathlib.Core.Bool.{Bool, true, false, cond, not}
 use mathlib.Core.List.{List, [], _∷_}
 use mathlib.Core.Option.{Option, none, some, Option·map}
@@ -10,19 +10,19 @@ use lib.ListN.{length}
 use Rattle.limits.specs.Limits.{CLASS-FIELDS}
 use Rattle.script.specs.declared.Found.{Found}
 use Rattle.script.specs.declared.Found.the-variants.{At, Nothing}
-use Rattle.script.specs.declared.Section.the-variants.{Classes as classes, Fields as fields}
+use Rattle.script.specs.declared.Section.the-variants.{Fields as fields}
 use Rattle.script.specs.Lists.{run, sumBelow}
 use Rattle.script.specs.Section.{recordWord}
 use Rattle.script.specs.Syntax.{Slot, Declaration, a-unit, an-interface, a-class, no-type, declarationAt}
 use Rattle.script.specs.Reading.{ownFields, fieldAt, classAt, programOf}
 use Rattle.script.specs.Asking.{firstOut}
 use Rattle.script.specs.Statements.{WithinLayout}
-use Rattle.sections.specs.Laid.{foundOf}
+use Rattle.sections.specs.Laid.{foundOf, otherName}
 use Rattle.script.proofs.Lists.{length-run}
 use Rattle.script.proofs.Declarations.{class-from}
 use Rattle.members.specs.declared.Declared.{Declared}
 use Rattle.members.specs.declared.Declared.the-variants.{Interface as is-interface, Class as is-class, Neither as is-neither}
-use Rattle.members.specs.Lookup.{Memberless, DeclaredAs, otherName, ownNamed}
+use Rattle.members.specs.Lookup.{Memberless, DeclaredAs, ownNamed}
 use Rattle.members.proofs.SubtypeLaws.{type-interface, type-class, type-neither}
 use Rattle.members.proofs.LookupLaws.{found-at, found-nothing}
 use Rattle.typing.specs.Members.{fieldsFrom, fieldsOf}
@@ -51,7 +51,7 @@ module _ {s : List ℕ} (w : WithinLayout s) (t : ℕ) where
       go : (x : Declaration) → declarationAt (programOf s) t ≡ x → length (fieldsFrom x) ≤ CLASS-FIELDS
       go a-unit e = omega arith
       go (an-interface i) e = omega arith
-      go (a-class c) e = let x = class-from s t c e in rw (x .3) (class-few s (x .0) (w .names-are classes (x .0) (x .1)))
+      go (a-class c) e = let x = class-from s t c e in rw (x .3) (class-few s (x .0) (w .names-are .1 .0 (x .0) (x .1)))
       go no-type e = omega arith
 
   -- So a place that is found is below 8.

@@ -10,25 +10,24 @@ use native.Mathlib.Nat.{eq-or-lt-of-le, le-of-suc-le-suc}
 use lib.Dec.{eqb}
 use lib.ListN.{length, getD, set}
 use lib.Seq.{getD-set-same, getD-set-other}
-use borrow.Author.Tests.{eq-eqb, ne-eqb}
 use Rattle.limits.specs.Limits.{INTERFACES, CLASSES, NODES}
 use Rattle.script.specs.declared.Found.{Found}
 use Rattle.script.specs.declared.Found.the-variants.{At, Nothing}
 use Rattle.script.specs.declared.Section.{Section}
 use Rattle.script.specs.declared.Section.the-variants.{Interfaces as interfaces, Signatures as signatures, Classes as classes, Fields as fields, Methods as methods, Nodes as nodes}
 use Rattle.script.specs.Lists.{run, sumBelow, named}
-use Rattle.script.specs.Section.{sizeOf, countOf, recordWord}
+use Rattle.script.specs.Section.{countOf, recordWord}
 use Rattle.script.specs.Syntax.{Slot, Declaration, a-unit, an-interface, a-class, no-type, declarationAt}
 use Rattle.script.specs.Reading.{ownSignatures, ownFields, ownMethods, fieldAt, classAt, programOf}
 use Rattle.script.specs.Asking.{firstOut}
 use Rattle.script.specs.Statements.{WithinLayout}
-use Rattle.sections.specs.Laid.{Laid, ownerOf, ownOf, foundOf}
+use Rattle.sections.specs.Laid.{Laid, ownerOf, ownOf, foundOf, otherName}
 use Rattle.script.proofs.Lists.{sum-more}
 use Rattle.members.specs.declared.Declared.{Declared}
 use Rattle.members.specs.declared.Declared.the-variants.{Interface as is-interface, Class as is-class, Neither as is-neither}
 use Rattle.typing.specs.Members.{typeIn, fieldIn, fieldFrom}
 use Rattle.members.specs.Tables.{Starts}
-use Rattle.members.specs.Lookup.{RunsTo, Memberless, DeclaredAs, RunAt, otherName, ownNamed}
+use Rattle.members.specs.Lookup.{RunsTo, Memberless, DeclaredAs, RunAt, ownNamed}
 use Rattle.members.proofs.SubtypeLaws.{type-interface, type-class, type-neither}
 
 -- no section but these three has records of owners
@@ -113,30 +112,6 @@ starts-filled {s} w t₀ t₁ t₂ t₃ size a b c =
       fields = λ o h. let n = w .counts-are .within classes in c .kept (INTERFACES + o) (omega arith) ∙ b .starts o h;
       methods = c .starts;
     }
-
--- Every record has a first word.
-pub name-there : (k : Section) → 1 < sizeOf k
-name-there interfaces = omega arith
-name-there signatures = omega arith
-name-there classes = omega arith
-name-there fields = omega arith
-name-there methods = omega arith
-name-there nodes = omega arith
-
--- A search that has come to record i: what it is to answer, o, is what is to be found from there on.
-module _ (s : List ℕ) (k : Section) (x to i : ℕ) (o : Option ℕ) (rest : o ≡ firstOut (otherName s k x) i (to - i)) where
-  pub seek-end : to ≤ i → Nothing ≡ foundOf o
-  unfolding firstOut
-  seek-end h = let e : to - i ≡ 0 = omega arith in rw (rest, e)
-
-  module _ (name : ℕ) (h : i < to) (e : name ≡ recordWord s k i 0) where
-    pub seek-hit : name ≡ x → At i ≡ foundOf o
-    unfolding firstOut
-    seek-hit q = let z : to - i ≡ suc (to - suc i) = omega arith in rw (rest, z, eq-eqb _ x (sym e ∙ q))
-
-    pub seek-miss : (name ≡ x → ⊥) → o ≡ firstOut (otherName s k x) (i + 1) (to - (i + 1))
-    unfolding firstOut
-    seek-miss n = let z : to - i ≡ suc (to - (i + 1)) = omega arith in rw (rest, z, ne-eqb _ x (rw e at n))
 
 -- The run of an owner as the table says it.
 module _ {s : List ℕ} (w : WithinLayout s) {k : Section} {o : ℕ} {table : List ℕ} {at : ℕ} (r : RunAt s k o table at) (from count : ℕ)

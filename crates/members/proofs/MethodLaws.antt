@@ -13,7 +13,7 @@ use Rattle.script.specs.Syntax.{Point, Expr, Node, n-null, n-var, n-select, n-u
 use Rattle.script.specs.Reading.{viewAt, exprAt, ownMethods, methodAt, classAt, programOf}
 use Rattle.script.specs.Statements.{WithinLayout}
 use Rattle.sections.specs.Laid.{foundOf}
-use Rattle.script.proofs.Reading.{expr-at}
+use Rattle.script.proofs.Reading.{expr-at, in-order}
 use Rattle.members.specs.declared.Declared.{Declared}
 use Rattle.members.specs.declared.Declared.the-variants.{Interface as is-interface, Class as is-class, Neither as is-neither}
 use Rattle.members.specs.Lookup.{Memberless, DeclaredAs, ownNamed}
@@ -70,7 +70,7 @@ build-point n f (n-fork p q r) = refl
 build-point n f (n-lock x p) = refl
 
 pub expr-point : {s : List ℕ} → WithinLayout s → (n : Point) → n < countOf s nodes → pointOf (exprAt s n) ≡ n
-expr-point {s} w n l = ap pointOf (expr-at s n l (w .nodes-are nodes n l .in-order)) ∙ build-point n (exprAt s) (viewAt s n)
+expr-point {s} w n l = ap pointOf (expr-at s n l (in-order s w n l)) ∙ build-point n (exprAt s) (viewAt s n)
 
 -- The words of a method's record that a call needs: the type of the parameter, and the node of the body, which is there.
 module _ (s : List ℕ) (j : ℕ) where
@@ -80,7 +80,7 @@ module _ (s : List ℕ) (j : ℕ) where
 
   module _ (w : WithinLayout s) (l : j < countOf s methods) where
     pub body-there : recordWord s methods j 3 < countOf s nodes
-    body-there = w .nodes-are methods j l
+    body-there = w .nodes-are .0 j l
 
     pub body-word : recordWord s methods j 3 ≡ pointOf (methodAt s j .body)
     unfolding methodAt

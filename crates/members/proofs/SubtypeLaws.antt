@@ -41,10 +41,10 @@ join-parents (a-join form a b) e = (a, b)
 
 module _ {s : List ℕ} (w : WithinLayout s) (i form : ℕ) (l : i < countOf s interfaces) (f : form ≡ recordWord s interfaces i 0) (e : form ≡ 1) (a : ℕ) where
   pub left-earlier : a ≡ recordWord s interfaces i 1 → Earlier i a
-  left-earlier p = rw p (join-parents (w .interfaces-are interfaces i l) (sym f ∙ e) .0)
+  left-earlier p = rw p (join-parents (w .interfaces-are .0 i l) (sym f ∙ e) .0)
 
   pub right-earlier : a ≡ recordWord s interfaces i 2 → Earlier i a
-  right-earlier p = rw p (join-parents (w .interfaces-are interfaces i l) (sym f ∙ e) .1)
+  right-earlier p = rw p (join-parents (w .interfaces-are .0 i l) (sym f ∙ e) .1)
 
 -- a list of signatures is below itself, a join below itself and what its parents are below
 module _ (p : Program) (ok : Regular p) (u : ℕ) where
@@ -223,4 +223,4 @@ below-itself s t u e = rw (eq-eqb t u e)
 
 -- A class's interface is an interface.
 pub class-interface : {s : List ℕ} (w : WithinLayout s) (c i : ℕ) → c < countOf s classes → i ≡ recordWord s classes c 0 → InterfaceWord s i
-class-interface w c i h e = rw e (w .types-are classes c h)
+class-interface w c i h e = rw e (w .types-are .1 .0 c h)

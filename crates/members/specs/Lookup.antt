@@ -1,20 +1,20 @@
 -- What the code of look-ups is lent and finds: runs of records, marks, meanings of a method name, and records at fault.
 use Prim.Native.Nat.{ℕ, suc, _+_, _<_, _≤_}
 use mathlib.Core.Path.{_≡_}
-use mathlib.Core.Bool.{Bool, true, false, cond, not}
+use mathlib.Core.Bool.{Bool, true, false, cond}
 use mathlib.Core.List.{List}
 use mathlib.Core.Option.{Option, none, some}
-use lib.Dec.{eqb, ltb}
+use lib.Dec.{ltb}
 use lib.ListN.{length, getD}
 use Rattle.limits.specs.Limits.{INTERFACES}
 use Rattle.script.specs.declared.Section.{Section}
 use Rattle.script.specs.declared.Section.the-variants.{Interfaces as interfaces, Signatures as signatures, Classes as classes}
 use Rattle.script.specs.Lists.{sumBelow}
-use Rattle.script.specs.Section.{countOf, recordAt, recordWord}
+use Rattle.script.specs.Section.{countOf, recordAt}
 use Rattle.script.specs.Syntax.{Interface, lists, extends, Program, Declaration, a-unit, an-interface, a-class, no-type, declarationAt}
 use Rattle.script.specs.Reading.{signatureAt, interfaceAt, programOf}
 use Rattle.script.specs.Asking.{firstOut}
-use Rattle.sections.specs.Laid.{ownerOf, ownOf}
+use Rattle.sections.specs.Laid.{ownerOf, ownOf, otherName}
 use Rattle.members.specs.declared.Declared.{Declared}
 use Rattle.members.specs.declared.Declared.the-variants.{Interface as is-interface, Class as is-class, Neither as is-neither}
 use Rattle.typing.specs.Members.{reach, meaning}
@@ -48,10 +48,6 @@ pub record RunAt (s : List ℕ) (k : Section) (o : ℕ) (table : List ℕ) (at :
   pub owner : o < countOf s (ownerOf k)
   pub within : at < length table
   pub start : getD table at 0 ≡ sumBelow (ownOf s k) o
-
--- Has record i of section k another name than x?
-abbrev pub otherName : List ℕ → Section → ℕ → ℕ → Bool
-otherName s k x i = not (eqb (recordWord s k i 0) x)
 
 -- The first record of owner o's run in section k that has the name x.
 abbrev pub ownNamed : List ℕ → Section → ℕ → ℕ → Option ℕ

@@ -5,6 +5,7 @@ use crate::subtyping::declared_as;
 use limits::Limits;
 use script::Found;
 use script::Section;
+use sections::find_name;
 use sections::own_count;
 use sections::record_word;
 ghost use mathlib.Core.Path.{_≡_};
@@ -14,29 +15,12 @@ ghost use Rattle.limits.specs.Limits.{INTERFACES};
 ghost use Rattle.script.specs.declared.Section.the-variants.{Interfaces};
 ghost use Rattle.script.specs.Section.{sizeOf, countOf, recordWord};
 ghost use Rattle.script.specs.Reading.{programOf};
-ghost use Rattle.script.specs.Asking.{firstOut};
 ghost use Rattle.script.specs.Statements.{WithinLayout};
 ghost use Rattle.sections.specs.Laid.{Laid, foundOf};
 ghost use Rattle.members.specs.declared.Member.the-variants.{Types};
 ghost use Rattle.typing.specs.Members.{methodIn, fieldIn};
 ghost use Rattle.members.specs.Tables.{Starts, memberOf};
-ghost use Rattle.members.specs.Lookup.{RunAt, otherName, ownNamed, MeaningIs, Meanings};
-
-// The first of the records of section k from `from` up to `to` that has the name x.
-fn find_name(s: &[u8], k: Section, from: usize, to: usize, x: u16) -> Found
-    requires { ⌜ Laid (now s) × (to ≤ countOf (now s) k) ⌝ }
-    ensures { λ r. ⌜ r ≡ foundOf (firstOut (otherName (now (s .entry)) k x) from (to - from)) ⌝ }
-{
-    let mut i = from;
-    while i < to {
-        let name = record_word(s, k, i, 0);
-        if name == x {
-            return Found::At(i);
-        }
-        i += 1;
-    }
-    Found::Nothing
-}
+ghost use Rattle.members.specs.Lookup.{RunAt, ownNamed, MeaningIs, Meanings};
 
 // The first record of owner o's run in section k that has the name x. Entry `at` of the table says where the run begins.
 pub fn find_own(s: &[u8], starts: &[u16], k: Section, o: usize, at: usize, x: u16) -> Found

@@ -1,23 +1,22 @@
--- The values of an object by the numbers of their fields: a field read, a field stored, and the nulls of a new object.
+-- The values of an object by the numbers of their fields: a field read, a field stored, and the initial values of a new object.
 use mathlib.Core.Path.{_≡_, refl, ap}
 use mathlib.Core.Bool.{Bool, true, false, cond}
 use mathlib.Core.List.{List, [], _∷_}
 use mathlib.Core.Option.{Option, none, some, Option·map}
-use Prim.Native.Nat.{ℕ, suc, _-_}
+use Prim.Native.Nat.{ℕ, suc}
 use native.Mathlib.Omega.{arith}
 use lib.Dec.{eqb}
 use lib.ListN.{length, getD, set, replicate}
-use Rattle.script.specs.declared.Found.the-variants.{At}
-use Rattle.script.specs.Syntax.{Slot}
+use Rattle.script.specs.Syntax.{Slot, Program}
 use Rattle.machine.specs.declared.Value.{Value}
 use Rattle.machine.specs.declared.Value.the-variants.{Null as nil}
-use Rattle.machine.specs.Machine.{fieldValue, setField, nulls}
+use Rattle.machine.specs.Machine.{fieldValue, setField, initials}
 use Rattle.members.specs.Defined.{fieldNumber}
 
 -- A new object has null in every field.
-pub nulls-are : (ds : List Slot) → nulls ds ≡ replicate (length ds) nil
-nulls-are [] = refl
-nulls-are (d ∷ ds) = ap (_∷_ nil) (nulls-are ds)
+pub initials-are : (p : Program) (ds : List Slot) → initials p ds ≡ replicate (length ds) nil
+initials-are p [] = refl
+initials-are p (d ∷ ds) = ap (_∷_ nil) (initials-are p ds)
 
 -- F(f): what stands at the number of f, if it has one.
 value-numbered : (ds : List Slot) (l : List Value) (f : ℕ) → length l ≡ length ds → fieldValue ds l f ≡ Option·map (λ k. getD l k nil) (fieldNumber ds f)

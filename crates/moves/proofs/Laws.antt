@@ -7,44 +7,43 @@ use Prim.Native.Nat.{ℕ, suc, _+_, _-_, _<_, _≤_}
 use native.Mathlib.Omega.{arith}
 use lib.ListN.{length, length-append, replicate}
 use Rattle.words.specs.Word.{bytes}
-use Rattle.limits.specs.Limits.{OBJECTS, FRAMES, THREADS}
+use Rattle.limits.specs.Limits.{OBJECTS}
 use Rattle.machine.specs.declared.Value.{Value}
 use Rattle.machine.specs.declared.Value.the-variants.{Null as nil, Ref as ref}
 use Rattle.machine.specs.declared.Frame.{Frame}
-use Rattle.machine.specs.declared.Store.the-variants.{Objects as objects, Frames as frames, Threads as threads}
 use Rattle.machine.specs.Config as machine
 use Rattle.machine.specs.Config.{Code, Object, Binding, Stores, running, returning, failed, join}
-use Rattle.machine.specs.Machine.{nulls, scope, find, Outcome, still, full, moved, give, descend, make, spawn, Phase, finished, broken, busy, phase, fold, threadCount}
+use Rattle.machine.specs.Machine.{initials, scope, find, Outcome, still, full, moved, give, make, Phase, finished, broken, busy, phase, fold}
 use Rattle.typing.specs.Members.{fieldsOf}
-use Rattle.block.specs.declared.Area.the-variants.{Objects, Frames}
+use Rattle.block.specs.declared.Area.the-variants.{Objects}
 use Rattle.block.specs.Layout.{counted}
 use Rattle.block.specs.Block.{preorder, framesOf, Parts, laid}
 use Rattle.representation.specs.Changed.{withObjects}
 use Rattle.tree.specs.declared.Tree.{Tree}
 use Rattle.tree.specs.declared.Fold.{Fold}
-use Rattle.tree.specs.declared.Fold.the-variants.{Still as stays, GoesOn as goes-on, Fails as fails}
+use Rattle.tree.specs.declared.Fold.the-variants.{GoesOn as goes-on}
 use Rattle.tree.specs.Parts.{Stands}
 use Rattle.tree.specs.Phases.{outcomeOf, FoldAt}
 use Rattle.environments.specs.declared.Lookup.{Lookup}
 use Rattle.environments.specs.declared.Lookup.the-variants.{Unbound, Bound}
 use Rattle.environments.specs.Chains.{bindingsIn, lookupOf}
-use Rattle.moves.proofs.FieldValues.{nulls-are}
+use Rattle.moves.proofs.FieldValues.{initials-are}
 use Rattle.environments.proofs.LaidLaws.{bindings-read}
-use Rattle.state.specs.Hand.{partsIn, Else, Seen, Sight}
+use Rattle.state.specs.Represents.{partsIn, Rest, StateAt, SomeState}
 use Rattle.state.proofs.Seeing.{lying, objects-counted, seen-inside}
 use Rattle.state.proofs.Moves.{seen-objects}
-use Rattle.moves.specs.declared.Effect.the-variants.{Still, Moved, Full}
-use Rattle.moves.specs.Came.{Came, came-still, came-full, came-moved}
+use Rattle.moves.specs.declared.Step.{Step}
+use Rattle.moves.specs.Performs.{Performs}
 
 -- the environment in the block is that of the stores
-pub scope-read : {b : List ℕ} {self : Tree} {i : ℕ} {x : Else} {st : Stores} {u : machine.Tree} → Seen b self i x st u → bindingsIn b ≡ st .bindings
+pub scope-read : {b : List ℕ} {self : Tree} {i : ℕ} {x : Rest} {st : Stores} {u : machine.Tree} → StateAt b self i x st u → bindingsIn b ≡ st .bindings
 scope-read {x = x} {st = st} {u = u} s = bindings-read (partsIn st (x .positions) (x .outer ++ (framesOf u ++ x .later))) (s .block) (s .few) (st .bindings) refl
 
 -- something is seen, so a part stands there
-pub stands : {b : List ℕ} {self : Tree} {i : ℕ} → Sight b self i → Stands self i
+pub stands : {b : List ℕ} {self : Tree} {i : ℕ} → SomeState b self i → Stands self i
 stands s = record { before = s .rest .before; part = s .part; after = s .rest .after; there = s .seen .there }
 
-pub inside : {b : List ℕ} {self : Tree} {i : ℕ} → Sight b self i → i < self .len
+pub inside : {b : List ℕ} {self : Tree} {i : ℕ} → SomeState b self i → i < self .len
 inside s = seen-inside (s .seen)
 
 busy-not : busy ≡ finished → ⊥
@@ -84,7 +83,7 @@ bound none found v e h = absurd (unbound-not (sym e ∙ h))
 bound (some y) found v e h = record { binding = y; there = refl; is = bound-same (sym e ∙ h) }
 
 -- the look-up in the block is that in the stores
-pub looked : {b : List ℕ} {self : Tree} {i : ℕ} {x : Else} {st : Stores} {u : machine.Tree} (env n : ℕ) (found : Lookup) → Seen b self i x st u
+pub looked : {b : List ℕ} {self : Tree} {i : ℕ} {x : Rest} {st : Stores} {u : machine.Tree} (env n : ℕ) (found : Lookup) → StateAt b self i x st u
     → found ≡ lookupOf (find (scope (bindingsIn b) env) n) → found ≡ lookupOf (find (scope (st .bindings) env) n)
 looked env n found s e = e ∙ ap (λ (bs : List Binding). lookupOf (find (scope bs env) n)) (scope-read s)
 
@@ -116,74 +115,54 @@ both-finished st fs a e busy finished h = let z : _≡_ {A = ℕ} 0 2 = ap outco
 both-finished st fs a e busy broken h = let z : _≡_ {A = ℕ} 4 2 = ap outcomeNumber h in absurd (omega arith)
 both-finished st fs a e busy busy h = let z : _≡_ {A = ℕ} 0 2 = ap outcomeNumber h in absurd (omega arith)
 
-module _ {b : List ℕ} {self : Tree} {i : ℕ} {x : Else} (st : Stores) where
-  -- a variable's value
-  pub gives-not : {u : machine.Tree} (fs : List Frame) (env n : ℕ) (found : Lookup) → Seen b self i x st u → found ≡ lookupOf (find (scope (bindingsIn b) env) n) → found ≡ Unbound
-      → Came b self i x (give st fs (find (scope (st .bindings) env) n)) b (record { effect = Still; tree = self })
-  gives-not fs env n found s e h = rw (not-bound (find (scope (st .bindings) env) n) found (looked env n found s e) h) came-still
+-- a move comes to what its outcome is
+pub performs-as : {b after : List ℕ} {self : Tree} {i : ℕ} {x : Rest} {r : Step} {o q : Outcome} → o ≡ q → Performs b self i x q after r → Performs b self i x o after r
+performs-as e came = rw e came
 
-  pub gives : {u : machine.Tree} {r : Tree} (fs : List Frame) (env n : ℕ) (found : Lookup) (v : Value) → Seen b self i x st u → found ≡ lookupOf (find (scope (bindingsIn b) env) n) → found ≡ Bound v
-      → Seen b r i x st (returning v fs) → Came b self i x (give st fs (find (scope (st .bindings) env) n)) b (record { effect = Moved; tree = r })
-  gives fs env n found v s e h after =
-      let y = bound (find (scope (st .bindings) env) n) found v (looked env n found s e) h in
-      rw (y .there, y .is) (came-moved after)
+-- the places left in a store that has n records of at most `most`: none, or one at least
+pub no-room : {most n k : ℕ} → n ≡ k → most ≤ n → most - k ≡ 0
+no-room h l = omega arith
 
-  -- a frame left, or no place for one
-  pub leaves-not : (fs : List Frame) (e a n : ℕ) (f : Frame) → n ≡ counted b Frames → FRAMES ≤ n
-      → Came b self i x (descend st fs e f a (FRAMES - counted b Frames)) b (record { effect = Full frames; tree = self })
-  leaves-not fs e a n f h l = let z : FRAMES - counted b Frames ≡ 0 = omega arith in rw z came-full
+pub some-room : {most n k : ℕ} → n ≡ k → n < most → most - k ≡ suc (most - k - 1)
+some-room h l = omega arith
 
-  pub leaves : {after : List ℕ} {r : Tree} (fs : List Frame) (e a n : ℕ) (f : Frame) → n ≡ counted b Frames → n < FRAMES → Seen after r i x st (running a e (f ∷ fs))
-      → Came b self i x (descend st fs e f a (FRAMES - counted b Frames)) after (record { effect = Moved; tree = r })
-  leaves fs e a n f h l s = let z : FRAMES - counted b Frames ≡ suc (FRAMES - counted b Frames - 1) = omega arith in rw z (came-moved s)
+-- a variable's value
+module _ {b : List ℕ} {self : Tree} {i : ℕ} {x : Rest} {st : Stores} {u : machine.Tree} (fs : List Frame) (env n : ℕ) (found : Lookup) (s : StateAt b self i x st u)
+    (e : found ≡ lookupOf (find (scope (bindingsIn b) env) n)) where
+  pub gives-not : found ≡ Unbound → give st fs (find (scope (st .bindings) env) n) ≡ still
+  gives-not h = rw (not-bound (find (scope (st .bindings) env) n) found (looked env n found s e) h)
 
-  -- a new object, or no place for one
-  pub makes : {after : List ℕ} {r : Tree} (s : Code) (fs : List Frame) (c n : ℕ) → n ≡ counted b Objects → n < OBJECTS
-      → Seen after r i x (record { objects = st .objects ++ record { class = c; shut = false; fields = nulls (fieldsOf (s .program) c) } ∷ []; bindings = st .bindings }) (returning (ref n) fs)
-      → n ≡ length (st .objects) → Came b self i x (make s st fs c (OBJECTS - counted b Objects)) after (record { effect = Moved; tree = r })
-  makes s fs c n h l seen m = let z : OBJECTS - counted b Objects ≡ suc (OBJECTS - counted b Objects - 1) = omega arith in rw (z, ← m) (came-moved seen)
+  pub gives : (v : Value) → found ≡ Bound v → give st fs (find (scope (st .bindings) env) n) ≡ moved st (returning v fs)
+  gives v h = let y = bound (find (scope (st .bindings) env) n) found v (looked env n found s e) h in rw (y .there, y .is)
 
-  pub makes-not : (s : Code) (fs : List Frame) (c n : ℕ) → n ≡ counted b Objects → OBJECTS ≤ n
-      → Came b self i x (make s st fs c (OBJECTS - counted b Objects)) b (record { effect = Full objects; tree = self })
-  makes-not s fs c n h l = let z : OBJECTS - counted b Objects ≡ 0 = omega arith in rw z came-full
+-- a new object
+pub makes : (st : Stores) (fs : List Frame) (s : Code) (c n k : ℕ) → n ≡ k → n < OBJECTS → n ≡ length (st .objects)
+    → make s st fs c (OBJECTS - k)
+    ≡ moved (record { objects = st .objects ++ record { class = c; shut = false; fields = initials (s .program) (fieldsOf (s .program) c) } ∷ []; bindings = st .bindings }) (returning (ref n) fs)
+makes st fs s c n k h l m = rw (some-room h l, ← m)
 
-  -- a fork, or no place for a thread
-  pub forks-not : (t : machine.Tree) (fs : List Frame) (e a d k : ℕ) → THREADS ≤ threadCount t
-      → Came b self i x (spawn st fs e a d k (THREADS - threadCount t)) b (record { effect = Full threads; tree = self })
-  forks-not t fs e a d k l = let z : THREADS - threadCount t ≡ 0 = omega arith in rw z came-full
+-- a join, by how its sides stand
+module _ {b : List ℕ} {self : Tree} {i : ℕ} {x : Rest} {st : Stores} {fs : List Frame} {a e : ℕ} {l r : machine.Tree} {how k : Fold} (at : FoldAt self i how) (told : how ≡ k)
+    (s : StateAt b self i x st (join fs a e l r)) where
+  pub folds : fold st fs a e (phase l) (phase r) ≡ outcomeOf k st fs a e
+  folds = at .joins (s .there) st ∙ ap (λ (f : Fold). outcomeOf f st fs a e) told
 
-  pub forks : {r : Tree} (t : machine.Tree) (fs : List Frame) (e a d k : ℕ) → threadCount t < THREADS
-      → Seen b r i x st (join fs k e (running a e []) (running d e [])) → Came b self i x (spawn st fs e a d k (THREADS - threadCount t)) b (record { effect = Moved; tree = r })
-  forks t fs e a d k l s = let z : THREADS - threadCount t ≡ suc (THREADS - threadCount t - 1) = omega arith in rw z (came-moved s)
-
-  -- a join
-  pub stays-joined : (fs : List Frame) (a e : ℕ) (left right : machine.Tree) (how : Fold) → FoldAt self i how → how ≡ stays → Seen b self i x st (join fs a e left right)
-      → Came b self i x (fold st fs a e (phase left) (phase right)) b (record { effect = Still; tree = self })
-  stays-joined fs a e left right how at k s = rw (at .joins (s .there) st, k) came-still
-
-  pub goes : {r : Tree} (fs : List Frame) (a e : ℕ) (left right : machine.Tree) (how : Fold) → FoldAt self i how → how ≡ goes-on → Seen b self i x st (join fs a e left right)
-      → (framesOf left ≡ [] → framesOf right ≡ [] → Seen b r i x st (running a e fs))
-      → Came b self i x (fold st fs a e (phase left) (phase right)) b (record { effect = Moved; tree = r })
-  goes fs a e left right how at k s on =
-      let h = at .joins (s .there) st ∙ ap (λ (f : Fold). outcomeOf f st fs a e) k in
-      let f = both-finished st fs a e (phase left) (phase right) h in
-      rw h (came-moved (on (finished-empty left (f .0)) (finished-empty right (f .1))))
-
-  pub breaks : {after : List ℕ} {r : Tree} (fs : List Frame) (a e : ℕ) (left right : machine.Tree) (how : Fold) → FoldAt self i how → how ≡ fails → Seen b self i x st (join fs a e left right)
-      → Seen after r i x st failed → Came b self i x (fold st fs a e (phase left) (phase right)) after (record { effect = Moved; tree = r })
-  breaks fs a e left right how at k s after = rw (at .joins (s .there) st, k) (came-moved after)
+  pub sides-empty : k ≡ goes-on → (framesOf l ≡ []) × (framesOf r ≡ [])
+  sides-empty g =
+      let f = both-finished st fs a e (phase l) (phase r) (folds ∙ ap (λ (f : Fold). outcomeOf f st fs a e) g) in
+      (finished-empty l (f .0), finished-empty r (f .1))
 
 -- one object more, as `new` makes it
 pub objects-more :
-    {b after : List ℕ} {self : Tree} {i : ℕ} {x : Else} {st : Stores} {u : machine.Tree} (s : Code) (c n : ℕ)
-    → Seen b self i x st u
+    {b after : List ℕ} {self : Tree} {i : ℕ} {x : Rest} {st : Stores} {u : machine.Tree} (s : Code) (c n : ℕ)
+    → StateAt b self i x st u
     → n ≡ counted b Objects
     → n < OBJECTS
     → ((p : Parts) (m : ℕ) → b ≡ bytes (laid p) → after ≡ bytes (laid (withObjects p (p .objects ++ record { class = c; shut = false; fields = replicate m nil } ∷ []))))
-    → Seen after self i x (record { objects = st .objects ++ record { class = c; shut = false; fields = nulls (fieldsOf (s .program) c) } ∷ []; bindings = st .bindings }) u
+    → StateAt after self i x (record { objects = st .objects ++ record { class = c; shut = false; fields = initials (s .program) (fieldsOf (s .program) c) } ∷ []; bindings = st .bindings }) u
 objects-more {x = x} {st = st} {u = u} s c n seen h l made =
     let ds = fieldsOf (s .program) c in
-    let y : Object = record { class = c; shut = false; fields = nulls ds } in
+    let y : Object = record { class = c; shut = false; fields = initials (s .program) ds } in
     seen-objects seen (st .objects ++ y ∷ [])
     (omega (arith, length-append (st .objects) (y ∷ []), objects-counted seen))
-    (rw (nulls-are ds) (made (lying x st (framesOf u)) (length ds) (seen .block)))
+    (rw (initials-are (s .program) ds) (made (lying x st (framesOf u)) (length ds) (seen .block)))

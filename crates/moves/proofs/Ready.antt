@@ -1,18 +1,17 @@
 -- What a well-formed configuration gives the moves' contracts, where it is seen in a block.
-use mathlib.Core.Path.{_≡_, ap}
+use mathlib.Core.Path.{_≡_}
 use mathlib.Core.List.{List, List·Memᴰ·not-nil}
 use Prim.Native.Nat.{ℕ, zero, suc, _<_, _≤_}
 use native.Mathlib.Omega.{arith}
 use native.Mathlib.Decide.{decLt}
 use lib.ListN.{length}
-use Rattle.words.specs.Word.{WORD}
 use Rattle.script.specs.declared.Section.the-variants.{Interfaces as interfaces, Classes as classes, Nodes as nodes}
 use Rattle.script.specs.Section.{countOf}
 use Rattle.script.specs.Lists.{named}
 use Rattle.script.specs.Syntax.{n-bind}
 use Rattle.script.specs.Reading.{viewAt, programOf}
 use Rattle.script.specs.Statements.{WithinLayout}
-use Rattle.script.proofs.Reading.{first}
+use Rattle.script.proofs.Reading.{first, in-order}
 use Rattle.script.proofs.Declarations.{length-interfaces, length-classes}
 use Rattle.typing.specs.Members.{typeIn}
 use Rattle.typing.specs.Published.{WfEnv, WF-ENV}
@@ -29,13 +28,13 @@ use Rattle.machine.specs.WellFormed.{ValueFits, fits-nil, fits-ref, BindingOk, 
 use Rattle.machine.proofs.Stores.{object-below, fields-long}
 use Rattle.machine.proofs.Decide.{context-wf}
 use Rattle.block.specs.declared.Area.the-variants.{Objects, Bindings}
-use Rattle.block.specs.Block.{valueWord}
+use Rattle.block.specs.Values.{Storable}
 use Rattle.tree.specs.declared.Tree.{Tree}
 use Rattle.environments.specs.Chains.{bindingCount, bindingAt, newest, bindingsIn, Chain, Typed, Zeros}
 use Rattle.environments.proofs.ChainLaws.{length-newest}
-use Rattle.state.specs.Hand.{Else, Seen}
+use Rattle.state.specs.Represents.{Rest, StateAt}
 use Rattle.state.proofs.Seeing.{seen-length, seen-few, objects-counted, bindings-counted}
-use Rattle.moves.specs.Came.{OwnFields}
+use Rattle.moves.specs.Performs.{OwnFields}
 use Rattle.moves.proofs.Laws.{scope-read}
 
 -- the script's tables, with no variable bound
@@ -52,7 +51,7 @@ blank-tables w r f n z =
 
 -- the first part of a let is a node
 pub let-part : {s : List ℕ} (n x a b : ℕ) → WithinLayout s → n < countOf s nodes → viewAt s n ≡ n-bind x a b → a < countOf s nodes
-let-part n x a b w l e = w .nodes-are nodes n l .in-order a (rw e first) .there
+let-part {s} n x a b w l e = in-order s w n l a (rw e first) .there
 
 -- an object has a value for each field of its class
 pub own-fields : {s : Code} {st : Stores} → StoresOk s st → OwnFields s (st .objects)
@@ -67,10 +66,10 @@ newest-ok f (suc n) i h (a-binding k ok) =
       | no l ↦ let e : i ≡ n = omega arith in rw e (rw (length-newest f n) at k)
     ]
 
-module _ {b : List ℕ} {self : Tree} {i : ℕ} {x : Else} {st : Stores} {u : machine.Tree} (seen : Seen b self i x st u) where
+module _ {b : List ℕ} {self : Tree} {i : ℕ} {x : Rest} {st : Stores} {u : machine.Tree} (seen : StateAt b self i x st u) where
   -- a value of the stores is a word
-  pub value-word : {s : Code} {v : Value} {w : Want} → ValueFits s (st .objects) v w → valueWord v < WORD
-  value-word fits-nil = omega arith
+  pub value-word : {s : Code} {v : Value} {w : Want} → ValueFits s (st .objects) v w → Storable v
+  value-word (fits-nil m) = omega arith
   value-word (fits-ref {o = o} {x = y} h m) = omega (arith, object-below (st .objects) o y h, objects-counted seen, seen-few seen Objects)
 
   module _ {s : List ℕ} (w : WithinLayout s) (ok : BindingsOk (codeOf s) (st .objects) (st .bindings)) where

@@ -1,6 +1,9 @@
 // Moves that leave a frame, and those of forks and joins.
-use crate::Effect;
 use crate::Step;
+use crate::fails;
+use crate::full;
+use crate::moved;
+use crate::stays;
 use block::Area;
 use limits::Limits;
 use machine::Frame;
@@ -17,83 +20,54 @@ ghost use Rattle.machine.specs.Machine.{threadCount, descend, spawn, phase, fol
 ghost use Rattle.block.specs.declared.Area.the-variants.{Frames};
 ghost use Rattle.block.specs.Layout.{counted};
 ghost use Rattle.tree.specs.Entries.{Tidy, Is};
-ghost use Rattle.state.specs.Hand.{Else, Seen, Sight};
-ghost use Rattle.moves.specs.Came.{Came};
+ghost use Rattle.state.specs.Represents.{Rest, StateAt, SomeState};
+ghost use Rattle.moves.specs.Performs.{Performs};
 
 // "kinds 3, 4, 5 and 7 descend into their first-run part and leave a frame"
 pub fn leave_frame(block: &mut [u8], tree: Tree, i: usize, f: Frame, a: u16, env: u16) -> Step
-    requires { ⌜ Sight (now block) tree i ⌝ }
+    requires { ⌜ SomeState (now block) tree i ⌝ }
     ensures { λ r. ⌜
-        ((x : Else) (st : Stores) (a₀ : ℕ) (fs : List Frame) →
-        Seen (now (block .entry)) tree i x st (running a₀ env fs) →
-        Came (now (block .entry)) tree i x (descend st fs env f a (FRAMES - counted (now (block .entry)) Frames)) (now (block .exit)) r)
+        ((x : Rest) (st : Stores) (a₀ : ℕ) (fs : List Frame) →
+        StateAt (now (block .entry)) tree i x st (running a₀ env fs) →
+        Performs (now (block .entry)) tree i x (descend st fs env f a (FRAMES - counted (now (block .entry)) Frames)) (now (block .exit)) r)
         ⌝ }
 {
     if Limits::FRAMES <= areas::count(block, Area::Frames) {
-        return Step {
-            effect: Effect::Full(Store::Frames),
-            tree: tree,
-        };
+        return full(tree, Store::Frames);
     }
-    let after = state::push(block, tree, i, f, a, env);
-    Step {
-        effect: Effect::Moved,
-        tree: after,
-    }
+    moved(state::push(block, tree, i, f, a, env))
 }
 
 // "A fork becomes a join that keeps its frames, its last part and the bindings for it, which both asyncs also start with"
 pub fn become_join(tree: Tree, i: usize, env: u16, a: u16, b: u16, c: u16) -> Step
     requires { ⌜ Tidy tree × (i < tree .len) ⌝ }
     ensures { λ r. ⌜
-        ((bytes : List ℕ) (t : machine.Tree) (x : Else) (st : Stores) (a₀ : ℕ) (fs : List Frame) →
+        ((bytes : List ℕ) (t : machine.Tree) (x : Rest) (st : Stores) (a₀ : ℕ) (fs : List Frame) →
         Is tree t →
-        Seen bytes tree i x st (running a₀ env fs) →
-        Came bytes tree i x (spawn st fs env a b c (THREADS - threadCount t)) bytes r)
+        StateAt bytes tree i x st (running a₀ env fs) →
+        Performs bytes tree i x (spawn st fs env a b c (THREADS - threadCount t)) bytes r)
         ⌝ }
 {
     if Limits::THREADS <= tree.thread_count() {
-        return Step {
-            effect: Effect::Full(Store::Threads),
-            tree: tree,
-        };
+        return full(tree, Store::Threads);
     }
-    let after = state::fork(tree, i, a, b, c, env);
-    Step {
-        effect: Effect::Moved,
-        tree: after,
-    }
+    moved(state::fork(tree, i, a, b, c, env))
 }
 
 // "A join with both sides finished goes on as the left thread, at the last part and with the frames kept; with a failed side it becomes failed and all beneath
 // is dropped."
 pub fn fold_join(block: &mut [u8], tree: Tree, i: usize) -> Step
-    requires { ⌜ Sight (now block) tree i ⌝ }
+    requires { ⌜ SomeState (now block) tree i ⌝ }
     ensures { λ r. ⌜
-        ((x : Else) (st : Stores) (fs : List Frame) (a e : ℕ) (left right : machine.Tree) →
-        Seen (now (block .entry)) tree i x st (join fs a e left right) →
-        Came (now (block .entry)) tree i x (fold st fs a e (phase left) (phase right)) (now (block .exit)) r)
+        ((x : Rest) (st : Stores) (fs : List Frame) (a e : ℕ) (left right : machine.Tree) →
+        StateAt (now (block .entry)) tree i x st (join fs a e left right) →
+        Performs (now (block .entry)) tree i x (fold st fs a e (phase left) (phase right)) (now (block .exit)) r)
         ⌝ }
 {
     let how = tree.fold(i);
     match how {
-        Fold::Still => Step {
-            effect: Effect::Still,
-            tree: tree,
-        },
-        Fold::GoesOn => {
-            let after = state::rejoin(tree, i);
-            Step {
-                effect: Effect::Moved,
-                tree: after,
-            }
-        }
-        Fold::Fails => {
-            let after = state::fail(block, tree, i);
-            Step {
-                effect: Effect::Moved,
-                tree: after,
-            }
-        }
+        Fold::Still => stays(tree),
+        Fold::GoesOn => moved(state::rejoin(tree, i)),
+        Fold::Fails => fails(block, tree, i),
     }
 }

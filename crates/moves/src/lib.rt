@@ -2,6 +2,8 @@
 mod control;
 mod fields;
 mod locking;
+mod steps;
+mod targets;
 mod values;
 
 pub use control::become_join;
@@ -9,7 +11,13 @@ pub use control::fold_join;
 pub use control::leave_frame;
 pub use fields::read_field;
 pub use locking::enter_lock;
+pub use locking::lock_access;
 use machine::Store;
+pub use steps::fails;
+pub use steps::full;
+pub use steps::moved;
+pub use steps::stays;
+pub use targets::target_of;
 use tree::Tree;
 pub use values::become_null;
 pub use values::give_value;
@@ -26,4 +34,19 @@ pub enum Effect {
 pub struct Step {
     pub effect: Effect,
     pub tree: Tree,
+}
+
+// What a thread finds at a lock: it cannot move, the target is null, or an object that is open or that it holds.
+pub enum Access {
+    Stays,
+    Null,
+    Open(u16),
+    Held,
+}
+
+// The field or method `name` of what the variable `target` holds in an environment.
+pub struct Member {
+    pub env: u16,
+    pub target: u16,
+    pub name: u16,
 }

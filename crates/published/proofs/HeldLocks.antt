@@ -14,7 +14,7 @@ use Rattle.machine.specs.Config.{Code, Object, Binding, Tree, running, returnin
 use Rattle.machine.specs.Machine.{Path, here, left, right, lockFrames, oneIf, held}
 use Rattle.machine.specs.declared.Want.{Want}
 use Rattle.machine.specs.WellFormed.{failures, shutAt, WfConfig}
-use Rattle.machine.specs.Standing.{heldBy}
+use Rattle.machine.specs.Ends.{heldBy}
 use Rattle.published.specs.ReadAs.{read, reading}
 use Rattle.published.specs.HeldLocks.{SetAt, set-here, set-left, set-right, InSet, Locked, LocksOk}
 use Rattle.machine.proofs.Stores.{shutAt-le, shutAt-object}
@@ -23,19 +23,19 @@ use Rattle.machine.proofs.Positions.{held-bound, exclusive}
 use Rattle.machine.proofs.Locks.{in-held, held-in}
 
 -- the set of a thread is that of the lock frames by which it holds objects
-record Holds (L : List ℕ) (count : ℕ → ℕ) : Type 0 where
+record LocksBy (L : List ℕ) (count : ℕ → ℕ) : Type 0 where
   frames : List Frame
   set : L ≡ held frames
   counts : (o : ℕ) → count o ≡ lockFrames o frames
 
 module _ (s : Code) (bs : List Binding) where
-  holds : (above : List Frame) (t : Tree) {p : Path} {L : List ℕ} → SetAt (read s bs above t) p L → Holds L (λ o. heldBy o (lockFrames o above) t p)
-  holds above (running a e fs) set-here = record { frames = fs ++ above; set = refl; counts = λ o. sym (frames-append o fs above) }
-  holds above (returning v fs) set-here = record { frames = fs ++ above; set = refl; counts = λ o. sym (frames-append o fs above) }
-  holds above (join fs a e l r) (set-left {p = p} x) =
-      let h = holds (fs ++ above) l x in
+  set-frames : (above : List Frame) (t : Tree) {p : Path} {L : List ℕ} → SetAt (read s bs above t) p L → LocksBy L (λ o. heldBy o (lockFrames o above) t p)
+  set-frames above (running a e fs) set-here = record { frames = fs ++ above; set = refl; counts = λ o. sym (frames-append o fs above) }
+  set-frames above (returning v fs) set-here = record { frames = fs ++ above; set = refl; counts = λ o. sym (frames-append o fs above) }
+  set-frames above (join fs a e l r) (set-left {p = p} x) =
+      let h = set-frames (fs ++ above) l x in
       record { frames = h .frames; set = h .set; counts = λ o. ap (λ (n : ℕ). heldBy o n l p) (sym (frames-append o fs above)) ∙ h .counts o }
-  holds above (join fs a e l r) (set-right x) = holds [] r x
+  set-frames above (join fs a e l r) (set-right x) = set-frames [] r x
 
   -- a thread that holds an object has a set
   set-there : (above : List Frame) (o n : ℕ) (t : Tree) (p : Path) → 1 ≤ heldBy o n t p → (L : List ℕ) × SetAt (read s bs above t) p L
@@ -73,8 +73,8 @@ shut-locked (x ∷ xs) (suc o) h = let y = shut-locked xs o h in record { it = y
 pub held-exactly : (s : Code) (c : Config) (o : ℕ) (p : Path) → (1 ≤ heldBy o 0 (c .tree) p) ↔ InSet (reading s c .threads) p o
 held-exactly s c o p = (to, from)
   where
-    of : {L : List ℕ} → SetAt (reading s c .threads) p L → Holds L (λ o. heldBy o 0 (c .tree) p)
-    of x = holds s (c .stores .bindings) [] (c .tree) x
+    of : {L : List ℕ} → SetAt (reading s c .threads) p L → LocksBy L (λ o. heldBy o 0 (c .tree) p)
+    of x = set-frames s (c .stores .bindings) [] (c .tree) x
 
     to : 1 ≤ heldBy o 0 (c .tree) p → InSet (reading s c .threads) p o
     to h =
@@ -92,7 +92,7 @@ module _ {s : Code} {w : Want} {c : Config} (h : WfConfig s w c) where
       record {
         locked = λ p o x. shut-locked (c .stores .objects) o (omega (arith, held-exactly s c o p .1 x, held-bound o 0 (c .tree) p, h .distinct o));
         once = λ p L x.
-            let g = holds s (c .stores .bindings) [] (c .tree) x in
+            let g = set-frames s (c .stores .bindings) [] (c .tree) x in
             rw (g .set) (distinct-held (g .frames) (λ o. omega (arith, g .counts o, held-bound o 0 (c .tree) p, h .distinct o, shutAt-le (c .stores .objects) o)));
         apart = λ p q o x y. exclusive h o p q (held-exactly s c o p .1 x) (held-exactly s c o q .1 y);
       }

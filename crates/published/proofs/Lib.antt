@@ -1,4 +1,3 @@
-pub mod Held
 pub mod Names
 pub mod Unplug
 pub mod Steps

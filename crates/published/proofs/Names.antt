@@ -188,7 +188,7 @@ said-grow s g e a h = ap (λ (f : ℕ → PVar). close f (s .expr a)) (names-gro
 module _ {s : Code} {st su : Stores} (g : Grows st su) where
   pub plug-grow : {w v : Want} {fs : List Frame} → FramesOk s (st .bindings) w fs v → (a : PExpr) → plug s (su .bindings) fs a ≡ plug s (st .bindings) fs a
   plug-grow no-frames a = refl
-  plug-grow (a-node {n = n} {e = e} {fs = fs} i h p m r) a =
+  plug-grow (a-node {n = n} {e = e} {fs = fs} i h p r) a =
       plug-grow r _ ∙ ap (λ (f : ℕ → PVar). plug s (st .bindings) fs (fill (gap s f (s .view n)) a)) (names-grow g e h)
   plug-grow (a-cast i h m r) a = plug-grow r _
   plug-grow (a-lock r) a = plug-grow r _

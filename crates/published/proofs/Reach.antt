@@ -24,16 +24,17 @@ use Rattle.machine.specs.declared.Want.{Want}
 use Rattle.machine.specs.declared.Want.the-variants.{Any as any, Upto as upto}
 use Rattle.machine.specs.WellFormed.{meets-type, ValueFits, fits-nil, Gives, gives-type, NodeGives, StoresOk, a-let, a-write, a-call, FramesOk, a-node, a-cast, TreeOk, running-ok, returning-ok, join-ok, lockCount, shutAt}
 use Rattle.machine.specs.Accepted.{LaterPart, AcceptedCode}
-use Rattle.machine.specs.Standing.{Waits, waits}
+use Rattle.machine.specs.Ends.{Waits, waits}
 use Rattle.published.specs.Steps.{PVar, fresh, PExpr, p-value, p-lock, close, fill, PTree, p-thread, p-join, p-failed, World, entryValue, Reduce, DYN-EVAL-LOCK, DYN-EVAL-LOCK-REENTRANT, DYN-NPE-LOCK, Step, reduces, DYN-EVAL-CONTEXT, DYN-EVAL-SPAWN-CONTEXT, DYN-EXCEPTION-CONTEXT, DYN-EVAL-ASYNC-LEFT, DYN-EVAL-ASYNC-RIGHT, DYN-EVAL-ASYNC-JOIN, DYN-EXCEPTION-ASYNC-LEFT, DYN-EXCEPTION-ASYNC-RIGHT}
 use Rattle.published.specs.ReadAs.{names, hole, plug, world, said, read}
 use Rattle.machine.specs.Silent.{quiet, quietIn}
 use Rattle.published.specs.Reach.{site, Near, itself, left-side, right-side, in-left, in-right}
-use Rattle.machine.proofs.Types.{check-gives, let-type}
+use Rattle.machine.proofs.Types.{null-meets, check-gives, let-type}
 use Rattle.machine.proofs.Stores.{shutAt-object}
 use Rattle.machine.proofs.Grow.{Grows, grows-same}
 use Rattle.machine.proofs.Move.{Judged, no-move, a-move, run-good, resume-good}
-use Rattle.machine.proofs.Ends.{frames-append, fold-broken}
+use Rattle.machine.proofs.Trees.{fold-broken}
+use Rattle.machine.proofs.Ends.{frames-append}
 use Rattle.published.proofs.Names.{variable, read-grow}
 use Rattle.machine.proofs.Locks.{in-held}
 use Rattle.published.proofs.Steps.{thread-join, site-thread, Exact, published, give-step, make-step, spawn-step, lock-step, select-step, resume-step, last-grow}
@@ -109,12 +110,12 @@ no-lock o v z n (DYN-EVAL-LOCK {W = W} {o = q} {y = y} h k l m) =
 no-lock {L = L} o v z n (DYN-EVAL-LOCK-REENTRANT {o = q} h k l m) = let e : q ≡ o = cc in n (rw e at m)
 no-lock o v z n (DYN-NPE-LOCK h) = let e : _≡_ {A = ℕ} 0 1 = cc in omega arith
 
-waits-stuck : (s : Code) {st : Stores} {above fs : List Frame} {e o : ℕ} {n : Node} (i : Point) {X : World} {T : PTree} → Waits st above fs e o n
-    → Step (s .program) (world st) (p-thread (held (fs ++ above)) (plug s (st .bindings) fs (close (names (st .bindings) e) (build i (s .expr) n)))) X T → ⊥
-waits-stuck s {st} {above} {fs} {e} {o} i (waits {x = x} {a = a} {b = b} h k z q) p =
-    let n = variable (st .bindings) e x b h in
-    let j = unplug s (st .bindings) fs (p-lock (fresh (n .number)) (said s (st .bindings) e a)) (redex-active r-lock) (rw (n .name) at p) in
-    no-lock o (n .value ∙ ap some k) z (λ m. omega (arith, in-held o (fs ++ above) m, frames-append o fs above)) (only-reduce r-lock (j .step))
+waits-stuck : (s : Code) {st : Stores} {above fs : List Frame} {e o : ℕ} (i : Point) {X : World} {T : PTree} → Waits s st above o (running i e fs)
+    → Step (s .program) (world st) (p-thread (held (fs ++ above)) (plug s (st .bindings) fs (close (names (st .bindings) e) (build i (s .expr) (s .view i))))) X T → ⊥
+waits-stuck s {st} {above} {fs} {e} {o} i (waits {a = a} {x = x} v k z q) p =
+    let n = variable (st .bindings) e x (k .binding) (k .there) in
+    let j = unplug s (st .bindings) fs (p-lock (fresh (n .number)) (said s (st .bindings) e a)) (redex-active r-lock) (rw (v, n .name) at p) in
+    no-lock o (n .value ∙ ap some (k .value)) z (λ m. omega (arith, in-held o (fs ++ above) m, frames-append o fs above)) (only-reduce r-lock (j .step))
 
 node-expr : {s : Code} {start : ℕ} → AcceptedCode s start → (a : Point) → a < s .size → (n : Node) → s .view a ≡ n → s .expr a ≡ build a (s .expr) n
 node-expr {s} acc a y n i = acc .built a y ∙ ap (build a (s .expr)) i
@@ -142,7 +143,7 @@ module _ {s : Code} {start : ℕ} {st : Stores} (ok : StoresOk s st) (acc : Acce
         land lim st above (running a e fs) (held (fs ++ above)) fs (close (names (st .bindings) e) (build a (s .expr) n)) x (rw i c)
         (ap (λ (z : Expr). p-thread (held (fs ++ above)) (plug s (st .bindings) fs (close (names (st .bindings) e) z))) b)
         (runNode s (spare lim st (running a e fs)) st above fs e a n) (ap (runNode s (spare lim st (running a e fs)) st above fs e a) i)
-        (run-good ok acc (spare lim st (running a e fs)) above fs a v r e le n y i u g) z (λ q. waits-stuck s a (q .1) (rw b at h)) h
+        (run-good ok acc (spare lim st (running a e fs)) above fs a v r e le n y i u g) z (λ q. waits-stuck s a (q .1) (rw (acc .built a y) at h)) h
 
     -- a part is run first
     descend-reach : (k : ℕ) (b : Point) (f : Frame) (n : Node) → s .view a ≡ n → quiet n ≡ true → runNode s (spare lim st (running a e fs)) st above fs e a n ≡ descend st fs e f b (spare lim st (running a e fs) .frames)
@@ -173,22 +174,22 @@ module _ {s : Code} {start : ℕ} {st : Stores} (ok : StoresOk s st) (acc : Acce
         → Step (s .program) (world st) (read s (st .bindings) above (running a e fs)) X T → Reached s lim st above (running a e fs) X T (suc k) here
     node-reach k n-null i t g d rec h =
         let b = node-expr acc a y n-null i in
-        first-silent (ap (runNode s (spare lim st (running a e fs)) st above fs e a) i) (rw i) (at-most k (omega arith) (resume-reach fs nil v r fits-nil d (rw b at h)))
+        first-silent (ap (runNode s (spare lim st (running a e fs)) st above fs e a) i) (rw i) (at-most k (omega arith) (resume-reach fs nil v r (fits-nil (null-meets v)) d (rw b at h)))
     node-reach k (n-var x) i t (gives-type (BD-INFER-VAR z j) m) d rec h =
         at-most (suc k) (omega arith)
         (redex-reach (n-var x) i t (gives-type (BD-INFER-VAR z j) m) r-var refl (give-step ok acc (spare lim st (running a e fs)) above fs v r e a x _ (node-expr acc a y (n-var x) i) (type-in j)) h)
-    node-reach k (n-select x f) i t (gives-type (BD-INFER-SELECT (BD-INFER-VAR z j) p) m) d rec h =
+    node-reach k (n-select x f) i t (gives-type (BD-INFER-SELECT (BD-INFER-VAR z j) p o) m) d rec h =
         at-most (suc k) (omega arith)
-        (redex-reach (n-select x f) i t (gives-type (BD-INFER-SELECT (BD-INFER-VAR {n = a} z j) p) m) r-select refl (select-step ok acc (spare lim st (running a e fs)) above fs v r e a x f _ _ (node-expr acc a y (n-select x f) i) (type-in j) p) h)
-    node-reach k (n-update x f b) i t (gives-type (BD-INFER-UPDATE {t = u} (BD-INFER-VAR z j) q p) m) d rec h =
+        (redex-reach (n-select x f) i t (gives-type (BD-INFER-SELECT (BD-INFER-VAR {n = a} z j) p o) m) r-select refl (select-step ok acc (spare lim st (running a e fs)) above fs v r e a x f _ _ (node-expr acc a y (n-select x f) i) (type-in j) p) h)
+    node-reach k (n-update x f b) i t (gives-type (BD-INFER-UPDATE {t = u} (BD-INFER-VAR z j) q p o) m) d rec h =
         descend-reach k b (awaits a e) (n-update x f b) i refl refl (rw i) refl
-        (rec b (awaits a e) (upto u) (t b first) (a-node {t = u} y le (rw i (a-write (type-in j) p)) m r) (record { node = t b first .there; gives = check-gives q }) (λ o. refl)) h
-    node-reach k (n-call x c b) i t (gives-type (BD-INFER-CALL {t₂ = u} (BD-INFER-VAR z j) q p) m) d rec h =
+        (rec b (awaits a e) (upto u) (t b first) (a-node {t = u} y le (rw i (a-write j p m)) r) (record { node = t b first .there; gives = check-gives q }) (λ o. refl)) h
+    node-reach k (n-call x c b) i t (gives-type (BD-INFER-CALL {t₂ = u} (BD-INFER-VAR z j) q p o) m) d rec h =
         descend-reach k b (awaits a e) (n-call x c b) i refl refl (rw i) refl
-        (rec b (awaits a e) (upto u) (t b first) (a-node {t = u} y le (rw i (a-call (type-in j) p)) m r) (record { node = t b first .there; gives = check-gives q }) (λ o. refl)) h
-    node-reach k (n-bind x b c) i t (gives-type (BD-INFER-LET {t₁ = n} {t = u} p q) m) d rec h =
+        (rec b (awaits a e) (upto u) (t b first) (a-node {t = u} y le (rw i (a-call j p m)) r) (record { node = t b first .there; gives = check-gives q }) (λ o. refl)) h
+    node-reach k (n-bind x b c) i t (gives-type (BD-INFER-LET {t₁ = n} p q) m) d rec h =
         descend-reach k b (awaits a e) (n-bind x b c) i refl refl (rw i) refl
-        (rec b (awaits a e) (upto n) (t b first) (a-node {t = n} {u = u} y le (rw i (a-let p q)) m r) (record { node = t b first .there; gives = gives-type p (meets-type (T-SUB-EQ (let-type q))) }) (λ o. refl)) h
+        (rec b (awaits a e) (upto n) (t b first) (a-node {t = n} y le (rw i (a-let p q m)) r) (record { node = t b first .there; gives = gives-type p (meets-type (T-SUB-EQ (let-type q))) }) (λ o. refl)) h
     node-reach k (n-new c) i t g d rec h =
         at-most (suc k) (omega arith)
         (redex-reach (n-new c) i t g r-new refl (make-step ok acc (spare lim st (running a e fs)) above fs v r e a c (node-expr acc a y (n-new c) i) (spare lim st (running a e fs) .objects)) h)
@@ -198,9 +199,9 @@ module _ {s : Code} {start : ℕ} {st : Stores} (ok : StoresOk s st) (acc : Acce
     node-reach k (n-fork p q c) i t g d rec h =
         at-most (suc k) (omega arith)
         (redex-reach (n-fork p q c) i t g r-fork refl (spawn-step ok acc (spare lim st (running a e fs)) above fs v r e a p q c (node-expr acc a y (n-fork p q c) i) (spare lim st (running a e fs) .threads)) h)
-    node-reach k (n-lock x b) i t (gives-type (BD-INFER-LOCK (BD-INFER-VAR z j) p) m) d rec h =
+    node-reach k (n-lock x b) i t (gives-type (BD-INFER-LOCK (BD-INFER-VAR z j) o p) m) d rec h =
         at-most (suc k) (omega arith)
-        (redex-reach (n-lock x b) i t (gives-type (BD-INFER-LOCK (BD-INFER-VAR {n = a} z j) p) m) r-lock refl (lock-step ok acc (spare lim st (running a e fs)) above fs v r e a x _ b (node-expr acc a y (n-lock x b) i) (type-in j) d) h)
+        (redex-reach (n-lock x b) i t (gives-type (BD-INFER-LOCK (BD-INFER-VAR {n = a} z j) o p) m) r-lock refl (lock-step ok acc (spare lim st (running a e fs)) above fs v r e a x _ b (node-expr acc a y (n-lock x b) i) (type-in j) d) h)
 
   run-reach : {w : Want} (k : ℕ) (a : Point) (fs : List Frame) (e : ℕ) (v : Want) → s .size ≤ a + k → FramesOk s (st .bindings) w fs v → e ≤ length (st .bindings)
       → NodeGives s (context (st .bindings) e) a v → ((o : ℕ) → lockFrames o above + lockFrames o fs ≤ shutAt (st .objects) o)

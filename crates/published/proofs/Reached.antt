@@ -16,15 +16,15 @@ use Rattle.machine.specs.WellFormed.{WellFormed}
 use Rattle.machine.specs.Accepted.{AcceptedCode}
 use Rattle.published.specs.ReadAs.{Reading, reading, Steps}
 use Rattle.published.specs.Means.{Means, silently}
-use Rattle.machine.specs.Silent.{quietIn, samePlace}
-use Rattle.machine.specs.Runs.{look, Report, passed, made, report, stopped, Runs, moves, fills}
+use Rattle.machine.specs.Silent.{due, quietIn, samePlace}
+use Rattle.machine.specs.Runs.{look, Report, passed, made, report, stopped, Runs, makes, fills}
 use Rattle.published.specs.Reach.{visits, Quietly, no-choice, a-choice, site, Near, OneRun}
 use Rattle.machine.proofs.Trees.{preservation}
 use Rattle.machine.proofs.Positions.{positions, move-located}
 use Rattle.published.proofs.Steps.{moves-published}
 use Rattle.machine.proofs.Within.{within}
 use Rattle.machine.proofs.Run.{able-look, run-runs, runs-report}
-use Rattle.machine.proofs.Silent.{ahead, ahead-bound, on-node, move-nearer, others-ahead}
+use Rattle.machine.proofs.Silent.{due-told, on-node, move-counts, others-due}
 use Rattle.published.proofs.Reach.{Silently, at-once, after, Landed, Reached, reach}
 
 moved-still : {st : Stores} {t : Tree} → moved st t ≡ still → ⊥
@@ -120,23 +120,23 @@ module _ {s : Code} {start : ℕ} (acc : AcceptedCode s start) (lim : Places) wh
         small = λ j k. ⊎-elim (λ (e : j ≡ i .position). rw e (i .small)) (λ l. r .small j l) (List·Memᴰ·cases-cons k);
         formed = r .formed;
         unread = r .unread ∙ means-nothing (rw q at (moves-published acc lim p (h .formed) m));
-        runs = λ ms x k. moves (i .look) (i .choice ∙ m) (r .runs ms x k);
+        runs = λ ms x k. makes (i .look) (i .choice ∙ m) (r .runs ms x k);
       }
 
-  -- no thread is among the places more often than there are nodes ahead of it
-  visits-ahead : {c d : Config} {ns : List ℕ} {ps : List Path} → Quietly s lim c ns ps d → WellFormed s lim start c → (q : Path) → visits q ps ≤ ahead s (part (c .tree) q)
+  -- a thread is among the places as often as its count falls
+  visits-due : {c d : Config} {ns : List ℕ} {ps : List Path} → Quietly s lim c ns ps d → WellFormed s lim start c → (q : Path) → visits q ps + due s (part (d .tree) q) ≡ due s (part (c .tree) q)
   unfolding move
-  visits-ahead no-choice h q = omega arith
-  visits-ahead (a-choice {c = c} {st = st} {t = t} {p = p} {ps = ps} l k m r) h q =
+  visits-due no-choice h q = omega arith
+  visits-due (a-choice {c = c} {d = d} {st = st} {t = t} {p = p} {ps = ps} l k m r) h q =
       go (samePlace q p) refl
-      (visits-ahead r (record { formed = preservation acc lim (h .formed) p m; within = within lim s c p (h .within) m }) q)
+      (visits-due r (record { formed = preservation acc lim (h .formed) p m; within = within lim s c p (h .within) m }) q)
     where
-      nearer : suc (ahead s (part t p)) ≤ ahead s (part (c .tree) p)
-      nearer = move-nearer acc (spare lim (c .stores) (c .tree)) (c .stores) [] (c .tree) p st t (on-node (h .formed .tree) p) k m .less
+      falls : suc (due s (part t p)) ≡ due s (part (c .tree) p)
+      falls = move-counts acc (spare lim (c .stores) (c .tree)) (c .stores) [] (c .tree) p st t (on-node (h .formed .tree) p) k m .1
 
-      go : (b : Bool) → samePlace q p ≡ b → visits q ps ≤ ahead s (part t q) → cond b (suc (visits q ps)) (visits q ps) ≤ ahead s (part (c .tree) q)
-      go true e x = let i : q ≡ p = same-place q p e in omega (arith, nearer, ap (λ (z : Path). ahead s (part t z)) i, ap (λ (z : Path). ahead s (part (c .tree) z)) i)
-      go false e x = omega (arith, others-ahead s (spare lim (c .stores) (c .tree)) (c .stores) [] (c .tree) p st t k m q e)
+      go : (b : Bool) → samePlace q p ≡ b → visits q ps + due s (part (d .tree) q) ≡ due s (part t q) → cond b (suc (visits q ps)) (visits q ps) + due s (part (d .tree) q) ≡ due s (part (c .tree) q)
+      go true e x = let i : q ≡ p = same-place q p e in omega (arith, falls, ap (λ (z : Path). due s (part t z)) i, ap (λ (z : Path). due s (part (c .tree) z)) i)
+      go false e x = omega (arith, others-due s (spare lim (c .stores) (c .tree)) (c .stores) [] (c .tree) p st t k m q e)
 
   -- the report of the whole list
   reported : {on : Path → Type 0} {c d : Config} {n : ℕ} (i : Choices on c d n) (last : ℕ) (r : Report) → Runs s lim d (last ∷ []) r → report s lim c (i .list ++ (last ∷ [])) ≡ madeBy n r
@@ -156,7 +156,8 @@ module _ {s : Code} {start : ℕ} (acc : AcceptedCode s start) (lim : Places) wh
           quietly = i .quietly;
           near = i .near;
           there = k .there;
-          rows = λ z. omega (arith, visits-ahead (i .quietly) h z, ahead-bound s (part (c .tree) z), acc .most);
+          counts = visits-due (i .quietly) h;
+          rows = λ z. omega (arith, visits-due (i .quietly) h z, due-told acc (part (c .tree) z) (on-node (h .formed .tree) z) .0, acc .most);
           unread = i .unread;
           short = omega (arith, i .count, few, acc .most);
           bytes =
@@ -178,7 +179,7 @@ module _ {s : Code} {start : ℕ} (acc : AcceptedCode s start) (lim : Places) wh
     step-run st t e loud =
         let k = choose p (i .formed) (moved st t) e moved-still in
         let x = report s lim (record { stores = st; tree = t }) [] in
-        let r = reported i (k .position) (made x) (moves (k .look) (k .choice ∙ e) (run-runs s lim [] (record { stores = st; tree = t }))) in
+        let r = reported i (k .position) (made x) (makes (k .look) (k .choice ∙ e) (run-runs s lim [] (record { stores = st; tree = t }))) in
         one-run (reading s (record { stores = st; tree = t })) k
         (inr (
           omega (arith, ap (λ (z : Report). z .moves) r, by-moves n (made x), i .count),

@@ -4,14 +4,14 @@ use native.Mathlib.Omega.{arith}
 use mathlib.Core.Path.{_≡_, refl, sym, _∙_, ap, subst}
 use mathlib.Core.Bool.{Bool, true, false, cond}
 use mathlib.Core.List.{List, [], _∷_, _++_}
-use mathlib.Core.Option.{some}
+use mathlib.Core.Option.{Option, some}
 use lib.Dec.{eqb}
 use lib.ListN.{length}
 use borrow.Author.Tests.{eq-eqb}
 use Rattle.script.specs.Syntax.{Point, Node, n-null, n-var, n-select, n-update, n-call, n-bind, n-new, n-cast, n-fork, n-lock, build, pointOf, var, select, new, fork, lock, Program}
 use Rattle.typing.specs.declared.Answer.the-variants.{Typed}
 use Rattle.typing.specs.Members.{typeIn, fieldsOf}
-use Rattle.typing.specs.Published.{FieldIn, MsigIn, BD-INFER-VAR, BD-INFER-SELECT, BD-INFER-LOCK}
+use Rattle.typing.specs.Published.{Sub, FieldIn, MsigIn, BD-INFER-VAR, BD-INFER-SELECT, BD-INFER-LOCK}
 use Rattle.typing.proofs.Environments.{type-in}
 use Rattle.machine.specs.declared.Store.{Store}
 use Rattle.machine.specs.declared.Value.{Value}
@@ -19,7 +19,7 @@ use Rattle.machine.specs.declared.Value.the-variants.{Null as nil, Ref as ref}
 use Rattle.machine.specs.declared.Frame.{Frame}
 use Rattle.machine.specs.declared.Frame.the-variants.{Awaits as awaits, Casts as casts, Locks as locks}
 use Rattle.machine.specs.Config.{Code, Object, Binding, Stores, Tree, running, returning, failed, join, Config}
-use Rattle.machine.specs.Machine.{scope, context, find, object, setFields, setField, nulls, oneIf, lockFrames, Places, Outcome, still, full, moved, give, descend, make, spawn, withShut, enter, shutAndEnter, lockObject, lockValue, lockTarget, extend, selectValue, selectTarget, updateValue, callBindings, callMethod, callValue, runNode, wake, resume, Phase, finished, broken, busy, phase, fold, inLeft, inRight, Path, here, left, right, moveAt, spare, move, held, part}
+use Rattle.machine.specs.Machine.{scope, context, find, object, setFields, setField, initials, oneIf, lockFrames, Places, Outcome, still, full, moved, give, descend, make, spawn, withShut, enter, shutAndEnter, onValue, onTarget, lockObject, extend, selectObject, updateObject, callBindings, callMethod, callObject, runNode, wake, resume, Phase, finished, broken, busy, phase, fold, inLeft, inRight, Path, here, left, right, moveAt, spare, move, held, part}
 use Rattle.machine.specs.declared.Want.{Want}
 use Rattle.machine.specs.declared.Want.the-variants.{Any as any, Upto as upto}
 use Rattle.machine.specs.WellFormed.{meets-type, ValueFits, fits-ref, Gives, gives-type, StoresOk, Awaits, a-let, a-write, a-call, FramesOk, a-node, a-cast, TreeOk, running-ok, returning-ok, join-ok, lockCount, shutAt, WfConfig}
@@ -31,11 +31,11 @@ use Rattle.published.specs.Means.{Means, silently, publicly}
 use Rattle.published.specs.Reach.{site}
 use Rattle.published.specs.Traces.{Transition, published-step, silent-move}
 use Rattle.machine.proofs.Types.{below-class, below-method, infer-computes, field-declared, Defined, defined}
-use Rattle.machine.proofs.Stores.{seen, field-seen, shutAt-le, shutAt-object}
+use Rattle.machine.proofs.Stores.{fit-binding, fit-field, shutAt-le, shutAt-object}
 use Rattle.machine.proofs.Grow.{Grows, grows-binding, grows-call}
 use Rattle.machine.proofs.Move.{Judged, a-move}
-use Rattle.machine.proofs.Trees.{move-good}
-use Rattle.machine.proofs.Ends.{is-broken, frames-append}
+use Rattle.machine.proofs.Trees.{move-good, is-broken}
+use Rattle.machine.proofs.Ends.{frames-append}
 use Rattle.machine.proofs.Locks.{held-in, in-held}
 use Rattle.machine.proofs.Silent.{silent-at}
 use Rattle.published.proofs.Names.{variable, entry-new, entry-count, let-reading, call-reading, entry-older, plug-grow, read-grow, said-grow}
@@ -105,12 +105,28 @@ of-thread e no-change = stays
 of-thread e no-place = step-full
 of-thread e (published k) = steps (k, site-thread e k)
 
+module _ {s : Code} {st : Stores} (ok : StoresOk s st) (above : List Frame) where
+  -- a target, by the variable that its name means
+  target-step : (t : Tree) (e x c : ℕ) (go : ℕ → Option Object → Outcome) → typeIn (context (st .bindings) e) x ≡ some c
+      → ((i : ℕ) → names (st .bindings) e x ≡ fresh i → entryValue (entries (st .bindings)) i ≡ some nil → Exact s st above t (moved st failed))
+      → ((i o : ℕ) (y : Object) → names (st .bindings) e x ≡ fresh i → entryValue (entries (st .bindings)) i ≡ some (ref o) → object (st .objects) o ≡ some y → Sub (s .program) (y .class) c
+      → Exact s st above t (go o (some y)))
+      → Exact s st above t (onTarget st go (find (scope (st .bindings) e) x))
+  target-step t e x c go h null there =
+      let f = fit-binding e x c (ok .bindings) h in
+      let n = variable (st .bindings) e x (f .binding) (f .there) in
+      rw (f .there) (on (n .number) (n .name) (f .binding .value) (n .value) (f .fits))
+    where
+      on : (i : ℕ) → names (st .bindings) e x ≡ fresh i → (v : Value) → entryValue (entries (st .bindings)) i ≡ some v → ValueFits s (st .objects) v (upto c) → Exact s st above t (onValue st go v)
+      on i k nil j q = null i k j
+      on i k (ref o) j (fits-ref {x = y} l (meets-type b)) = rw l (there i o y k j l b)
+
 module _ {s : Code} {w : Want} {st : Stores} (ok : StoresOk s st) {start : ℕ} (acc : AcceptedCode s start) (room : Places) (above fs : List Frame) where
   module _ (v : Want) (r : FramesOk s (st .bindings) w fs v) (e : ℕ) (p : Point) where
     pub give-step : (x t : ℕ) → s .expr p ≡ var p x → typeIn (context (st .bindings) e) x ≡ some t
         → Exact s st above (running p e fs) (give st fs (find (scope (st .bindings) e) x))
     give-step x t b h =
-        let f = seen e x t (ok .bindings) h in
+        let f = fit-binding e x t (ok .bindings) h in
         let n = variable (st .bindings) e x (f .binding) (f .there) in
         rw (f .there) (published {su = st} {u = returning (f .binding .value) fs} (rw (b, n .name) (plug-step s (st .bindings) fs (reduces (DYN-EVAL-VAR (n .value))))))
 
@@ -118,7 +134,7 @@ module _ {s : Code} {w : Want} {st : Stores} (ok : StoresOk s st) {start : ℕ} 
     make-step c b zero = no-place
     make-step c b (suc k) =
         published
-        {su = record { objects = st .objects ++ (record { class = c; shut = false; fields = nulls (fieldsOf (s .program) c) } ∷ []); bindings = st .bindings }}
+        {su = record { objects = st .objects ++ (record { class = c; shut = false; fields = initials (s .program) (fieldsOf (s .program) c) } ∷ []); bindings = st .bindings }}
         {u = returning (ref (length (st .objects))) fs}
         (rw b (plug-step s (st .bindings) fs (reduces DYN-EVAL-NEW)))
 
@@ -149,36 +165,21 @@ module _ {s : Code} {w : Want} {st : Stores} (ok : StoresOk s st) {start : ℕ} 
     object-step x i o a y b h k l d true q = enter-step x i o a y b h k l q (lockFrames o fs + lockFrames o above) refl
     object-step x i o a y b h k l d false q = take-step x i o a y b h k l d q (room .frames)
 
-    value-step : (x t i : ℕ) (a : Point) → s .expr p ≡ lock p x (s .expr a) → names (st .bindings) e x ≡ fresh i → ((o : ℕ) → lockFrames o above + lockFrames o fs ≤ shutAt (st .objects) o)
-        → (u : Value) → entryValue (entries (st .bindings)) i ≡ some u → ValueFits s (st .objects) u (upto t)
-        → Exact s st above (running p e fs) (lockValue st above fs a e (room .frames) u)
-    value-step x t i a b h d nil k f = published {su = st} {u = failed} (rw (b, h) (plug-failed s (st .bindings) fs (reduces (DYN-NPE-LOCK k))))
-    value-step x t i a b h d (ref o) k (fits-ref {x = y} l m) = rw l (object-step x i o a y b h k l (d o) (y .shut) refl)
-
     pub lock-step : (x t : ℕ) (a : Point) → s .expr p ≡ lock p x (s .expr a) → typeIn (context (st .bindings) e) x ≡ some t → ((o : ℕ) → lockFrames o above + lockFrames o fs ≤ shutAt (st .objects) o)
-        → Exact s st above (running p e fs) (lockTarget st above fs a e (room .frames) (find (scope (st .bindings) e) x))
+        → Exact s st above (running p e fs) (onTarget st (lockObject st above fs a e (room .frames)) (find (scope (st .bindings) e) x))
     lock-step x t a b h d =
-        let f = seen e x t (ok .bindings) h in
-        let n = variable (st .bindings) e x (f .binding) (f .there) in
-        rw (f .there) (value-step x t (n .number) a b (n .name) d (f .binding .value) (n .value) (f .fits))
-
-    select-value-step : (x f c u i : ℕ) → s .expr p ≡ select p x f → names (st .bindings) e x ≡ fresh i → FieldIn (s .program) c f u
-        → (y : Value) → entryValue (entries (st .bindings)) i ≡ some y → ValueFits s (st .objects) y (upto c)
-        → Exact s st above (running p e fs) (selectValue s st fs f y)
-    select-value-step x f c u i z h k nil j q = published {su = st} {u = failed} (rw (z, h) (plug-failed s (st .bindings) fs (reduces (DYN-NPE-SELECT j))))
-    select-value-step x f c u i z h k (ref o) j (fits-ref {x = y} l (meets-type b)) =
-        let d = field-declared acc k in
-        let n : y .class ≡ c = below-class acc (d .0) b in
-        let q = field-seen (ok .heap o y l .fields) f u (ap (λ (n : ℕ). typeIn (fieldsOf (s .program) n) f) n ∙ d .1) in
-        rw (l, q .there)
-        (published {su = st} {u = returning (q .value) fs} (rw (z, h) (plug-step s (st .bindings) fs (reduces (DYN-EVAL-SELECT {t = u} j l (rw n k) (q .there))))))
+        target-step ok above (running p e fs) e x t (lockObject st above fs a e (room .frames)) h
+        (λ i n k. published {su = st} {u = failed} (rw (b, n) (plug-failed s (st .bindings) fs (reduces (DYN-NPE-LOCK k)))))
+        (λ i o y n k l z. object-step x i o a y b n k l (d o) (y .shut) refl)
 
     pub select-step : (x f c u : ℕ) → s .expr p ≡ select p x f → typeIn (context (st .bindings) e) x ≡ some c → FieldIn (s .program) c f u
-        → Exact s st above (running p e fs) (selectTarget s st fs f (find (scope (st .bindings) e) x))
+        → Exact s st above (running p e fs) (onTarget st (λ o. selectObject s st fs f) (find (scope (st .bindings) e) x))
     select-step x f c u z h k =
-        let y = seen e x c (ok .bindings) h in
-        let n = variable (st .bindings) e x (y .binding) (y .there) in
-        rw (y .there) (select-value-step x f c u (n .number) z (n .name) k (y .binding .value) (n .value) (y .fits))
+        target-step ok above (running p e fs) e x c (λ o. selectObject s st fs f) h
+        (λ i n j. published {su = st} {u = failed} (rw (z, n) (plug-failed s (st .bindings) fs (reduces (DYN-NPE-SELECT j)))))
+        (λ i o y n j l b. let d = field-declared acc k in let m : y .class ≡ c = below-class acc (d .0) b in
+        let q = fit-field (ok .heap o y l .fields) f u (ap (λ (n : ℕ). typeIn (fieldsOf (s .program) n) f) m ∙ d .1) in
+        rw (q .there) (published {su = st} {u = returning (q .value) fs} (rw (z, n) (plug-step s (st .bindings) fs (reduces (DYN-EVAL-SELECT {t = u} j l (rw m k) (q .there)))))))
 
     -- a part is run first: the reading stays
     descend-step : (a : Point) (f : Frame) → said s (st .bindings) e p ≡ fill (hole s (st .bindings) f) (said s (st .bindings) e a) → held (f ∷ (fs ++ above)) ≡ held (fs ++ above) → (k : ℕ)
@@ -191,14 +192,14 @@ module _ {s : Code} {w : Want} {st : Stores} (ok : StoresOk s st) {start : ℕ} 
         → Faithful s st above (running p e fs) here (quiet n) (runNode s room st above fs e p n)
     run-step n-null i b g d = silent {u = returning nil fs} (rw b)
     run-step (n-var x) i b (gives-type (BD-INFER-VAR w h) m) d = of-thread refl (give-step x _ b (type-in h))
-    run-step (n-select x f) i b (gives-type (BD-INFER-SELECT (BD-INFER-VAR w h) k) m) d = of-thread refl (select-step x f _ _ b (type-in h) k)
+    run-step (n-select x f) i b (gives-type (BD-INFER-SELECT (BD-INFER-VAR w h) k o) m) d = of-thread refl (select-step x f _ _ b (type-in h) k)
     run-step (n-update x f a) i b g d = descend-step a (awaits p e) (rw (i, b)) refl (room .frames)
     run-step (n-call x n a) i b g d = descend-step a (awaits p e) (rw (i, b)) refl (room .frames)
     run-step (n-bind x a c) i b g d = descend-step a (awaits p e) (rw (i, b)) refl (room .frames)
     run-step (n-new c) i b g d = of-thread refl (make-step c b (room .objects))
     run-step (n-cast t a) i b g d = descend-step a (casts p) (rw (i, b)) refl (room .frames)
     run-step (n-fork a b c) i j g d = of-thread refl (spawn-step a b c j (room .threads))
-    run-step (n-lock x a) i b (gives-type (BD-INFER-LOCK (BD-INFER-VAR w h) k) m) d = of-thread refl (lock-step x _ a b (type-in h) d)
+    run-step (n-lock x a) i b (gives-type (BD-INFER-LOCK (BD-INFER-VAR w h) o k) m) d = of-thread refl (lock-step x _ a b (type-in h) d)
 
   module _ (p : Point) (e : ℕ) (v : Want) (x : Value) (r : FramesOk s (st .bindings) w fs v) where
     bind-step : (n t : ℕ) (a b : Point) → s .view p ≡ n-bind n a b → (k : ℕ)
@@ -213,16 +214,16 @@ module _ {s : Code} {w : Want} {st : Stores} (ok : StoresOk s st) {start : ℕ} 
         (rw (i, plug-grow g r (said s (y ∷ st .bindings) (suc (length (st .bindings))) b), ← let-reading (st .bindings) e y (s .expr b) refl)
         (plug-step s (st .bindings) fs (reduces (DYN-EVAL-LET (length (st .bindings)) (sym (entry-count (st .bindings))) (entry-new (st .bindings))))))
 
-    update-step : (n f i c u : ℕ) (a : Point) → s .view p ≡ n-update n f a → names (st .bindings) e n ≡ fresh i → FieldIn (s .program) c f u → (y : Value) → entryValue (entries (st .bindings)) i ≡ some y
-        → ValueFits s (st .objects) y (upto c) → Exact s st above (returning x (awaits p e ∷ fs)) (updateValue s st fs f x y)
-    update-step n f i c u a k h d nil j q = published {su = st} {u = failed} (rw (k, h) (plug-failed s (st .bindings) fs (reduces (DYN-NPE-UPDATE j))))
-    update-step n f i c u a k h d (ref o) j (fits-ref {x = y} l (meets-type b)) =
-        let z : y .class ≡ c = below-class acc (field-declared acc d .0) b in
-        rw l
-        (published
+    update-step : (n f c u : ℕ) (a : Point) → s .view p ≡ n-update n f a → typeIn (context (st .bindings) e) n ≡ some c → FieldIn (s .program) c f u
+        → Exact s st above (returning x (awaits p e ∷ fs)) (onTarget st (updateObject s st fs f x) (find (scope (st .bindings) e) n))
+    update-step n f c u a k h d =
+        target-step ok above (returning x (awaits p e ∷ fs)) e n c (updateObject s st fs f x) h
+        (λ i m j. published {su = st} {u = failed} (rw (k, m) (plug-failed s (st .bindings) fs (reduces (DYN-NPE-UPDATE j)))))
+        (λ i o y m j l b. let z : y .class ≡ c = below-class acc (field-declared acc d .0) b in
+        published
         {su = record { objects = setFields (setField x (fieldsOf (s .program) (y .class)) (y .fields) f) (st .objects) o; bindings = st .bindings }}
         {u = returning nil fs}
-        (rw (k, h) (plug-step s (st .bindings) fs (reduces (DYN-EVAL-UPDATE {t = u} j l (rw z d))))))
+        (rw (k, m) (plug-step s (st .bindings) fs (reduces (DYN-EVAL-UPDATE {t = u} j l (rw z d))))))
 
     call-method-step : (n m i o t u : ℕ) (a : Point) (y : Object) → s .view p ≡ n-call n m a → names (st .bindings) e n ≡ fresh i → entryValue (entries (st .bindings)) i ≡ some (ref o)
         → object (st .objects) o ≡ some y → (b : Defined s (y .class) (record { name = m; param = t; result = u })) → (k : ℕ)
@@ -243,24 +244,17 @@ module _ {s : Code} {w : Want} {st : Stores} (ok : StoresOk s st) {start : ℕ} 
         (DYN-EVAL-CALL (length (st .bindings)) (suc (length (st .bindings))) j l (b .there) (sym (entry-count (st .bindings))) (entry-new (st .bindings))
         (ap suc (sym (entry-count (st .bindings)))) (entry-older (st .bindings) (suc (length (st .bindings))) (omega arith))))))
 
-    call-step : (n m i c t u : ℕ) (a : Point) → s .view p ≡ n-call n m a → names (st .bindings) e n ≡ fresh i → MsigIn (s .program) c (record { name = m; param = t; result = u }) → (k : ℕ)
-        → (y : Value) → entryValue (entries (st .bindings)) i ≡ some y → ValueFits s (st .objects) y (upto c)
-        → Exact s st above (returning x (awaits p e ∷ fs)) (callValue s st fs m x k y)
-    call-step n m i c t u a z h d k nil j q = published {su = st} {u = failed} (rw (z, h) (plug-failed s (st .bindings) fs (reduces (DYN-NPE-CALL j))))
-    call-step n m i c t u a z h d k (ref o) j (fits-ref {x = y} l (meets-type b)) =
-        let q = defined acc (ok .heap o y l .class) (below-method acc b d) in
-        rw (l, q .there) (call-method-step n m i o t u a y z h j l q k)
+    call-step : (n m c t u : ℕ) (a : Point) → s .view p ≡ n-call n m a → typeIn (context (st .bindings) e) n ≡ some c → MsigIn (s .program) c (record { name = m; param = t; result = u }) → (k : ℕ)
+        → Exact s st above (returning x (awaits p e ∷ fs)) (onTarget st (callObject s st fs m x k) (find (scope (st .bindings) e) n))
+    call-step n m c t u a z h d k =
+        target-step ok above (returning x (awaits p e ∷ fs)) e n c (callObject s st fs m x k) h
+        (λ i g j. published {su = st} {u = failed} (rw (z, g) (plug-failed s (st .bindings) fs (reduces (DYN-NPE-CALL j)))))
+        (λ i o y g j l b. let q = defined acc (ok .heap o y l .class) (below-method acc b d) in rw (q .there) (call-method-step n m i o t u a y z g j l q k))
 
-    wake-step : (t u : ℕ) (n : Node) → s .view p ≡ n → Awaits s (context (st .bindings) e) n t u → Exact s st above (returning x (awaits p e ∷ fs)) (wake s room st x fs e n)
-    wake-step t u (n-bind y a b) i (a-let h k) = rw (infer-computes acc h) (bind-step y t a b i (room .bindings))
-    wake-step t u (n-update y f a) i (a-write {c = c} h d) =
-        let z = seen e y c (ok .bindings) h in
-        let j = variable (st .bindings) e y (z .binding) (z .there) in
-        rw (z .there) (update-step y f (j .number) c t a i (j .name) d (z .binding .value) (j .value) (z .fits))
-    wake-step t u (n-call y m a) i (a-call {c = c} h d) =
-        let z = seen e y c (ok .bindings) h in
-        let j = variable (st .bindings) e y (z .binding) (z .there) in
-        rw (z .there) (call-step y m (j .number) c t u a i (j .name) d (room .bindings) (z .binding .value) (j .value) (z .fits))
+    wake-step : (t : ℕ) (n : Node) → s .view p ≡ n → Awaits s (context (st .bindings) e) n t v → Exact s st above (returning x (awaits p e ∷ fs)) (wake s room st x fs e n)
+    wake-step t (n-bind y a b) i (a-let h k m) = rw (infer-computes acc h) (bind-step y t a b i (room .bindings))
+    wake-step t (n-update y f a) i (a-write {c = c} h d m) = update-step y f c t a i (type-in h) d
+    wake-step t (n-call y m a) i (a-call {c = c} {u = u} h d o) = call-step y m c t u a i (type-in h) d (room .bindings)
 
 -- a shut object is in the store
 record ShutObject (xs : List Object) (o : ℕ) : Type 0 where
@@ -299,8 +293,8 @@ pub resume-step : {s : Code} {w : Want} {st : Stores} (ok : StoresOk s st) {star
     → FramesOk s (st .bindings) w fs v → ((o : ℕ) → lockFrames o above + lockFrames o fs ≤ shutAt (st .objects) o)
     → Exact s st above (returning x fs) (resume s room st x fs)
 resume-step ok acc room above [] x v r d = no-change
-resume-step {s} ok acc room above (awaits n e ∷ fs) x v (a-node {t = t} {u = u} {v = v′} i le h m r) d =
-    wake-step ok acc room above fs n e v′ x r t u (s .view n) refl h
+resume-step {s} ok acc room above (awaits n e ∷ fs) x v (a-node {t = t} {v = v′} i le h r) d =
+    wake-step ok acc room above fs n e v′ x r t (s .view n) refl h
 resume-step {s} {st = st} ok acc room above (casts n ∷ fs) x v (a-cast i h m r) d =
     published {su = st} {u = returning x fs} (rw h (plug-step s (st .bindings) fs (reduces DYN-EVAL-CAST)))
 resume-step ok acc room above (locks o ∷ fs) x v r d = release-step above fs o x (d o)

@@ -10,10 +10,10 @@ use Rattle.machine.specs.Config.{Code, Stores, Tree, Config}
 use Rattle.machine.specs.Machine.{Places, full, moved, Path, locate, chosen, choice, initial}
 use Rattle.machine.specs.WellFormed.{WellFormed}
 use Rattle.machine.specs.Accepted.{AcceptedCode}
-use Rattle.machine.specs.Runs.{Report, report, Runs, ends, spends, passes, moves, fills}
+use Rattle.machine.specs.Runs.{Report, report, Runs, ends, spends, passes, makes, fills}
 use Rattle.machine.proofs.Run.{run-runs, moved-choice}
-use Rattle.machine.proofs.Stays.{still-exactly}
-use Rattle.machine.proofs.Short.{full-exactly}
+use Rattle.machine.proofs.CannotMove.{still-exactly}
+use Rattle.machine.proofs.FullStore.{full-exactly}
 use Rattle.published.specs.ReadAs.{reading, initialReading}
 use Rattle.published.specs.Traces.{Trace, trace-none, trace-passes, trace-moves, trace-full}
 use Rattle.published.proofs.Steps.{moves-transitions}
@@ -41,7 +41,7 @@ module _ {s : Code} {start : ℕ} (acc : AcceptedCode s start) (lim : Places) wh
   runs-trace (ends l) h = trace-none
   runs-trace (spends l) h = trace-none
   runs-trace (passes {n = n} l e r) h = trace-passes (still-exactly acc lim h n .0 e) (runs-trace r h)
-  runs-trace (moves {n = n} l e r) h = choice-makes n h e (runs-trace r (moved-choice acc lim n h e))
+  runs-trace (makes {n = n} l e r) h = choice-makes n h e (runs-trace r (moved-choice acc lim n h e))
   runs-trace (fills {n = n} l e) h = choice-full n h e
 
   -- From every well-formed configuration, with any list of choices: the choices read lead, by as many transitions as the run says it made moves, to the configuration that it leaves.

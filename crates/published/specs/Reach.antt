@@ -17,7 +17,7 @@ use Rattle.published.specs.Steps.{PTree, World, Step, reduces, DYN-EVAL-
 use Rattle.published.specs.Steps.{DYN-EVAL-ASYNC-LEFT, DYN-EVAL-ASYNC-RIGHT, DYN-EVAL-ASYNC-JOIN, DYN-EXCEPTION-ASYNC-LEFT}
 use Rattle.published.specs.Steps.{DYN-EXCEPTION-ASYNC-RIGHT}
 use Rattle.published.specs.ReadAs.{Reading, reading}
-use Rattle.machine.specs.Silent.{samePlace, quietIn}
+use Rattle.machine.specs.Silent.{samePlace, quietIn, due}
 use Rattle.machine.specs.Runs.{report}
 
 abbrev pub visits : Path → List Path → ℕ
@@ -61,6 +61,8 @@ pub record OneRun (s : Code) (lim : Places) (c : Config) (q : Reading) (p : Path
   pub middle : Config
   pub quietly : Quietly s lim c silent places middle
   pub near : (o : Path) → o ∈ places → Near p o
+  -- each thread makes as many as its count falls
+  pub counts : (o : Path) → visits o places + due s (part (middle .tree) o) ≡ due s (part (c .tree) o)
   pub rows : (o : Path) → visits o places ≤ SILENT
   pub unread : reading s middle ≡ reading s c
   pub there : locate (middle .tree) last ≡ some p

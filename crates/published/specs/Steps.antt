@@ -13,7 +13,7 @@ use Rattle.machine.specs.declared.Value.{Value}
 use Rattle.machine.specs.declared.Value.the-variants.{Null as nil, Ref as ref}
 use Rattle.machine.specs.Config.{Object}
 use Rattle.typing.specs.Members.{fieldsOf, definedIn}
-use Rattle.machine.specs.Machine.{object, setShut, setFields, fieldValue, setField, nulls}
+use Rattle.machine.specs.Machine.{object, setShut, setFields, fieldValue, setField, initials}
 
 -- A variable of the program text, or one that a step made. A fresh one is the next number, as in the mechanised version.
 pub data PVar : Type 0 where
@@ -128,7 +128,7 @@ pub data Reduce (p : Program) : World → List ℕ → PExpr → World → PTree
       → Reduce p W L (p-update (fresh x) f (p-value v))
       (record { heap = setFields (setField v (fieldsOf p (y .class)) (y .fields) f) (W .heap) o; vars = W .vars }) (p-thread L (p-value nil))
   DYN-EVAL-NEW : {W : World} {L : List ℕ} {c : ℕ} → Reduce p W L (p-new c)
-      (record { heap = W .heap ++ (record { class = c; shut = false; fields = nulls (fieldsOf p c) } ∷ []); vars = W .vars })
+      (record { heap = W .heap ++ (record { class = c; shut = false; fields = initials p (fieldsOf p c) } ∷ []); vars = W .vars })
       (p-thread L (p-value (ref (length (W .heap)))))
   DYN-EVAL-LOCK : {W : World} {L : List ℕ} {x o : ℕ} {y : Object} {a : PExpr} → entryValue (W .vars) x ≡ some (ref o) → object (W .heap) o ≡ some y
       → y .shut ≡ false → (o ∈ L → ⊥)

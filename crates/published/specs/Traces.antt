@@ -7,8 +7,8 @@ use mathlib.Core.Option.{some}
 use Rattle.machine.specs.declared.Store.{Store}
 use Rattle.machine.specs.Config.{Code, Config}
 use Rattle.machine.specs.Machine.{Places, spare, Path, locate}
-use Rattle.machine.specs.Stays.{Stays}
-use Rattle.machine.specs.Short.{ShortAt}
+use Rattle.machine.specs.CannotMove.{Stays}
+use Rattle.machine.specs.FullStore.{ShortAt}
 use Rattle.machine.specs.Silent.{SilentAt}
 use Rattle.published.specs.ReadAs.{reading, Steps}
 use Rattle.published.specs.Reach.{site}

@@ -1,32 +1,30 @@
 -- What the code of questions 4, 6 and 7 answers of each record: a law for each return, with the callees' results as variables.
 use mathlib.Core.Path.{_≡_, refl, sym, ap, _∙_}
-use mathlib.Core.Bool.{Bool, true, false, not, _&&_, and-true, and-assoc, and-comm, or-false}
+use mathlib.Core.Bool.{Bool, true, false, not, _&&_, or-false}
 use mathlib.Core.List.{List, [], _∷_}
-use mathlib.Core.Option.{Option, none, some}
+use mathlib.Core.Option.{Option}
 use Prim.Native.Nat.{ℕ, zero, suc, _+_, _-_, _<_, _≤_, min}
 use native.Mathlib.Omega.{arith}
 use lib.Dec.{eqb, leb, ltb}
 use lib.ListN.{getD, List·getD-eq-default}
 use borrow.Author.Tests.{eqb-true, eqb-false, eq-eqb, ne-eqb, not-true, not-false, lt-ltb, le-ltb}
 use Rattle.limits.specs.Limits.{NODES}
-use Rattle.script.specs.declared.Found.{Found}
 use Rattle.script.specs.declared.Found.the-variants.{At, Nothing}
-use Rattle.records.specs.declared.nodes.Check.{Check}
-use Rattle.records.specs.declared.nodes.Check.the-variants.{Interfaces}
-use Rattle.records.specs.declared.nodes.Role.{Role}
-use Rattle.records.specs.declared.nodes.Role.the-variants.{Unused, Number, Bound, ClassWord, TypeWord, Part, Unknown}
-use Rattle.records.specs.declared.nodes.Shape.{Shape}
+use Rattle.records.specs.declared.nodes.Test.{Test}
+use Rattle.script.specs.declared.Role.{Role}
+use Rattle.script.specs.declared.Role.the-variants.{Expression}
+use Rattle.script.specs.declared.Shape.{Shape}
 use Rattle.script.specs.Lists.{countIn}
 use Rattle.script.specs.declared.Section.{Section}
-use Rattle.script.specs.declared.Section.the-variants.{Interfaces as interfaces, Signatures as signatures, Classes as classes, Fields as fields, Methods as methods, Nodes as nodes}
-use Rattle.script.specs.Section.{sections, countOf, recordAt, recordWord, nodeWord}
-use Rattle.script.specs.Syntax.{Point, parts}
-use Rattle.script.specs.Reading.{Kind, null-kind, var-kind, select-kind, update-kind, call-kind, bind-kind, new-kind, cast-kind, fork-kind, lock-kind, unknown-kind, kindOf, nodeOf, viewAt}
-use Rattle.script.specs.Asking.{firstOut, placeOr, lowestIn, lowestOut}
-use Rattle.script.specs.Questions.{earlierTest, interfaceTest, interfacesTest, typeTest, interfaceTypeTest, classTypeTest, operandTest, typesTest, knownTest, unusedOf, unusedAt, allOf, boundTest, partTest, usesIn, dueUses, nodeTest, nodesTest}
+use Rattle.script.specs.declared.Section.the-variants.{Interfaces as interfaces, Classes as classes, Nodes as nodes}
+use Rattle.script.specs.Section.{countOf, recordAt, recordWord, nodeWord}
+use Rattle.script.specs.Syntax.{Point}
+use Rattle.script.specs.Reading.{Kind, null-kind, var-kind, select-kind, update-kind, call-kind, bind-kind, new-kind, cast-kind, fork-kind, lock-kind, unknown-kind, kindOf, shapeOf}
+use Rattle.script.specs.Asking.{firstOut, lowestIn}
+use Rattle.script.specs.Questions.{earlierTest, interfaceTest, typeTest, interfaceTypeTest, classTypeTest, wordsTest, wordTest, usesIn, dueUses, nodeTest}
 use Rattle.sections.specs.Laid.{foundOf}
-use Rattle.records.specs.Uses.{shapeOf, wordTest, shapeTest, Counted, testOf, Ready, placeOut}
-use Rattle.sections.proofs.Search.{search-end, search-pass, search-fail, lowest-skip}
+use Rattle.records.specs.Uses.{Counted, sectionOf, testOf, asksOf, Ready}
+use Rattle.sections.proofs.Search.{search-pass, found-end, found-fail, lowest-here, lowest-none}
 
 -- Tests one after the other: `if !r { return false; }`, and then t.
 and-no : (a b r : Bool) → r ≡ a → not r ≡ true → false ≡ a && b
@@ -76,9 +74,9 @@ module _ (s : List ℕ) (t n : ℕ) (p : n ≡ countOf s interfaces) where
   unfolding classTypeTest
   class-type-none h = rw (← p, le-ltb n t h)
 
-  pub class-type-is : (r : Bool) → n < t → r ≡ typeTest s t → r ≡ classTypeTest s t
+  pub class-type-is : (m : ℕ) → n < t → m ≡ countOf s classes → leb t (n + m) ≡ classTypeTest s t
   unfolding classTypeTest
-  class-type-is r h e = rw (← p, lt-ltb n t h) e
+  class-type-is m h q = rw (← p, ← q, lt-ltb n t h)
 
 pub interface-type-none : (s : List ℕ) (t : ℕ) → t ≡ 0 → false ≡ interfaceTypeTest s t
 unfolding interfaceTypeTest
@@ -103,59 +101,29 @@ shape-unknown k a b c d e f g h i j =
     let kinds : List Kind = null-kind ∷ var-kind ∷ select-kind ∷ update-kind ∷ call-kind ∷ bind-kind ∷ new-kind ∷ cast-kind ∷ fork-kind ∷ lock-kind ∷ [] in
     ap shapeOf (sym (List·getD-eq-default kinds unknown-kind (five-more k 5 (five-more k 0 (omega arith) a b c d e) f g h i j)))
 
--- What question 6 asks of a word of this role.
-abbrev pub operandRole : List ℕ → Role → ℕ → Bool
-operandRole s Unused w = true
-operandRole s Number w = true
-operandRole s Bound w = true
-operandRole s ClassWord w = classTypeTest s w
-operandRole s TypeWord w = typeTest s w
-operandRole s Part w = true
-operandRole s Unknown w = true
+-- A word of a role that is known, and a part.
+pub word-is : (test : Role → ℕ → Bool) (role known : Role) (w : ℕ) (r : Bool) → role ≡ known → r ≡ test known w → r ≡ test role w
+word-is test role known w r e h = rw e h
 
--- So what it asks of a node it asks of word a.
-operand-kind : (s : List ℕ) (k : Kind) (a b c : ℕ) → operandTest s (nodeOf k a b c) ≡ operandRole s (shapeOf k .0) a
-operand-kind s null-kind a b c = refl
-operand-kind s var-kind a b c = refl
-operand-kind s select-kind a b c = refl
-operand-kind s update-kind a b c = refl
-operand-kind s call-kind a b c = refl
-operand-kind s bind-kind a b c = refl
-operand-kind s new-kind a b c = refl
-operand-kind s cast-kind a b c = refl
-operand-kind s fork-kind a b c = refl
-operand-kind s lock-kind a b c = refl
-operand-kind s unknown-kind a b c = refl
+module _ (s : List ℕ) (n : Point) (role : Role) (w : ℕ) (e : role ≡ Expression) where
+  pub part-none : w ≤ n → false ≡ wordTest s n role w
+  part-none h = rw (e, le-ltb n w h)
 
-module _ (s : List ℕ) (n kind a : ℕ) (shape : Shape) (p : kind ≡ nodeWord s n 0) (q : a ≡ nodeWord s n 1) (e : shape ≡ shapeOf (kindOf kind)) where
-  pub operand-is : (role : Role) (r : Bool) → shape .0 ≡ role → r ≡ operandRole s role a → r ≡ operandTest s (viewAt s n)
-  unfolding viewAt
-  operand-is role r h g =
-      let f : shapeOf (kindOf (nodeWord s n 0)) .0 ≡ role = rw (← p, ← e) h in
-      rw (operand-kind s (kindOf (nodeWord s n 0)) (nodeWord s n 1) (nodeWord s n 2) (nodeWord s n 3), f, ← q) g
+  pub part-is : (count : ℕ) → n < w → count ≡ countOf s nodes → ltb w count ≡ wordTest s n role w
+  part-is count h c = rw (e, lt-ltb n w h, c)
 
--- 7. A word of a known role, and a part.
-module _ (role : Role) (w n count : ℕ) where
-  pub word-is : (known : Role) (r : Bool) → role ≡ known → r ≡ wordTest known w n count → r ≡ wordTest role w n count
-  word-is known r e h = rw e h
+-- The words of a node, one after the other.
+module _ (test : Role → ℕ → Bool) (s : List ℕ) (n kind a : ℕ) (shape : Shape) (p : Bool)
+    (k : kind ≡ nodeWord s n 0) (e : shape ≡ shapeOf (kindOf kind)) (u : a ≡ nodeWord s n 1) (x : p ≡ test (shape .0) a) where
+  pub words-no-a : not p ≡ true → false ≡ wordsTest s test n
+  words-no-a h = rw (← k, ← e, ← u) (and-no _ _ p x h)
 
-  pub part-none : role ≡ Part → w ≤ n → false ≡ wordTest role w n count
-  part-none e h = rw (e, le-ltb n w h)
+  module _ (b : ℕ) (q : Bool) (v : b ≡ nodeWord s n 2) (y : q ≡ test (shape .1) b) (t : not p ≡ false) where
+    pub words-no-b : not q ≡ true → false ≡ wordsTest s test n
+    words-no-b h = rw (← k, ← e, ← u, ← v) (and-yes _ _ p false x t (and-no _ _ q y h))
 
-  pub part-is : role ≡ Part → n < w → ltb w count ≡ wordTest role w n count
-  part-is e h = rw (e, lt-ltb n w h)
-
--- The words of a shape, one after the other.
-module _ (shape found : Shape) (a b c n count : ℕ) (p : Bool) (e : found ≡ shape) (x : p ≡ wordTest (found .0) a n count) where
-  pub words-no-a : not p ≡ true → false ≡ shapeTest shape a b c n count
-  words-no-a h = rw (← e) (and-no _ _ p x h)
-
-  module _ (q : Bool) (y : q ≡ wordTest (found .1) b n count) (t : not p ≡ false) where
-    pub words-no-b : not q ≡ true → false ≡ shapeTest shape a b c n count
-    words-no-b h = rw (← e) (and-yes _ _ p false x t (and-no _ _ q y h))
-
-    pub words-are : (r : Bool) → not q ≡ false → r ≡ wordTest (found .2) c n count → r ≡ shapeTest shape a b c n count
-    words-are r h z = rw (← e) (and-yes _ _ p r x t (and-yes _ _ q r y h z))
+    pub words-are : (c : ℕ) (r : Bool) → not q ≡ false → c ≡ nodeWord s n 3 → r ≡ test (shape .2) c → r ≡ wordsTest s test n
+    words-are c r h w z = rw (← k, ← e, ← u, ← v, ← w) (and-yes _ _ p r x t (and-yes _ _ q r y h z))
 
 -- How often a node is used.
 pub use-none : (uses : List ℕ) (n : ℕ) → n ≡ 0 → eqb (getD uses n 0) 0 ≡ eqb (getD uses n 0) (dueUses n)
@@ -177,122 +145,38 @@ two-enough c d h = go (eqb c d) refl
     go true e = let f = eqb-true c d e in rw (eq-eqb (min 2 c) d (omega arith), e)
     go false e = let f = eqb-false c d e in rw (ne-eqb (min 2 c) d (λ g. f (omega arith)), e)
 
--- What question 7 asks of a node's words it asks by their roles.
-shape-kind :
-    (s : List ℕ) (k : Kind) (a b c n : ℕ)
-    → shapeTest (shapeOf k) a b c n (countOf s nodes)
-    ≡ knownTest k && (allOf (λ w. eqb w 0) (unusedOf k a b c) && (boundTest (nodeOf k a b c) && allOf (partTest s n) (parts (nodeOf k a b c))))
-unfolding allOf
-shape-kind s null-kind a b c n = simp and-true
-shape-kind s var-kind a b c n = simp and-true
-shape-kind s select-kind a b c n = simp and-true
-shape-kind s update-kind a b c n = simp and-true
-shape-kind s call-kind a b c n = simp and-true
-shape-kind s bind-kind a b c n = simp and-true
-shape-kind s new-kind a b c n = simp and-true
-shape-kind s cast-kind a b c n = simp and-true (and-comm (partTest s n b) (eqb c 0))
-shape-kind s fork-kind a b c n = simp and-true
-shape-kind s lock-kind a b c n = simp and-true (and-comm (partTest s n b) (eqb c 0))
-shape-kind s unknown-kind a b c n = refl
-
-module _ (s : List ℕ) (n kind a b c count : ℕ) (r : Bool)
-    (w : kind ≡ nodeWord s n 0) (x : a ≡ nodeWord s n 1) (y : b ≡ nodeWord s n 2) (z : c ≡ nodeWord s n 3) (m : count ≡ countOf s nodes)
-    (e : r ≡ shapeTest (shapeOf (kindOf kind)) a b c n count) where
-  node-as : nodeTest s n ≡ r && eqb (countIn n (usesIn s)) (dueUses n)
-  unfolding nodeTest viewAt unusedAt
-  node-as = rw (e, w, x, y, z, m, shape-kind s) (simp and-assoc)
-
+module _ (s : List ℕ) (n : Point) (r : Bool) (e : r ≡ wordsTest s (wordTest s n) n) where
   pub node-no : not r ≡ true → false ≡ nodeTest s n
-  node-no h = rw node-as (and-no r _ r refl h)
+  unfolding nodeTest
+  node-no h = and-no _ _ r e h
 
   pub node-is : (uses : List ℕ) (q : Bool) → Counted uses (usesIn s) → n < NODES → not r ≡ false → q ≡ eqb (getD uses n 0) (dueUses n) → q ≡ nodeTest s n
+  unfolding nodeTest
   node-is uses q t i h g =
-      rw (node-as, not-false r h, ← two-enough (countIn n (usesIn s)) (dueUses n) (due-small n), ← t .right n i) g
+      and-yes _ _ r q e h (rw (← two-enough (countIn n (usesIn s)) (dueUses n) (due-small n), ← t .right n i) g)
 
--- A record of a section that is known.
-pub there : (s : List ℕ) (k known : Section) (i : ℕ) → k ≡ known → i < countOf s k → i < countOf s known
-there s k known i e h = rw e at h
+-- A test that is known: a record of its section, and the table that it needs.
+pub there : (s : List ℕ) (q known : Test) (i : ℕ) → q ≡ known → i < countOf s (sectionOf q) → i < countOf s (sectionOf known)
+there s q known i e h = rw e at h
 
--- A question that is known.
-pub ready : (s uses : List ℕ) (q known : Check) → q ≡ known → Ready s uses q → Ready s uses known
+pub ready : (s uses : List ℕ) (q known : Test) → q ≡ known → Ready s uses q → Ready s uses known
 ready s uses q known e h = rw e at h
 
--- The search of one section, and of one after the other.
-place-found : (s : List ℕ) (k : Section) (o rest : Option ℕ) (p : ℕ) → At p ≡ foundOf (placeOr s k o none) → At p ≡ foundOf (placeOr s k o rest)
-place-found s k none rest p e = absurd (let z : _≡_ {A = ℕ} 0 1 = cc in omega arith)
-place-found s k (some i) rest p e = e
-
-place-missed : (s : List ℕ) (k : Section) (o rest : Option ℕ) → Nothing ≡ foundOf (placeOr s k o none) → placeOr s k o rest ≡ rest
-place-missed s k none rest e = refl
-place-missed s k (some i) rest e = absurd (let z : _≡_ {A = ℕ} 0 1 = cc in omega arith)
-
-module _ (s : List ℕ) (q : Check) (k : Section) where
+-- The search for a record that does not pass a test.
+module _ (s : List ℕ) (q : Test) where
   abbrev whole : Option ℕ
-  whole = firstOut (testOf s q k) 0 (countOf s k)
+  whole = firstOut (testOf s q) 0 (countOf s (sectionOf q))
 
-  pub place-start : (n : ℕ) → n ≡ countOf s k → whole ≡ firstOut (testOf s q k) 0 (n - 0)
-  place-start n e = let z : n - 0 ≡ countOf s k = omega arith in rw z
+  pub place-start : (k : Section) (n : ℕ) → k ≡ sectionOf q → n ≡ countOf s k → whole ≡ firstOut (testOf s q) 0 (n - 0)
+  place-start k n f e = let z : n - 0 ≡ countOf s (sectionOf q) = rw (← f) (omega arith) in rw z
 
-  module _ (i n : ℕ) (left : whole ≡ firstOut (testOf s q k) i (n - i)) where
-    pub place-end : n ≤ i → Nothing ≡ foundOf (placeOut s q k)
-    unfolding placeOut
-    place-end h = rw (search-end (testOf s q k) whole i n left h)
+  module _ (i n : ℕ) (left : whole ≡ firstOut (testOf s q) i (n - i)) where
+    pub place-end : n ≤ i → Nothing ≡ foundOf (lowestIn s (asksOf s q ∷ []))
+    place-end h = lowest-none s (sectionOf q) (testOf s q) (found-end (testOf s q) whole i n left h)
 
-    module _ (h : i < n) (r : Bool) (e : r ≡ testOf s q k i) where
-      pub place-pass : not r ≡ false → whole ≡ firstOut (testOf s q k) (i + 1) (n - (i + 1))
-      place-pass f = search-pass (testOf s q k) whole i n left h (sym e ∙ not-false r f)
+    module _ (h : i < n) (r : Bool) (e : r ≡ testOf s q i) where
+      pub place-pass : not r ≡ false → whole ≡ firstOut (testOf s q) (i + 1) (n - (i + 1))
+      place-pass f = search-pass (testOf s q) whole i n left h (sym e ∙ not-false r f)
 
-      pub place-fail : (p : ℕ) → not r ≡ true → p ≡ recordAt s k i → At p ≡ foundOf (placeOut s q k)
-      unfolding placeOut
-      place-fail p f g = rw (search-fail (testOf s q k) whole i n left h (sym e ∙ not-true r f), g)
-
-  module _ (ks : List Section) (r : Found) (e : r ≡ foundOf (placeOut s q k)) where
-    pub lowest-here : (p : ℕ) → r ≡ At p → r ≡ foundOf (lowestIn s (testOf s q) (k ∷ ks))
-    unfolding placeOut lowestIn
-    lowest-here p f = rw f (place-found s k (firstOut (testOf s q k) 0 (countOf s k)) (lowestIn s (testOf s q) ks) p (rw f at e))
-
-    pub lowest-later : (x : Found) → r ≡ Nothing → x ≡ foundOf (lowestIn s (testOf s q) ks) → x ≡ foundOf (lowestIn s (testOf s q) (k ∷ ks))
-    unfolding placeOut lowestIn
-    lowest-later x f g = rw (place-missed s k (firstOut (testOf s q k) 0 (countOf s k)) (lowestIn s (testOf s q) ks) (rw f at e)) g
-
-    -- The last section that is asked.
-    lowest-last : lowestIn s (testOf s q) ks ≡ none → r ≡ foundOf (lowestIn s (testOf s q) (k ∷ ks))
-    unfolding placeOut lowestIn
-    lowest-last f = rw f e
-
-module _ (s : List ℕ) where
-  interfaces-rest : lowestIn s (interfacesTest s) (signatures ∷ classes ∷ fields ∷ methods ∷ nodes ∷ []) ≡ lowestIn s (interfacesTest s) []
-  unfolding interfacesTest
-  interfaces-rest =
-      lowest-skip s (interfacesTest s) signatures _ (λ i. refl)
-      ∙ lowest-skip s (interfacesTest s) classes _ (λ i. refl)
-      ∙ lowest-skip s (interfacesTest s) fields _ (λ i. refl)
-      ∙ lowest-skip s (interfacesTest s) methods _ (λ i. refl)
-      ∙ lowest-skip s (interfacesTest s) nodes _ (λ i. refl)
-
-  nothing-left : (q : Check) → lowestIn s (testOf s q) [] ≡ none
-  unfolding lowestIn
-  nothing-left q = refl
-
-  module _ (r : Found) where
-    pub only-interfaces : r ≡ foundOf (placeOut s Interfaces interfaces) → r ≡ foundOf (lowestOut s (interfacesTest s))
-    unfolding sections
-    only-interfaces e = lowest-last s Interfaces interfaces _ r e (interfaces-rest ∙ nothing-left Interfaces)
-
-    pub last-nodes : (q : Check) → r ≡ foundOf (placeOut s q nodes) → r ≡ foundOf (lowestIn s (testOf s q) (nodes ∷ []))
-    last-nodes q e = lowest-last s q nodes [] r e (nothing-left q)
-
-    -- The sections that are asked first are not the first of all.
-    pub from-signatures : r ≡ foundOf (lowestIn s (typesTest s) (signatures ∷ classes ∷ fields ∷ methods ∷ nodes ∷ [])) → r ≡ foundOf (lowestOut s (typesTest s))
-    unfolding typesTest sections
-    from-signatures e = rw (lowest-skip s (typesTest s) interfaces _ (λ i. refl)) e
-
-    pub from-methods : r ≡ foundOf (lowestIn s (nodesTest s) (methods ∷ nodes ∷ [])) → r ≡ foundOf (lowestOut s (nodesTest s))
-    unfolding nodesTest sections
-    from-methods e =
-        let skip : lowestOut s (nodesTest s) ≡ lowestIn s (nodesTest s) (methods ∷ nodes ∷ []) =
-        lowest-skip s (nodesTest s) interfaces _ (λ i. refl)
-        ∙ lowest-skip s (nodesTest s) signatures _ (λ i. refl)
-        ∙ lowest-skip s (nodesTest s) classes _ (λ i. refl)
-        ∙ lowest-skip s (nodesTest s) fields _ (λ i. refl) in
-        rw skip e
+      pub place-fail : (k : Section) (p : ℕ) → k ≡ sectionOf q → not r ≡ true → p ≡ recordAt s k i → At p ≡ foundOf (lowestIn s (asksOf s q ∷ []))
+      place-fail k p d f g = lowest-here s (sectionOf q) (testOf s q) i p (found-fail (testOf s q) whole i n left h (sym e ∙ not-true r f)) (rw d at g)

@@ -10,15 +10,15 @@ use lib.ListN.{getD, set, replicate, length-set, length-replicate, getD-replicat
 use lib.Seq.{getD-set-same, getD-set-other}
 use borrow.Author.Tests.{eqb-true, eqb-false, eq-eqb, ne-eqb}
 use Rattle.limits.specs.Limits.{NODES}
-use Rattle.records.specs.declared.nodes.Role.{Role}
-use Rattle.records.specs.declared.nodes.Shape.{Shape}
+use Rattle.script.specs.declared.Role.{Role}
+use Rattle.script.specs.declared.Shape.{Shape}
 use Rattle.script.specs.Lists.{run, countIn}
 use Rattle.script.specs.declared.Section.the-variants.{Methods as methods, Nodes as nodes}
 use Rattle.script.specs.Section.{countOf, recordWord, nodeWord}
 use Rattle.script.specs.Syntax.{Point, parts}
-use Rattle.script.specs.Reading.{Kind, null-kind, var-kind, select-kind, update-kind, call-kind, bind-kind, new-kind, cast-kind, fork-kind, lock-kind, unknown-kind, kindOf, nodeOf, viewAt}
+use Rattle.script.specs.Reading.{Kind, null-kind, var-kind, select-kind, update-kind, call-kind, bind-kind, new-kind, cast-kind, fork-kind, lock-kind, unknown-kind, kindOf, shapeOf, nodeOf, viewAt}
 use Rattle.script.specs.Questions.{partsFrom, usesIn}
-use Rattle.records.specs.Uses.{shapeOf, partIn, Counted, Adds, bodiesIn}
+use Rattle.records.specs.Uses.{partIn, Counted, Adds, bodiesIn}
 
 -- How often a number stands in a list with one more at its end.
 module _ (m p : ℕ) where

@@ -1,63 +1,34 @@
--- What the code of questions 4, 6 and 7 goes by: the shapes of nodes, the table of uses, and the search of one section.
+-- What the code of questions 4, 6, 7 and 8 goes by: the table of uses, and the tests of records.
 use Prim.Native.Nat.{ℕ, _<_, min}
 use mathlib.Core.Path.{_≡_}
-use mathlib.Core.Bool.{Bool, true, false, _&&_}
+use mathlib.Core.Bool.{Bool}
 use mathlib.Core.List.{List, [], _∷_, _++_}
-use mathlib.Core.Option.{Option, none}
-use lib.Dec.{eqb, leb, ltb}
+use lib.Dec.{leb, ltb}
 use lib.ListN.{length, getD}
-use Rattle.limits.specs.Limits.{NODES}
-use Rattle.records.specs.declared.nodes.Check.{Check}
-use Rattle.records.specs.declared.nodes.Check.the-variants.{Interfaces, Types, Nodes}
-use Rattle.records.specs.declared.nodes.Role.{Role}
-use Rattle.records.specs.declared.nodes.Role.the-variants.{Unused, Number, Bound, ClassWord, TypeWord, Part, Unknown}
-use Rattle.records.specs.declared.nodes.Shape.{Shape}
+use Rattle.limits.specs.Limits.{NODES, CLASS-FIELDS}
+use Rattle.records.specs.declared.nodes.Test.{Test}
+use Rattle.records.specs.declared.nodes.Test.the-variants.{Interface, SignatureTypes, Implements, FieldType, MethodTypes, TypeWords}
+use Rattle.records.specs.declared.nodes.Test.the-variants.{Body, Node, FieldCount}
+use Rattle.script.specs.declared.Role.{Role}
+use Rattle.script.specs.declared.Role.the-variants.{Unused, Variable, Member, Bound, NewClass, CastType, Expression, Unknown}
 use Rattle.script.specs.Lists.{run, countIn}
 use Rattle.script.specs.declared.Section.{Section}
-use Rattle.script.specs.declared.Section.the-variants.{Methods as methods}
+use Rattle.script.specs.declared.Section.the-variants.{Interfaces as interfaces, Signatures as signatures, Classes as classes, Fields as fields}
+use Rattle.script.specs.declared.Section.the-variants.{Methods as methods, Nodes as nodes}
 use Rattle.script.specs.Section.{countOf, recordWord}
 use Rattle.script.specs.Syntax.{Point}
-use Rattle.script.specs.Reading.{Kind, null-kind, var-kind, select-kind, update-kind, call-kind, bind-kind, new-kind, cast-kind, fork-kind}
-use Rattle.script.specs.Reading.{lock-kind, unknown-kind}
-use Rattle.script.specs.Asking.{firstOut, placeOr}
-use Rattle.script.specs.Questions.{interfacesTest, typesTest, usesIn, nodesTest}
-
--- What the words a, b and c of a node of this kind are there for.
-abbrev pub shapeOf : Kind → Shape
-shapeOf null-kind = record { 0 = Unused; 1 = Unused; 2 = Unused }
-shapeOf var-kind = record { 0 = Number; 1 = Unused; 2 = Unused }
-shapeOf select-kind = record { 0 = Number; 1 = Number; 2 = Unused }
-shapeOf update-kind = record { 0 = Number; 1 = Number; 2 = Part }
-shapeOf call-kind = record { 0 = Number; 1 = Number; 2 = Part }
-shapeOf bind-kind = record { 0 = Bound; 1 = Part; 2 = Part }
-shapeOf new-kind = record { 0 = ClassWord; 1 = Unused; 2 = Unused }
-shapeOf cast-kind = record { 0 = TypeWord; 1 = Part; 2 = Unused }
-shapeOf fork-kind = record { 0 = Part; 1 = Part; 2 = Part }
-shapeOf lock-kind = record { 0 = Number; 1 = Part; 2 = Unused }
-shapeOf unknown-kind = record { 0 = Unknown; 1 = Unknown; 2 = Unknown }
-
--- What question 7 asks of a word of this role in node n, there being so many nodes.
-abbrev pub wordTest : Role → ℕ → Point → ℕ → Bool
-wordTest Unused w n count = eqb w 0
-wordTest Number w n count = true
-wordTest Bound w n count = leb 2 w
-wordTest ClassWord w n count = true
-wordTest TypeWord w n count = true
-wordTest Part w n count = ltb n w && ltb w count
-wordTest Unknown w n count = false
-
--- And what it asks of the words a, b and c of node n.
-abbrev pub shapeTest : Shape → ℕ → ℕ → ℕ → Point → ℕ → Bool
-shapeTest shape a b c n count = wordTest (shape .0) a n count && (wordTest (shape .1) b n count && wordTest (shape .2) c n count)
+use Rattle.script.specs.Reading.{ownFields}
+use Rattle.script.specs.Questions.{interfaceTest, typeTest, interfaceTypeTest, typeWordTest, wordsTest, twoTypesTest, usesIn, nodeTest}
 
 -- The part that a word of this role is.
 abbrev pub partIn : Role → ℕ → List Point
 partIn Unused w = []
-partIn Number w = []
+partIn Variable w = []
+partIn Member w = []
 partIn Bound w = []
-partIn ClassWord w = []
-partIn TypeWord w = []
-partIn Part w = w ∷ []
+partIn NewClass w = []
+partIn CastType w = []
+partIn Expression w = w ∷ []
 partIn Unknown w = []
 
 -- A table says of each node how often it is in a list of uses, more than two uses counting as two.
@@ -73,18 +44,40 @@ Adds uses after more = (l : List Point) → Counted uses l → Counted after (l 
 unfoldable pub bodiesIn : List ℕ → ℕ → List Point
 bodiesIn s n = run (λ i. recordWord s methods i 3) 0 n
 
--- The test of a question about records.
-abbrev pub testOf : List ℕ → Check → Section → ℕ → Bool
-testOf s Interfaces k i = interfacesTest s k i
-testOf s Types k i = typesTest s k i
-testOf s Nodes k i = nodesTest s k i
+-- The section whose records a test is for, and what it asks of them.
+abbrev pub sectionOf : Test → Section
+sectionOf Interface = interfaces
+sectionOf SignatureTypes = signatures
+sectionOf Implements = classes
+sectionOf FieldType = fields
+sectionOf MethodTypes = methods
+sectionOf TypeWords = nodes
+sectionOf Body = methods
+sectionOf Node = nodes
+sectionOf FieldCount = classes
 
--- The table that a question needs: only question 7 looks at the uses.
-abbrev pub Ready : List ℕ → List ℕ → Check → Type 0
-Ready s uses Interfaces = Unit {0}
-Ready s uses Types = Unit {0}
-Ready s uses Nodes = Counted uses (usesIn s)
+abbrev pub testOf : List ℕ → Test → ℕ → Bool
+testOf s Interface i = interfaceTest s i
+testOf s SignatureTypes i = twoTypesTest s signatures i
+testOf s Implements i = interfaceTypeTest s (recordWord s classes i 0)
+testOf s FieldType i = typeTest s (recordWord s fields i 1)
+testOf s MethodTypes i = twoTypesTest s methods i
+testOf s TypeWords n = wordsTest s (typeWordTest s) n
+testOf s Body i = ltb (recordWord s methods i 3) (countOf s nodes)
+testOf s Node n = nodeTest s n
+testOf s FieldCount i = leb (ownFields s i) CLASS-FIELDS
 
--- The place of the first record of a section that does not pass.
-unfoldable pub placeOut : List ℕ → Check → Section → Option ℕ
-placeOut s q k = placeOr s k (firstOut (testOf s q k) 0 (countOf s k)) none
+abbrev pub asksOf : List ℕ → Test → Section × (ℕ → Bool)
+asksOf s q = (sectionOf q, testOf s q)
+
+-- The table that a test needs: only that of nodes looks at the uses.
+abbrev pub Ready : List ℕ → List ℕ → Test → Type 0
+Ready s uses Interface = Unit {0}
+Ready s uses SignatureTypes = Unit {0}
+Ready s uses Implements = Unit {0}
+Ready s uses FieldType = Unit {0}
+Ready s uses MethodTypes = Unit {0}
+Ready s uses TypeWords = Unit {0}
+Ready s uses Body = Unit {0}
+Ready s uses Node = Counted uses (usesIn s)
+Ready s uses FieldCount = Unit {0}

@@ -1,67 +1,39 @@
 // Questions 4, 6 and 7: each record by itself, and the lowest that is at fault.
 use limits::Limits;
 use script::Found;
+use script::Role;
 use script::Section;
+use script::Shape;
 use sections::count_of;
+use sections::own_count;
 use sections::record_at;
 use sections::record_word;
 ghost use mathlib.Core.Path.{_≡_};
-ghost use mathlib.Core.Bool.{_&&_};
 ghost use mathlib.Core.List.{[], _∷_};
 ghost use Prim.Native.Nat.{_<_};
 ghost use lib.ListN.{length, getD};
 ghost use lib.Dec.{eqb};
-ghost use Rattle.script.specs.Section.{sizeOf, countOf, recordWord};
+ghost use Rattle.script.specs.Section.{sizeOf, countOf};
 ghost use Rattle.script.specs.Syntax.{parts};
-ghost use Rattle.script.specs.Reading.{kindOf, viewAt};
-ghost use Rattle.script.specs.Asking.{lowestOut};
-ghost use Rattle.script.specs.Questions.{
-  earlierTest,
-  interfaceTest,
-  interfacesTest,
-  typeTest,
-  interfaceTypeTest,
-  classTypeTest,
-  operandTest,
-  typesTest,
-  partsFrom,
-  dueUses,
-  nodeTest,
-  nodesTest,
-};
+ghost use Rattle.script.specs.Reading.{kindOf, shapeOf, viewAt};
+ghost use Rattle.script.specs.Asking.{lowestIn};
+ghost use Rattle.script.specs.Questions.{earlierTest, interfaceTest, interfacesTest, typeTest, interfaceTypeTest, classTypeTest, typeWordTest, wordsTest};
+ghost use Rattle.script.specs.Questions.{twoTypesTest, typesTest, wordTest, partsFrom, usesIn, dueUses, nodeTest, nodesTest};
 ghost use Rattle.sections.specs.Laid.{Laid, foundOf};
-ghost use Rattle.records.specs.Uses.{
-  shapeOf,
-  wordTest,
-  shapeTest,
-  partIn,
-  bodiesIn,
-  Adds,
-  testOf,
-  Ready,
-  placeOut,
-};
+ghost use Rattle.records.specs.Uses.{partIn, bodiesIn, Counted, Adds, sectionOf, testOf, asksOf, Ready};
 
-// The questions that each record answers by itself.
-enum Check {
-    Interfaces,
-    Types,
-    Nodes,
+// What questions 4, 6, 7 and 8 ask of the records of one section, each by itself.
+pub enum Test {
+    Interface,
+    SignatureTypes,
+    Implements,
+    FieldType,
+    MethodTypes,
+    TypeWords,
+    Body,
+    Node,
+    FieldCount,
 }
-
-// What a node's word is there for.
-enum Role {
-    Unused,
-    Number,
-    Bound,
-    ClassWord,
-    TypeWord,
-    Part,
-    Unknown,
-}
-
-// The words a, b and c of the nodes of some kind.
-struct Shape(Role, Role, Role);
 
 // Is t the type of an interface before record i?
 fn earlier_fits(i: usize, t: u16) -> bool
@@ -93,21 +65,6 @@ fn interface_fits(s: &[u8], i: usize) -> bool
     earlier_fits(i, b)
 }
 
-// 4, of a record of any section.
-fn interfaces_fit(s: &[u8], k: Section, i: usize) -> bool
-    requires { ⌜ Laid (now s) × (i < countOf (now s) k) ⌝ }
-    ensures { λ r. ⌜ r ≡ interfacesTest (now (s .entry)) k i ⌝ }
-{
-    match k {
-        Section::Interfaces => interface_fits(s, i),
-        Section::Signatures => true,
-        Section::Classes => true,
-        Section::Fields => true,
-        Section::Methods => true,
-        Section::Nodes => true,
-    }
-}
-
 // Is a word a type?
 fn type_fits(s: &[u8], t: u16) -> bool
     requires { ⌜ Laid (now s) ⌝ }
@@ -132,19 +89,17 @@ fn class_type_fits(s: &[u8], t: u16) -> bool
     requires { ⌜ Laid (now s) ⌝ }
     ensures { λ r. ⌜ r ≡ classTypeTest (now (s .entry)) t ⌝ }
 {
-    if t as usize <= count_of(s, Section::Interfaces) {
+    let interfaces = count_of(s, Section::Interfaces);
+    if t as usize <= interfaces {
         return false;
     }
-    type_fits(s, t)
+    t as usize <= interfaces + count_of(s, Section::Classes)
 }
 
 // Are words 1 and 2 of a signature or method types?
 fn two_types_fit(s: &[u8], k: Section, i: usize) -> bool
     requires { ⌜ Laid (now s) × (i < countOf (now s) k) × (5 < sizeOf k) ⌝ }
-    ensures { λ r. ⌜
-        r ≡ (typeTest (now (s .entry)) (recordWord (now (s .entry)) k i 1) &&
-        typeTest (now (s .entry)) (recordWord (now (s .entry)) k i 2))
-        ⌝ }
+    ensures { λ r. ⌜ r ≡ twoTypesTest (now (s .entry)) k i ⌝ }
 {
     let t = record_word(s, k, i, 1);
     if !type_fits(s, t) {
@@ -160,95 +115,92 @@ fn shape_of(kind: u16) -> Shape
 {
     match kind {
         0 => Shape(Role::Unused, Role::Unused, Role::Unused),
-        1 => Shape(Role::Number, Role::Unused, Role::Unused),
-        2 => Shape(Role::Number, Role::Number, Role::Unused),
-        3 => Shape(Role::Number, Role::Number, Role::Part),
-        4 => Shape(Role::Number, Role::Number, Role::Part),
-        5 => Shape(Role::Bound, Role::Part, Role::Part),
-        6 => Shape(Role::ClassWord, Role::Unused, Role::Unused),
-        7 => Shape(Role::TypeWord, Role::Part, Role::Unused),
-        8 => Shape(Role::Part, Role::Part, Role::Part),
-        9 => Shape(Role::Number, Role::Part, Role::Unused),
+        1 => Shape(Role::Variable, Role::Unused, Role::Unused),
+        2 => Shape(Role::Variable, Role::Member, Role::Unused),
+        3 => Shape(Role::Variable, Role::Member, Role::Expression),
+        4 => Shape(Role::Variable, Role::Member, Role::Expression),
+        5 => Shape(Role::Bound, Role::Expression, Role::Expression),
+        6 => Shape(Role::NewClass, Role::Unused, Role::Unused),
+        7 => Shape(Role::CastType, Role::Expression, Role::Unused),
+        8 => Shape(Role::Expression, Role::Expression, Role::Expression),
+        9 => Shape(Role::Variable, Role::Expression, Role::Unused),
         _ => Shape(Role::Unknown, Role::Unknown, Role::Unknown),
     }
 }
 
-// 6, of a node: is a `new` operand a class, and that of a cast a type?
-fn operand_fits(s: &[u8], n: usize) -> bool
-    requires { ⌜ Laid (now s) × (n < countOf (now s) Section.Nodes) ⌝ }
-    ensures { λ r. ⌜ r ≡ operandTest (now (s .entry)) (viewAt (now (s .entry)) n) ⌝ }
+// 6, of a node's word: is a `new` operand a class, and a type word a type?
+fn type_word_fits(s: &[u8], role: Role, w: u16) -> bool
+    requires { ⌜ Laid (now s) ⌝ }
+    ensures { λ r. ⌜ r ≡ typeWordTest (now (s .entry)) role w ⌝ }
 {
-    let kind = record_word(s, Section::Nodes, n, 0);
-    let a = record_word(s, Section::Nodes, n, 1);
-    let shape = shape_of(kind);
-    let role = shape.0;
     match role {
         Role::Unused => true,
-        Role::Number => true,
+        Role::Variable => true,
+        Role::Member => true,
         Role::Bound => true,
-        Role::ClassWord => class_type_fits(s, a),
-        Role::TypeWord => type_fits(s, a),
-        Role::Part => true,
+        Role::NewClass => class_type_fits(s, w),
+        Role::CastType => type_fits(s, w),
+        Role::Expression => true,
         Role::Unknown => true,
     }
 }
 
-// 6. Is every type word of a record a type, a class's interface an interface, a `new` operand a class?
-fn types_fit(s: &[u8], k: Section, i: usize) -> bool
-    requires { ⌜ Laid (now s) × (i < countOf (now s) k) ⌝ }
-    ensures { λ r. ⌜ r ≡ typesTest (now (s .entry)) k i ⌝ }
+// 6, of a node.
+fn type_words_fit(s: &[u8], n: usize) -> bool
+    requires { ⌜ Laid (now s) × (n < countOf (now s) Section.Nodes) ⌝ }
+    ensures { λ r. ⌜ r ≡ wordsTest (now (s .entry)) (typeWordTest (now (s .entry))) n ⌝ }
 {
-    match k {
-        Section::Interfaces => true,
-        Section::Signatures => two_types_fit(s, Section::Signatures, i),
-        Section::Classes => {
-            let t = record_word(s, Section::Classes, i, 0);
-            interface_type_fits(s, t)
-        }
-        Section::Fields => {
-            let t = record_word(s, Section::Fields, i, 1);
-            type_fits(s, t)
-        }
-        Section::Methods => two_types_fit(s, Section::Methods, i),
-        Section::Nodes => operand_fits(s, i),
+    let shape = shape_of(record_word(s, Section::Nodes, n, 0));
+    let role_a = shape.0;
+    if !type_word_fits(s, role_a, record_word(s, Section::Nodes, n, 1)) {
+        return false;
     }
+    let role_b = shape.1;
+    if !type_word_fits(s, role_b, record_word(s, Section::Nodes, n, 2)) {
+        return false;
+    }
+    let role_c = shape.2;
+    type_word_fits(s, role_c, record_word(s, Section::Nodes, n, 3))
 }
 
 // 7, of a word of node n: unused words are 0, a let variable 2 or more, and parts later than n and there.
-fn word_fits(role: Role, w: u16, n: usize, count: usize) -> bool
-    ensures { λ r. ⌜ r ≡ wordTest role w n count ⌝ }
+fn word_fits(s: &[u8], n: usize, role: Role, w: u16) -> bool
+    requires { ⌜ Laid (now s) ⌝ }
+    ensures { λ r. ⌜ r ≡ wordTest (now (s .entry)) n role w ⌝ }
 {
     match role {
         Role::Unused => w == 0,
-        Role::Number => true,
+        Role::Variable => true,
+        Role::Member => true,
         Role::Bound => 2 <= w,
-        Role::ClassWord => true,
-        Role::TypeWord => true,
-        Role::Part => {
+        Role::NewClass => true,
+        Role::CastType => true,
+        Role::Expression => {
             if w as usize <= n {
                 return false;
             }
-            (w as usize) < count
+            (w as usize) < count_of(s, Section::Nodes)
         }
         Role::Unknown => false,
     }
 }
 
 // 7, of the words of node n.
-fn words_fit(kind: u16, a: u16, b: u16, c: u16, n: usize, count: usize) -> bool
-    ensures { λ r. ⌜ r ≡ shapeTest (shapeOf (kindOf kind)) a b c n count ⌝ }
+fn words_fit(s: &[u8], n: usize) -> bool
+    requires { ⌜ Laid (now s) × (n < countOf (now s) Section.Nodes) ⌝ }
+    ensures { λ r. ⌜ r ≡ wordsTest (now (s .entry)) (wordTest (now (s .entry)) n) n ⌝ }
 {
-    let shape = shape_of(kind);
+    let shape = shape_of(record_word(s, Section::Nodes, n, 0));
     let role_a = shape.0;
-    if !word_fits(role_a, a, n, count) {
+    if !word_fits(s, n, role_a, record_word(s, Section::Nodes, n, 1)) {
         return false;
     }
     let role_b = shape.1;
-    if !word_fits(role_b, b, n, count) {
+    if !word_fits(s, n, role_b, record_word(s, Section::Nodes, n, 2)) {
         return false;
     }
     let role_c = shape.2;
-    word_fits(role_c, c, n, count)
+    word_fits(s, n, role_c, record_word(s, Section::Nodes, n, 3))
 }
 
 // Is node n used as often as it is to be?
@@ -264,59 +216,69 @@ fn use_fits(uses: &[u8], n: usize) -> bool
 
 // 7, of a node: its words, and how often it is used.
 fn node_fits(s: &[u8], uses: &[u8], n: usize) -> bool
-    requires { ⌜ Laid (now s) × Ready (now s) (now uses) Check.Nodes × (n < countOf (now s) Section.Nodes) ⌝ }
+    requires { ⌜ Laid (now s) × Counted (now uses) (usesIn (now s)) × (n < countOf (now s) Section.Nodes) ⌝ }
     ensures { λ r. ⌜ r ≡ nodeTest (now (s .entry)) n ⌝ }
 {
-    let kind = record_word(s, Section::Nodes, n, 0);
-    let a = record_word(s, Section::Nodes, n, 1);
-    let b = record_word(s, Section::Nodes, n, 2);
-    let c = record_word(s, Section::Nodes, n, 3);
-    let count = count_of(s, Section::Nodes);
-    if !words_fit(kind, a, b, c, n, count) {
+    if !words_fit(s, n) {
         return false;
     }
     use_fits(uses, n)
 }
 
-// 7, of a record of any section: a missing body is the method's fault.
-fn nodes_fit(s: &[u8], uses: &[u8], k: Section, i: usize) -> bool
-    requires { ⌜ Laid (now s) × Ready (now s) (now uses) Check.Nodes × (i < countOf (now s) k) ⌝ }
-    ensures { λ r. ⌜ r ≡ nodesTest (now (s .entry)) k i ⌝ }
+// The section whose records a test is for.
+fn section_of(q: Test) -> Section
+    ensures { λ r. ⌜ r ≡ sectionOf q ⌝ }
 {
-    match k {
-        Section::Interfaces => true,
-        Section::Signatures => true,
-        Section::Classes => true,
-        Section::Fields => true,
-        Section::Methods => {
+    match q {
+        Test::Interface => Section::Interfaces,
+        Test::SignatureTypes => Section::Signatures,
+        Test::Implements => Section::Classes,
+        Test::FieldType => Section::Fields,
+        Test::MethodTypes => Section::Methods,
+        Test::TypeWords => Section::Nodes,
+        Test::Body => Section::Methods,
+        Test::Node => Section::Nodes,
+        Test::FieldCount => Section::Classes,
+    }
+}
+
+// Does record i of its section pass a test?
+fn record_fits(s: &[u8], uses: &[u8], q: Test, i: usize) -> bool
+    requires { ⌜ Laid (now s) × Ready (now s) (now uses) q × (i < countOf (now s) (sectionOf q)) ⌝ }
+    ensures { λ r. ⌜ r ≡ testOf (now (s .entry)) q i ⌝ }
+{
+    match q {
+        Test::Interface => interface_fits(s, i),
+        Test::SignatureTypes => two_types_fit(s, Section::Signatures, i),
+        Test::Implements => {
+            let t = record_word(s, Section::Classes, i, 0);
+            interface_type_fits(s, t)
+        }
+        Test::FieldType => {
+            let t = record_word(s, Section::Fields, i, 1);
+            type_fits(s, t)
+        }
+        Test::MethodTypes => two_types_fit(s, Section::Methods, i),
+        Test::TypeWords => type_words_fit(s, i),
+        Test::Body => {
             let body = record_word(s, Section::Methods, i, 3);
             (body as usize) < count_of(s, Section::Nodes)
         }
-        Section::Nodes => node_fits(s, uses, i),
+        Test::Node => node_fits(s, uses, i),
+        Test::FieldCount => own_count(s, Section::Fields, i) <= Limits::CLASS_FIELDS,
     }
 }
 
-// Does record i of section k pass?
-fn record_fits(s: &[u8], uses: &[u8], q: Check, k: Section, i: usize) -> bool
-    requires { ⌜ Laid (now s) × Ready (now s) (now uses) q × (i < countOf (now s) k) ⌝ }
-    ensures { λ r. ⌜ r ≡ testOf (now (s .entry)) q k i ⌝ }
-{
-    match q {
-        Check::Interfaces => interfaces_fit(s, k, i),
-        Check::Types => types_fit(s, k, i),
-        Check::Nodes => nodes_fit(s, uses, k, i),
-    }
-}
-
-// The place of the first record of section k that does not pass.
-fn first_out(s: &[u8], uses: &[u8], q: Check, k: Section) -> Found
+// The place of the first record that does not pass a test.
+pub fn first_out(s: &[u8], uses: &[u8], q: Test) -> Found
     requires { ⌜ Laid (now s) × Ready (now s) (now uses) q ⌝ }
-    ensures { λ r. ⌜ r ≡ foundOf (placeOut (now (s .entry)) q k) ⌝ }
+    ensures { λ r. ⌜ r ≡ foundOf (lowestIn (now (s .entry)) (asksOf (now (s .entry)) q ∷ [])) ⌝ }
 {
+    let k = section_of(q);
     let n = count_of(s, k);
     let mut i: usize = 0;
     while i < n {
-        if !record_fits(s, uses, q, k, i) {
+        if !record_fits(s, uses, q, i) {
             return Found::At(record_at(s, k, i));
         }
         i += 1;
@@ -345,11 +307,12 @@ fn count_word(uses: &mut [u8; Limits::NODES], role: Role, w: u16)
 {
     match role {
         Role::Unused => {}
-        Role::Number => {}
+        Role::Variable => {}
+        Role::Member => {}
         Role::Bound => {}
-        Role::ClassWord => {}
-        Role::TypeWord => {}
-        Role::Part => count_use(uses, w),
+        Role::NewClass => {}
+        Role::CastType => {}
+        Role::Expression => count_use(uses, w),
         Role::Unknown => {}
     }
 }
@@ -359,17 +322,13 @@ fn count_parts(s: &[u8], uses: &mut [u8; Limits::NODES], n: usize)
     requires { ⌜ Laid (now s) × (n < countOf (now s) Section.Nodes) ⌝ }
     ensures { λ r. ⌜ Adds (now (uses .entry)) (now (uses .exit)) (parts (viewAt (now (s .entry)) n)) ⌝ }
 {
-    let kind = record_word(s, Section::Nodes, n, 0);
-    let a = record_word(s, Section::Nodes, n, 1);
-    let b = record_word(s, Section::Nodes, n, 2);
-    let c = record_word(s, Section::Nodes, n, 3);
-    let shape = shape_of(kind);
+    let shape = shape_of(record_word(s, Section::Nodes, n, 0));
     let role_a = shape.0;
+    count_word(uses, role_a, record_word(s, Section::Nodes, n, 1));
     let role_b = shape.1;
+    count_word(uses, role_b, record_word(s, Section::Nodes, n, 2));
     let role_c = shape.2;
-    count_word(uses, role_a, a);
-    count_word(uses, role_b, b);
-    count_word(uses, role_c, c);
+    count_word(uses, role_c, record_word(s, Section::Nodes, n, 3));
 }
 
 // The uses as bodies of methods.
@@ -402,46 +361,46 @@ fn count_nodes(s: &[u8], uses: &mut [u8; Limits::NODES])
 // The place of a no to question 4.
 pub fn interfaces_no(s: &[u8]) -> Found
     requires { ⌜ Laid (now s) ⌝ }
-    ensures { λ r. ⌜ r ≡ foundOf (lowestOut (now (s .entry)) (interfacesTest (now (s .entry)))) ⌝ }
+    ensures { λ r. ⌜ r ≡ foundOf (lowestIn (now (s .entry)) (interfacesTest (now (s .entry)))) ⌝ }
 {
-    first_out(s, b"", Check::Interfaces, Section::Interfaces)
+    first_out(s, b"", Test::Interface)
 }
 
 // The place of a no to question 6.
 pub fn types_no(s: &[u8]) -> Found
     requires { ⌜ Laid (now s) ⌝ }
-    ensures { λ r. ⌜ r ≡ foundOf (lowestOut (now (s .entry)) (typesTest (now (s .entry)))) ⌝ }
+    ensures { λ r. ⌜ r ≡ foundOf (lowestIn (now (s .entry)) (typesTest (now (s .entry)))) ⌝ }
 {
-    let in_signatures = first_out(s, b"", Check::Types, Section::Signatures);
+    let in_signatures = first_out(s, b"", Test::SignatureTypes);
     if let Found::At(_) = in_signatures {
         return in_signatures;
     }
-    let in_classes = first_out(s, b"", Check::Types, Section::Classes);
+    let in_classes = first_out(s, b"", Test::Implements);
     if let Found::At(_) = in_classes {
         return in_classes;
     }
-    let in_fields = first_out(s, b"", Check::Types, Section::Fields);
+    let in_fields = first_out(s, b"", Test::FieldType);
     if let Found::At(_) = in_fields {
         return in_fields;
     }
-    let in_methods = first_out(s, b"", Check::Types, Section::Methods);
+    let in_methods = first_out(s, b"", Test::MethodTypes);
     if let Found::At(_) = in_methods {
         return in_methods;
     }
-    first_out(s, b"", Check::Types, Section::Nodes)
+    first_out(s, b"", Test::TypeWords)
 }
 
 // The place of a no to question 7.
 pub fn nodes_no(s: &[u8]) -> Found
     requires { ⌜ Laid (now s) ⌝ }
-    ensures { λ r. ⌜ r ≡ foundOf (lowestOut (now (s .entry)) (nodesTest (now (s .entry)))) ⌝ }
+    ensures { λ r. ⌜ r ≡ foundOf (lowestIn (now (s .entry)) (nodesTest (now (s .entry)))) ⌝ }
 {
     let mut uses = [0u8; Limits::NODES];
     count_bodies(s, &mut uses);
     count_nodes(s, &mut uses);
-    let in_methods = first_out(s, &uses, Check::Nodes, Section::Methods);
+    let in_methods = first_out(s, &uses, Test::Body);
     if let Found::At(_) = in_methods {
         return in_methods;
     }
-    first_out(s, &uses, Check::Nodes, Section::Nodes)
+    first_out(s, &uses, Test::Node)
 }

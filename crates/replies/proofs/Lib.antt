@@ -1,3 +1,3 @@
-pub mod PlayLaws
+pub mod RunBlockLaws
 pub mod Standing
 pub mod OfferLaws

@@ -20,7 +20,7 @@ use Rattle.block.specs.Fits.{Few}
 use Rattle.block.specs.Decode.{configIn}
 use Rattle.block.proofs.Words.{count-is}
 use Rattle.tree.specs.declared.Tree.{Tree}
-use Rattle.state.specs.Hand.{InHand}
+use Rattle.state.specs.Represents.{Represents}
 use Rattle.state.specs.Positions.{Taken}
 use Rattle.enabled.specs.Looks.{Standing}
 use Rattle.calls.specs.Calls.{configOf}
@@ -47,9 +47,9 @@ module _ (s : List ℕ) (bytes : (i : ℕ) → getD s i 0 < 256) (t : ℕ) (acc 
   pub few-positions : counted b Positions ≤ POSITIONS
   few-positions = rw (held .is) (omega (arith, count-is (partsOf c) Positions, few Positions))
 
-  -- and what is in hand then stands
-  pub in-hand : {r : Tree} → Taken b r → InHand b r c
+  -- and what block and tree represent then stands
+  pub in-hand : {r : Tree} → Taken b r → Represents b r c
   in-hand taken = taken c (held .is) few
 
-  abbrev pub stands : {r : Tree} → InHand b r c → Standing s b r
-  stands hand = record { config = c; type = t; hand = hand; accepted = accepts s bytes t acc; formed = held .well }
+  abbrev pub stands : {r : Tree} → Represents b r c → Standing s b r
+  stands represents = record { config = c; type = t; represents = represents; accepted = accepts s bytes t acc; formed = held .well }

@@ -6,7 +6,7 @@ pub use offers::offer;
 pub use running::run;
 
 // What Run returns for a block that is well formed; every number is 0 for one that is not.
-pub struct Played {
+pub struct RunResult {
     pub formed: bool,
     pub stop: u16,
     pub read: u16,

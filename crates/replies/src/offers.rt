@@ -10,8 +10,7 @@ ghost use Rattle.limits.specs.Limits.{BLOCK, FLAGS};
 ghost use Rattle.script.specs.Statements.{WithinLayout};
 ghost use Rattle.typing.specs.declared.Verdict.the-variants.{Accepted};
 ghost use Rattle.typing.specs.Check.{checkOf};
-ghost use Rattle.sharing.specs.Free.{NAMES};
-ghost use Rattle.inference.specs.Tables.{FEW-NAMES, Named};
+ghost use Rattle.inference.specs.Tables.{Named};
 ghost use Rattle.environments.specs.Chains.{Zeros};
 ghost use Rattle.calls.specs.Calls.{askForm, configOf, offeredFrom};
 ghost use Rattle.calls.specs.Answers.{found};
@@ -39,35 +38,7 @@ fn flag(s: &[u8], table: &mut [u16], t: u16, block: &[u8], flags: &mut [u8]) -> 
     true
 }
 
-// With a table for the variables below 1,024, which most scripts are content with.
-fn offer_few(s: &[u8], t: u16, block: &[u8], flags: &mut [u8]) -> bool
-    requires { ⌜ WithinLayout (now s) × Named (now s) FEW-NAMES × (checkOf (now s) ≡ Accepted t) ⌝ }
-    requires { ⌜ (length (now block) ≡ BLOCK) × (length (now flags) ≡ FLAGS) ⌝ }
-    ensures formed { λ r. ⌜ r ≡ found (configOf (now (s .entry)) t (now (block .entry))) ⌝ }
-    ensures flags { λ r. ⌜
-        now (flags .exit) ≡ offeredFrom (now (s .entry)) (now (block .entry)) (now (flags .entry))
-        (askForm (configOf (now (s .entry)) t (now (block .entry)))) .flags
-        ⌝ }
-{
-    let mut table = [0u16; FEW_NAMES];
-    flag(s, &mut table, t, block, flags)
-}
-
-// With a table for every variable.
-fn offer_many(s: &[u8], t: u16, block: &[u8], flags: &mut [u8]) -> bool
-    requires { ⌜ WithinLayout (now s) × Named (now s) NAMES × (checkOf (now s) ≡ Accepted t) ⌝ }
-    requires { ⌜ (length (now block) ≡ BLOCK) × (length (now flags) ≡ FLAGS) ⌝ }
-    ensures formed { λ r. ⌜ r ≡ found (configOf (now (s .entry)) t (now (block .entry))) ⌝ }
-    ensures flags { λ r. ⌜
-        now (flags .exit) ≡ offeredFrom (now (s .entry)) (now (block .entry)) (now (flags .entry))
-        (askForm (configOf (now (s .entry)) t (now (block .entry)))) .flags
-        ⌝ }
-{
-    let mut table = [0u16; NAMES];
-    flag(s, &mut table, t, block, flags)
-}
-
-// Offer on an accepted script whose start has type t: question 21, and then the flags.
+// Offer on an accepted script whose start has type t: question 21, and then the flags. A table for the variables below 1,024 is enough for most scripts.
 pub fn offer(s: &[u8], t: u16, block: &[u8], flags: &mut [u8]) -> bool
     requires { ⌜ WithinLayout (now s) × (checkOf (now s) ≡ Accepted t) ⌝ }
     requires { ⌜ (length (now block) ≡ BLOCK) × (length (now flags) ≡ FLAGS) ⌝ }
@@ -78,7 +49,9 @@ pub fn offer(s: &[u8], t: u16, block: &[u8], flags: &mut [u8]) -> bool
         ⌝ }
 {
     if inference::name_bound(s) <= FEW_NAMES {
-        return offer_few(s, t, block, flags);
+        let mut table = [0u16; FEW_NAMES];
+        return flag(s, &mut table, t, block, flags);
     }
-    offer_many(s, t, block, flags)
+    let mut table = [0u16; NAMES];
+    flag(s, &mut table, t, block, flags)
 }

@@ -1,5 +1,5 @@
 // Run.
-use crate::Played;
+use crate::RunResult;
 use inference::FEW_NAMES;
 use limits::Limits;
 use members::RUNS;
@@ -11,28 +11,27 @@ ghost use Rattle.limits.specs.Limits.{BLOCK, CHOICES};
 ghost use Rattle.script.specs.Statements.{WithinLayout};
 ghost use Rattle.typing.specs.declared.Verdict.the-variants.{Accepted};
 ghost use Rattle.typing.specs.Check.{checkOf};
-ghost use Rattle.sharing.specs.Free.{NAMES};
-ghost use Rattle.inference.specs.Tables.{FEW-NAMES, Named};
+ghost use Rattle.inference.specs.Tables.{Named};
 ghost use Rattle.inference.specs.At.{Blank};
 ghost use Rattle.machine.specs.Config.{codeOf};
 ghost use Rattle.machine.specs.Machine.{limits};
 ghost use Rattle.machine.specs.Runs.{report};
 ghost use Rattle.environments.specs.Chains.{Zeros};
 ghost use Rattle.calls.specs.Calls.{configOf};
-ghost use Rattle.replies.specs.Plays.{Reported, Plays, Playable};
+ghost use Rattle.replies.specs.RunResults.{Reported, ResultOfRun, Runnable};
 
 // The run of a block that holds a configuration: the tree is taken out, moved and written back.
-fn play_formed(
+fn run_formed(
     s: &[u8],
     starts: &[u16],
     forks: &[u8],
     table: &mut [u16],
     block: &mut [u8],
     choices: &[u8],
-) -> Played
-    requires { ⌜ Blank (now s) (now starts) (now forks) (now table) × Playable (now s) (now block) × (length (now choices) ≤ CHOICES) ⌝ }
+) -> RunResult
+    requires { ⌜ Blank (now s) (now starts) (now forks) (now table) × Runnable (now s) (now block) × (length (now choices) ≤ CHOICES) ⌝ }
     ensures { λ r. ⌜
-        ((x : Playable (now (s .entry)) (now (block .entry))) →
+        ((x : Runnable (now (s .entry)) (now (block .entry))) →
         Reported (report (codeOf (now (s .entry))) limits (x .config) (now (choices .entry))) (now (block .exit)) r)
         ⌝ }
 {
@@ -42,7 +41,7 @@ fn play_formed(
     state::put_tree(block, left);
     let stop = ran.stop;
     let number = machine::stop_number(stop);
-    Played {
+    RunResult {
         formed: true,
         stop: number,
         read: ran.read as u16,
@@ -51,11 +50,11 @@ fn play_formed(
 }
 
 // Question 21, and then the run.
-fn play(s: &[u8], table: &mut [u16], t: u16, block: &mut [u8], choices: &[u8]) -> Played
+fn run_block(s: &[u8], table: &mut [u16], t: u16, block: &mut [u8], choices: &[u8]) -> RunResult
     requires { ⌜ WithinLayout (now s) × Named (now s) (length (now table)) × Zeros (now table) × (checkOf (now s) ≡ Accepted t) ⌝ }
     requires { ⌜ (length (now block) ≡ BLOCK) × (length (now choices) ≤ CHOICES) ⌝ }
     ensures { λ r. ⌜
-        Plays (now (s .entry)) (now (block .entry)) (now (choices .entry)) (configOf (now (s .entry)) t (now (block .entry))) (now (block .exit)) r
+        ResultOfRun (now (s .entry)) (now (block .entry)) (now (choices .entry)) (configOf (now (s .entry)) t (now (block .entry))) (now (block .exit)) r
         ⌝ }
 {
     let mut starts = [0u16; RUNS];
@@ -63,50 +62,28 @@ fn play(s: &[u8], table: &mut [u16], t: u16, block: &mut [u8], choices: &[u8]) -
     let mut forks = [0u8; Limits::NODES];
     sharing::fill_forks(s, &mut forks);
     if !wellformed::well_formed(s, &starts, &forks, table, t, block) {
-        return Played {
+        return RunResult {
             formed: false,
             stop: 0,
             read: 0,
             moves: 0,
         };
     }
-    play_formed(s, &starts, &forks, table, block, choices)
+    run_formed(s, &starts, &forks, table, block, choices)
 }
 
-// With a table for the variables below 1,024, which most scripts are content with.
-fn run_few(s: &[u8], t: u16, block: &mut [u8], choices: &[u8]) -> Played
-    requires { ⌜ WithinLayout (now s) × Named (now s) FEW-NAMES × (checkOf (now s) ≡ Accepted t) ⌝ }
-    requires { ⌜ (length (now block) ≡ BLOCK) × (length (now choices) ≤ CHOICES) ⌝ }
-    ensures { λ r. ⌜
-        Plays (now (s .entry)) (now (block .entry)) (now (choices .entry)) (configOf (now (s .entry)) t (now (block .entry))) (now (block .exit)) r
-        ⌝ }
-{
-    let mut table = [0u16; FEW_NAMES];
-    play(s, &mut table, t, block, choices)
-}
-
-// With a table for every variable.
-fn run_many(s: &[u8], t: u16, block: &mut [u8], choices: &[u8]) -> Played
-    requires { ⌜ WithinLayout (now s) × Named (now s) NAMES × (checkOf (now s) ≡ Accepted t) ⌝ }
-    requires { ⌜ (length (now block) ≡ BLOCK) × (length (now choices) ≤ CHOICES) ⌝ }
-    ensures { λ r. ⌜
-        Plays (now (s .entry)) (now (block .entry)) (now (choices .entry)) (configOf (now (s .entry)) t (now (block .entry))) (now (block .exit)) r
-        ⌝ }
-{
-    let mut table = [0u16; NAMES];
-    play(s, &mut table, t, block, choices)
-}
-
-// Run on an accepted script whose start has type t: question 21, and then the run.
-pub fn run(s: &[u8], t: u16, block: &mut [u8], choices: &[u8]) -> Played
+// Run on an accepted script whose start has type t: question 21, and then the run. A table for the variables below 1,024 is enough for most scripts.
+pub fn run(s: &[u8], t: u16, block: &mut [u8], choices: &[u8]) -> RunResult
     requires { ⌜ WithinLayout (now s) × (checkOf (now s) ≡ Accepted t) ⌝ }
     requires { ⌜ (length (now block) ≡ BLOCK) × (length (now choices) ≤ CHOICES) ⌝ }
     ensures { λ r. ⌜
-        Plays (now (s .entry)) (now (block .entry)) (now (choices .entry)) (configOf (now (s .entry)) t (now (block .entry))) (now (block .exit)) r
+        ResultOfRun (now (s .entry)) (now (block .entry)) (now (choices .entry)) (configOf (now (s .entry)) t (now (block .entry))) (now (block .exit)) r
         ⌝ }
 {
     if inference::name_bound(s) <= FEW_NAMES {
-        return run_few(s, t, block, choices);
+        let mut table = [0u16; FEW_NAMES];
+        return run_block(s, &mut table, t, block, choices);
     }
-    run_many(s, t, block, choices)
+    let mut table = [0u16; NAMES];
+    run_block(s, &mut table, t, block, choices)
 }

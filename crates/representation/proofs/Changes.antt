@@ -1,11 +1,11 @@
 -- Changes to a block, by area: words of a record put, one record more, one record fewer; and what these come to for objects, bindings and frames.
 use mathlib.Core.Path.{_≡_, refl, sym, ap, _∙_}
 use mathlib.Core.Bool.{Bool, false}
-use mathlib.Core.List.{List, [], _∷_, _++_, append-nil, map, map-append, flatten, reverse-cons}
+use mathlib.Core.List.{List, [], _∷_, _++_, append-nil, map, map-append, flatten}
 use Prim.Native.Nat.{ℕ, zero, suc, _+_, _*_, _<_, _≤_}
 use native.Mathlib.Nat.{mul-suc, mul-le-mul-left}
 use native.Mathlib.Omega.{arith}
-use lib.ListN.{length, getD, set, take, replicate, length-append, length-map, length-reverse, length-set, length-replicate, drop-of-length-le}
+use lib.ListN.{length, getD, set, take, replicate, length-append, length-map, length-set, length-replicate, drop-of-length-le}
 use lib.Seq.{sets, sets-eq, set-append-left, set-append-seam, getD-append-seam, set-set, take-suc, take-all, length-take-le}
 use Rattle.slices.specs.Put.{putWord}
 use Rattle.words.specs.Word.{bytes}
@@ -15,14 +15,16 @@ use Rattle.machine.specs.declared.Value.{Value}
 use Rattle.machine.specs.declared.Value.the-variants.{Null as nil}
 use Rattle.machine.specs.declared.Frame.{Frame}
 use Rattle.machine.specs.declared.Frame.the-variants.{Casts as casts}
-use Rattle.machine.specs.Config.{Object, Binding, Config}
+use Rattle.machine.specs.Config.{Object, Binding}
 use Rattle.block.specs.Rows.{filled}
 use Rattle.representation.specs.Changed.{putWords, withObjects, withBindings, withFrames, withShut, withField}
 use Rattle.block.specs.declared.Area.{Area}
 use Rattle.block.specs.declared.Area.the-variants.{Objects, Bindings, Positions, Frames}
-use Rattle.block.specs.Layout.{WORDS, HEADER, countWord, width, most, begins, countByte, wordByte}
-use Rattle.block.specs.Block.{valueWord, shutWord, objectWords, bindingWords, frameWords, Parts, partsOf, rows, area, headerWords, laid, encode}
+use Rattle.block.specs.Layout.{WORDS, HEADER, VALUE, countWord, width, most, begins, countByte, wordByte, SHUT, fieldWord}
+use Rattle.block.specs.Values.{valueWords}
+use Rattle.block.specs.Block.{shutWord, objectWords, bindingWords, frameWords, Parts, rows, area, headerWords, laid}
 use Rattle.block.proofs.Rows.{Wide, wide-end, set-filled, sets-filled, filled-zeros, filled-nil, sets-inside, row-at, length-flatten, flatten-sets}
+use Rattle.block.proofs.Values.{values-wide}
 use Rattle.block.proofs.Words.{rows-wide, frame-width, length-area, area-zeros, ahead, behind, apart, ahead-length}
 
 put-words-bytes : (ws : List ℕ) (i : ℕ) (vs : List ℕ) → putWords (bytes ws) (2 * i) vs ≡ bytes (sets ws i vs)
@@ -203,43 +205,67 @@ row-end : {A : Type 0} (f : A → List ℕ) (xs : List A) (x : A) → map f (xs 
 row-end f xs x = map-append f xs (x ∷ [])
 
 -- null fields are zeros
-null-words : (m : ℕ) → map valueWord (replicate m nil) ≡ replicate m 0
+null-words : (m : ℕ) → flatten (map valueWords (replicate m nil)) ≡ replicate (m * VALUE) 0
+unfolding flatten
 null-words zero = refl
-null-words (suc m) = ap (λ (l : List ℕ). 0 ∷ l) (null-words m)
+null-words (suc m) = let e : suc m * VALUE ≡ suc (m * VALUE) = omega arith in rw e (ap (λ (l : List ℕ). valueWords nil ++ l) (null-words m))
 
-null-zeros : (n m : ℕ) → filled n (map valueWord (replicate m nil)) ≡ replicate n 0
-null-zeros n m = rw (null-words m) (filled-zeros n [] m ∙ filled-nil n)
+null-zeros : (n m : ℕ) → filled n (flatten (map valueWords (replicate m nil))) ≡ replicate n 0
+null-zeros n m = rw (null-words m) (filled-zeros n [] (m * VALUE) ∙ filled-nil n)
+
+-- words set after the first
+sets-next : (x : ℕ) (l : List ℕ) (i : ℕ) (vs : List ℕ) → sets (x ∷ l) (suc i) vs ≡ x ∷ sets l i vs
+sets-next x l i [] = refl
+sets-next x l i (v ∷ vs) = sets-next x (set l i v) (suc i) vs
+
+-- the words of a value put in an object's field
+field-set :
+    (o : Object) (k : ℕ) (v : Value) → k < length (o .fields) → sets (objectWords o) (fieldWord k) (valueWords v) ≡ objectWords (withField o k v)
+field-set o k v h =
+    let vs : List (List ℕ) = map valueWords (o .fields) in
+    let wide = values-wide (o .fields) in
+    let l : k < length vs = rw (length-map (o .fields) valueWords) h in
+    let m = VALUE * k + 0 in
+    let e : fieldWord k ≡ suc (suc m) = omega arith in
+    let words : List ℕ = filled (VALUE * CLASS-FIELDS) (flatten vs) in
+    let row : sets (getD vs k []) 0 (valueWords v) ≡ valueWords v = sets-all (getD vs k []) (valueWords v) (wide k l) in
+    let set-row : sets words m (valueWords v) ≡ filled (VALUE * CLASS-FIELDS) (flatten (map valueWords (set (o .fields) k v))) =
+    sets-filled (VALUE * CLASS-FIELDS) (flatten vs) m (valueWords v) (omega (arith, length-flatten VALUE vs wide))
+    ∙ ap (filled (VALUE * CLASS-FIELDS))
+    (flatten-sets VALUE vs wide k 0 (valueWords v) l (omega arith)
+    ∙ ap (λ (r : List ℕ). flatten (set vs k r)) row
+    ∙ ap flatten (map-set valueWords (o .fields) k v))
+    in
+    ap (λ (n : ℕ). sets (objectWords o) n (valueWords v)) e
+    ∙ sets-next (o .class) (shutWord (o .shut) ∷ words) (suc m) (valueWords v)
+    ∙ ap (λ (ws : List ℕ). o .class ∷ ws) (sets-next (shutWord (o .shut)) words m (valueWords v) ∙ ap (λ (ws : List ℕ). shutWord (o .shut) ∷ ws) set-row)
 
 module _ (p : Parts) where
   module _ (i : ℕ) (d : Object) (room : i < OBJECTS) (h : i < length (p .objects)) where
-    -- a word of object i put, where that makes it the object y
-    pub put-object :
-        (j v : ℕ) (y : Object)
-        → j < width Objects
-        → set (objectWords (getD (p .objects) i d)) j v ≡ objectWords y
-        → putWord (bytes (laid p)) (wordByte Objects i j) v ≡ bytes (laid (withObjects p (set (p .objects) i y)))
-    put-object j v y hj e =
+    -- words of object i put, where that makes it the object y
+    put-object :
+        (j : ℕ) (vs : List ℕ) (y : Object)
+        → j + length vs ≤ width Objects
+        → sets (objectWords (getD (p .objects) i d)) j vs ≡ objectWords y
+        → putWords (bytes (laid p)) (wordByte Objects i j) vs ≡ bytes (laid (withObjects p (set (p .objects) i y)))
+    put-object j vs y hj e =
         let l : i < length (rows p Objects) = rw (length-map (p .objects) objectWords) h in
-        put-words p (withObjects p (set (p .objects) i y)) Objects refl i j (v ∷ []) l room (omega arith)
-        (row-set objectWords (p .objects) i d y j (v ∷ []) h e)
+        put-words p (withObjects p (set (p .objects) i y)) Objects refl i j vs l room hj (row-set objectWords (p .objects) i d y j vs h e)
 
     -- object i opened or shut
     pub put-shut :
-        (b : Bool) → putWord (bytes (laid p)) (wordByte Objects i 1) (shutWord b) ≡ bytes (laid (withObjects p (set (p .objects) i (withShut (getD (p .objects) i d) b))))
-    put-shut b = put-object 1 (shutWord b) (withShut (getD (p .objects) i d) b) (omega arith) refl
+        (b : Bool) → putWord (bytes (laid p)) (wordByte Objects i SHUT) (shutWord b) ≡ bytes (laid (withObjects p (set (p .objects) i (withShut (getD (p .objects) i d) b))))
+    put-shut b = put-object SHUT (shutWord b ∷ []) (withShut (getD (p .objects) i d) b) (omega arith) refl
 
     -- field k of object i written
     pub put-field :
         (k : ℕ) (v : Value)
         → k < length (getD (p .objects) i d .fields)
         → k < CLASS-FIELDS
-        → putWord (bytes (laid p)) (wordByte Objects i (2 + k)) (valueWord v) ≡ bytes (laid (withObjects p (set (p .objects) i (withField (getD (p .objects) i d) k v))))
+        → putWords (bytes (laid p)) (wordByte Objects i (fieldWord k)) (valueWords v) ≡ bytes (laid (withObjects p (set (p .objects) i (withField (getD (p .objects) i d) k v))))
     put-field k v l w =
         let o = getD (p .objects) i d in
-        let e : 2 + k ≡ suc (suc k) = omega arith in
-        let m : k < length (map valueWord (o .fields)) = rw (length-map (o .fields) valueWord) l in
-        put-object (2 + k) (valueWord v) (withField o k v) (omega arith)
-        (rw (e, set-filled CLASS-FIELDS (map valueWord (o .fields)) k (valueWord v) m, map-set valueWord (o .fields) k v))
+        put-object (fieldWord k) (valueWords v) (withField o k v) (omega arith) (field-set o k v l)
 
   -- frame i written
   pub put-frame :
@@ -279,7 +305,7 @@ module _ (p : Parts) where
       let n = length-map (p .objects) objectWords in
       rw n at
       (put-more p (withObjects p (p .objects ++ x ∷ [])) Objects refl (class ∷ []) (omega arith) (omega arith)
-      (row-end objectWords (p .objects) x ∙ rw (null-zeros CLASS-FIELDS m)))
+      (row-end objectWords (p .objects) x ∙ rw (null-zeros (VALUE * CLASS-FIELDS) m)))
 
   -- one binding more, and the count
   pub put-new-binding :
@@ -304,16 +330,3 @@ module _ (p : Parts) where
       rw n at
       (put-more p (withFrames p (p .frames ++ f ∷ [])) Frames refl (frameWords f) (omega arith) (omega (arith, frame-width f))
       (row-end frameWords (p .frames) f ∙ rw whole))
-
--- a configuration with one binding more
-pub encode-bind :
-    (c : Config) (x : Binding)
-    → length (c .stores .bindings) < BINDINGS
-    → (let n = length (c .stores .bindings) in
-    putWord (putWords (encode c) (wordByte Bindings n 0) (bindingWords x)) (countByte Bindings) (suc n)
-    ≡ encode (record { stores = record { objects = c .stores .objects; bindings = x ∷ c .stores .bindings }; tree = c .tree }))
-encode-bind c x h =
-    let e = length-reverse (c .stores .bindings) in
-    rw (← e)
-    (put-new-binding (partsOf c) x (rw e h)
-    ∙ ap (λ (bs : List Binding). bytes (laid (withBindings (partsOf c) bs))) (sym (reverse-cons x (c .stores .bindings))))

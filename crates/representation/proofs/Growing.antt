@@ -10,13 +10,15 @@ use Rattle.script.specs.Lists.{run, sumBelow}
 use Rattle.script.proofs.Lists.{length-run, getD-run}
 use Rattle.machine.specs.declared.Frame.{Frame}
 use Rattle.machine.specs.Config.{Tree, running, returning, failed, join}
-use Rattle.block.specs.Rows.{cell}
+use Rattle.block.specs.Rows.{wordOf, cell}
 use Rattle.block.specs.declared.Area.the-variants.{Positions}
-use Rattle.block.specs.Layout.{width, JOIN}
-use Rattle.block.specs.Block.{valueWord, preorder, positionWords, framesOf}
-use Rattle.block.specs.Decode.{valueOf, planted, grove}
+use Rattle.block.specs.Layout.{width, NODE, ENV, RESULT, WAITING, JOIN}
+use Rattle.block.specs.Values.{valueIn}
+use Rattle.block.specs.Block.{preorder, positionWords, framesOf}
+use Rattle.block.specs.Decode.{withPosition, forest}
 use Rattle.representation.specs.InOrder.{PositionOk, is-running, is-returning, is-failed, is-join, Trees, no-tree, one-thread, one-join}
 use Rattle.block.proofs.Rows.{Wide}
+use Rattle.block.proofs.Values.{word-back}
 use Rattle.block.proofs.Trees.{frames-join}
 
 -- a list by its elements
@@ -31,26 +33,21 @@ listed n r e =
     at : ℕ → ℕ
     at j = getD r j 0
 
--- the word of the value that a word says
-pub word-back : (w : ℕ) → valueWord (valueOf w) ≡ w
-word-back zero = refl
-word-back (suc o) = refl
-
-module _ (r : List ℕ) (wide : length r ≡ width Positions) (hs : List Frame) (enough : getD r 4 0 ≤ length hs) where
+module _ (r : List ℕ) (wide : length r ≡ width Positions) (hs : List Frame) (enough : wordOf r WAITING ≤ length hs) where
   abbrev own : List Frame
-  own = take (getD r 4 0) hs
+  own = take (wordOf r WAITING) hs
 
-  own-length : length own ≡ getD r 4 0
-  own-length = length-take-le (getD r 4 0) hs enough
+  own-length : length own ≡ wordOf r WAITING
+  own-length = length-take-le (wordOf r WAITING) hs enough
 
-  five : r ≡ getD r 0 0 ∷ getD r 1 0 ∷ getD r 2 0 ∷ getD r 3 0 ∷ getD r 4 0 ∷ []
+  five : r ≡ getD r 0 0 ∷ getD r 1 0 ∷ getD r 2 0 ∷ getD r 3 0 ∷ wordOf r WAITING ∷ []
   unfolding run
   five = sym (listed (width Positions) r wide)
 
   -- the thread that a position says
   record Thread : Type 0 where
     thread : Tree
-    is-planted : (ts : List Tree) → planted r own ts ≡ thread ∷ ts
+    is-planted : (ts : List Tree) → withPosition r own ts ≡ thread ∷ ts
     words : positionWords thread ≡ r
     alone : preorder thread ≡ thread ∷ []
     its-frames : framesOf thread ≡ reverse own
@@ -61,34 +58,40 @@ module _ (r : List ℕ) (wide : length r ≡ width Positions) (hs : List Frame) 
       record {
         thread = running (getD r 1 0) (getD r 2 0) own;
         is-planted = λ ts. rw k;
-        words = let e = own-length in let f = five in cc;
+        words = let e = own-length in let f = five in let z = a .zero RESULT (omega arith) (omega arith) in cc;
         alone = refl;
         its-frames = append-nil (reverse own);
       }
-  a-thread (is-returning k a b) n =
+  a-thread (is-returning k a) n =
       record {
-        thread = returning (valueOf (getD r 3 0)) own;
+        thread = returning (valueIn (wordOf r) RESULT) own;
         is-planted = λ ts. rw k;
-        words = let e = own-length in let f = five in let g = word-back (getD r 3 0) in cc;
+        words = let e = own-length in let f = five in let g = word-back (wordOf r RESULT) in let x = a .zero NODE (omega arith) (omega arith) in let y = a .zero ENV (omega arith) (omega arith) in cc;
         alone = refl;
         its-frames = append-nil (reverse own);
       }
-  a-thread (is-failed k a b c d) n =
+  a-thread (is-failed k a) n =
       record {
         thread = failed;
         is-planted = λ ts. rw k;
-        words = let f = five in cc;
+        words =
+            let f = five in
+            let x = a .zero NODE (omega arith) (omega arith) in
+            let y = a .zero ENV (omega arith) (omega arith) in
+            let z = a .zero RESULT (omega arith) (omega arith) in
+            let d = a .zero WAITING (omega arith) (omega arith) in
+            cc;
         alone = refl;
-        its-frames = rw d;
+        its-frames = rw (a .zero WAITING (omega arith) (omega arith));
       }
   a-thread (is-join k a) n = absurd (n k)
 
   -- the join that a position says, of the two trees after it
   join-words : PositionOk (λ j. getD r j 0) → getD r 0 0 ≡ JOIN → (l x : Tree) → positionWords (join own (getD r 1 0) (getD r 2 0) l x) ≡ r
   join-words (is-running k a) n l x = absurd (omega arith)
-  join-words (is-returning k a b) n l x = absurd (omega arith)
-  join-words (is-failed k a b c d) n l x = absurd (omega arith)
-  join-words (is-join k a) n l x = let e = own-length in let f = five in cc
+  join-words (is-returning k a) n l x = absurd (omega arith)
+  join-words (is-failed k a) n l x = absurd (omega arith)
+  join-words (is-join k a) n l x = let e = own-length in let f = five in let z = a .zero RESULT (omega arith) (omega arith) in cc
 
 -- a sum, its first number set apart
 pub sum-front : (f : ℕ → ℕ) (n : ℕ) → sumBelow f (suc n) ≡ f 0 + sumBelow (λ i. f (suc i)) n
@@ -98,41 +101,41 @@ sum-front f (suc n) = omega (arith, sum-front f n)
 
 -- rows of positions and the trees put together from them, with frames to give out, last one first
 pub record Grown (rows : List (List ℕ)) (fs : List Frame) (n : ℕ) : Type 0 where
-  pub many : length (grove rows fs .trees) ≡ n
-  pub rows-are : map positionWords (flatMap preorder (grove rows fs .trees)) ≡ rows
-  pub frames-are : reverse (flatMap framesOf (grove rows fs .trees)) ++ grove rows fs .frames ≡ fs
-  pub frames-left : length (grove rows fs .frames) + sumBelow (λ i. cell rows i 4) (length rows) ≡ length fs
+  pub many : length (forest rows fs .trees) ≡ n
+  pub rows-are : map positionWords (flatMap preorder (forest rows fs .trees)) ≡ rows
+  pub frames-are : reverse (flatMap framesOf (forest rows fs .trees)) ++ forest rows fs .frames ≡ fs
+  pub frames-left : length (forest rows fs .frames) + sumBelow (λ i. cell rows i WAITING) (length rows) ≡ length fs
 
-module _ (r : List ℕ) (rs : List (List ℕ)) (fs : List Frame) (wide : length r ≡ width Positions) (ok : PositionOk (λ j. getD r j 0)) (enough : getD r 4 0 ≤ length (grove rs fs .frames)) where
+module _ (r : List ℕ) (rs : List (List ℕ)) (fs : List Frame) (wide : length r ≡ width Positions) (ok : PositionOk (λ j. getD r j 0)) (enough : wordOf r WAITING ≤ length (forest rs fs .frames)) where
   abbrev hs : List Frame
-  hs = grove rs fs .frames
+  hs = forest rs fs .frames
 
   abbrev mine : List Frame
-  mine = take (getD r 4 0) hs
+  mine = take (wordOf r WAITING) hs
 
   -- frames taken from the front, put back
-  regroup : (F : List Frame) → reverse F ++ hs ≡ fs → reverse (reverse mine ++ F) ++ drop (getD r 4 0) hs ≡ fs
+  regroup : (F : List Frame) → reverse F ++ hs ≡ fs → reverse (reverse mine ++ F) ++ drop (wordOf r WAITING) hs ≡ fs
   regroup F e = simp (reverse-append, reverse-reverse, append-assoc, take-append-drop) e
 
-  left-step : length hs + sumBelow (λ i. cell rs i 4) (length rs) ≡ length fs → length (drop (getD r 4 0) hs) + sumBelow (λ i. cell (r ∷ rs) i 4) (suc (length rs)) ≡ length fs
-  left-step e = omega (arith, e, enough, length-drop (getD r 4 0) hs, sum-front (λ i. cell (r ∷ rs) i 4) (length rs))
+  left-step : length hs + sumBelow (λ i. cell rs i WAITING) (length rs) ≡ length fs → length (drop (wordOf r WAITING) hs) + sumBelow (λ i. cell (r ∷ rs) i WAITING) (suc (length rs)) ≡ length fs
+  left-step e = omega (arith, e, enough, length-drop (wordOf r WAITING) hs, sum-front (λ i. cell (r ∷ rs) i WAITING) (length rs))
 
   with-thread : (n : ℕ) → Grown rs fs n → getD r 0 0 ≢ JOIN → Grown (r ∷ rs) fs (suc n)
-  unfolding grove flatMap
+  unfolding forest flatMap
   with-thread n g kind =
       let t = a-thread r wide hs enough ok kind in
-      let p = t .is-planted (grove rs fs .trees) in
+      let p = t .is-planted (forest rs fs .trees) in
       let w = t .words in
       let e = g .rows-are in
       record {
         many = rw p (ap suc (g .many));
         rows-are = rw (p, t .alone) (cc);
-        frames-are = rw (p, t .its-frames) (regroup (flatMap framesOf (grove rs fs .trees)) (g .frames-are));
+        frames-are = rw (p, t .its-frames) (regroup (flatMap framesOf (forest rs fs .trees)) (g .frames-are));
         frames-left = left-step (g .frames-left);
       }
 
-  with-join : (n : ℕ) (ts : List Tree) → grove rs fs .trees ≡ ts → Grown rs fs (suc (suc n)) → getD r 0 0 ≡ JOIN → Grown (r ∷ rs) fs (suc n)
-  unfolding grove flatMap preorder
+  with-join : (n : ℕ) (ts : List Tree) → forest rs fs .trees ≡ ts → Grown rs fs (suc (suc n)) → getD r 0 0 ≡ JOIN → Grown (r ∷ rs) fs (suc n)
+  unfolding forest flatMap preorder
   with-join n [] e g kind = absurd (omega (arith, rw e at (g .many)))
   with-join n (l ∷ []) e g kind = absurd (omega (arith, rw e at (g .many)))
   with-join n (l ∷ x ∷ ts) e g kind =
@@ -153,15 +156,15 @@ pub grown :
     → Trees (map (λ (r : List ℕ). getD r 0 0) rows) n
     → Wide (width Positions) rows
     → ((i : ℕ) → i < length rows → PositionOk (cell rows i))
-    → sumBelow (λ i. cell rows i 4) (length rows) ≤ length fs
+    → sumBelow (λ i. cell rows i WAITING) (length rows) ≤ length fs
     → Grown rows fs n
-unfolding grove flatMap sumBelow
+unfolding forest flatMap sumBelow
 grown [] fs zero no-tree wide ok enough = record { many = refl; rows-are = refl; frames-are = refl; frames-left = omega arith }
 grown (r ∷ rs) fs (suc n) (one-thread k t) wide ok enough =
-    let s = sum-front (λ i. cell (r ∷ rs) i 4) (length rs) in
+    let s = sum-front (λ i. cell (r ∷ rs) i WAITING) (length rs) in
     let g = grown rs fs n t (λ i h. wide (suc i) (omega arith)) (λ i h. ok (suc i) (omega arith)) (omega arith) in
     with-thread r rs fs (wide 0 (omega arith)) (ok 0 (omega arith)) (omega (arith, g .frames-left)) n g k
 grown (r ∷ rs) fs (suc n) (one-join k t) wide ok enough =
-    let s = sum-front (λ i. cell (r ∷ rs) i 4) (length rs) in
+    let s = sum-front (λ i. cell (r ∷ rs) i WAITING) (length rs) in
     let g = grown rs fs (suc (suc n)) t (λ i h. wide (suc i) (omega arith)) (λ i h. ok (suc i) (omega arith)) (omega arith) in
-    with-join r rs fs (wide 0 (omega arith)) (ok 0 (omega arith)) (omega (arith, g .frames-left)) n (grove rs fs .trees) refl g k
+    with-join r rs fs (wide 0 (omega arith)) (ok 0 (omega arith)) (omega (arith, g .frames-left)) n (forest rs fs .trees) refl g k

@@ -3,32 +3,36 @@ use mathlib.Core.Path.{_≡_, refl, sym, ap, _∙_}
 use mathlib.Core.List.{List, [], _∷_, append-nil, map, flatMap, reverse, reverse-reverse, List·Memᴰ·cases-cons, List·Memᴰ·not-nil, Memᴰ·of-map}
 use mathlib.Core.Logic.{⊎-elim}
 use mathlib.Core.Option.{some}
-use Prim.Native.Nat.{ℕ, zero, suc, _+_, _<_, _≤_}
+use Prim.Native.Nat.{ℕ, zero, suc, _+_, _/_, _%_, _<_, _≤_}
 use native.Mathlib.Omega.{arith}
 use native.Mathlib.Decide.{decLt}
 use lib.Dec.{eqb}
-use lib.ListN.{length, getD, take, drop, length-map, length-take, length-drop, length-reverse, List·getD-eq-default, List·getD-map}
-use lib.Seq.{ext-getD, getD-take, getD-drop}
+use lib.ListN.{length, getD, length-map, length-reverse, List·getD-eq-default, List·getD-map}
+use lib.Seq.{ext-getD}
 use Rattle.words.specs.Word.{bytes}
 use Rattle.limits.specs.Limits.{CLASS-FIELDS}
 use Rattle.script.specs.Lists.{_∈_, run, sumBelow}
 use Rattle.script.proofs.Lists.{length-run, getD-run}
+use Rattle.machine.specs.declared.Value.{Value}
+use Rattle.machine.specs.declared.Value.the-variants.{Null as nil}
 use Rattle.machine.specs.declared.Frame.{Frame}
 use Rattle.machine.specs.Config.{Object, Tree, failed, Config}
-use Rattle.block.specs.Rows.{cell}
+use Rattle.block.specs.Rows.{wordOf, cell}
 use Rattle.block.specs.declared.Area.{Area}
 use Rattle.block.specs.declared.Area.the-variants.{Objects, Bindings, Positions, Frames}
-use Rattle.block.specs.Layout.{width, counted, wordIn, rowsIn}
-use Rattle.block.specs.Block.{valueWord, shutWord, objectWords, bindingWords, frameWords, preorder, framesOf, partsOf, rows, blockWords, encode}
+use Rattle.block.specs.Layout.{VALUE, width, counted, wordIn, rowsIn, CLASS, SHUT, fieldWord, BOUND, KIND, ENV, WAITING}
+use Rattle.block.specs.Values.{valueWords, valueIn}
+use Rattle.block.specs.Block.{shutWord, objectWords, bindingWords, frameWords, preorder, framesOf, partsOf, rows, blockWords, encode}
 use Rattle.block.specs.Fits.{AllWords, Fits}
-use Rattle.block.specs.Decode.{valueOf, objectOf, bindingOf, frameOf, grove, configIn, decode}
+use Rattle.block.specs.Decode.{objectOf, bindingOf, frameOf, forest, configIn, decode}
 use Rattle.representation.specs.Shows.{Shows}
-use Rattle.representation.specs.InOrder.{ObjectOk, PositionOk, is-running, is-returning, is-failed, is-join, FrameOk, is-awaits, is-casts, is-locks, InOrder}
-use Rattle.block.proofs.Rows.{getD-filled}
+use Rattle.representation.specs.InOrder.{Unused, ObjectOk, is-running, is-returning, is-failed, is-join, FrameOk, is-awaits, is-casts, is-locks, RecordOk, InOrder}
+use Rattle.block.proofs.Rows.{row-at}
+use Rattle.block.proofs.Values.{word-back, value-words, field-cell}
 use Rattle.block.proofs.Words.{object-width, rowsIn-length, rowsIn-wide, rowsIn-cell}
 use Rattle.representation.proofs.Shows.{shows-laid}
 use Rattle.block.proofs.Decode.{decode-encode}
-use Rattle.representation.proofs.Growing.{listed, word-back, Grown, grown}
+use Rattle.representation.proofs.Growing.{listed, Grown, grown}
 
 -- each record got back as its words
 shut-word : (n : ℕ) → n ≤ 1 → shutWord (eqb n 1) ≡ n
@@ -36,37 +40,41 @@ shut-word zero h = refl
 shut-word (suc zero) h = refl
 shut-word (suc (suc n)) h = absurd (omega arith)
 
-values-words : (ws : List ℕ) → map valueWord (map valueOf ws) ≡ ws
-values-words [] = refl
-values-words (w ∷ ws) = let e = word-back w in let r = values-words ws in cc
+values-many : (fieldCount : ℕ → ℕ) (r : List ℕ) → length (objectOf fieldCount r .fields) ≡ fieldCount (wordOf r CLASS)
+values-many fieldCount r = length-run (λ k. valueIn (wordOf r) (fieldWord k)) 0 (fieldCount (wordOf r CLASS))
 
-module _ (fieldCount : ℕ → ℕ) (r : List ℕ) (wide : length r ≡ width Objects) (ok : ObjectOk fieldCount (λ j. getD r j 0)) where
+module _ (fieldCount : ℕ → ℕ) (r : List ℕ) (wide : length r ≡ width Objects) (ok : ObjectOk fieldCount (wordOf r)) where
   own : ℕ
-  own = fieldCount (getD r 0 0)
+  own = fieldCount (wordOf r CLASS)
 
-  values : List ℕ
-  values = take own (drop 2 r)
+  value : ℕ → Value
+  value k = valueIn (wordOf r) (fieldWord k)
 
-  values-length : length values ≡ own
-  unfolding values own
-  values-length = omega (arith, length-take own (drop 2 r), length-drop 2 r, ok .few)
+  -- word m of field k: that of the row, where the class has the field, and else 0
+  field-word : (k m : ℕ) → k < CLASS-FIELDS → m < VALUE → wordOf (getD (map valueWords (run value 0 own)) k []) m ≡ wordOf r (fieldWord k + m)
+  unfolding own value
+  field-word k m h l =
+      elim (decLt k own) [
+        | yes y ↦
+            let z : 0 + k ≡ k = omega arith in
+            ap (λ (row : List ℕ). wordOf row m) (row-at valueWords (run value 0 own) k nil (rw (length-run value 0 own) y))
+            ∙ ap (λ (v : Value). wordOf (valueWords v) m) (getD-run value 0 own k nil y ∙ ap value z)
+            ∙ ap (λ (row : List ℕ). wordOf row m) (value-words (wordOf r) (fieldWord k))
+            ∙ getD-run (wordOf r) (fieldWord k) VALUE m 0 l
+        | no n ↦
+            rw (List·getD-eq-default (map valueWords (run value 0 own)) [] {n = k} (omega (arith, length-map (run value 0 own) valueWords, length-run value 0 own)))
+            (sym (ok .unused .zero (fieldWord k + m) (omega arith) (omega arith)))
+      ]
 
-  values-many : length (objectOf fieldCount r .fields) ≡ fieldCount (getD r 0 0)
-  unfolding values own
-  values-many = length-map values valueOf ∙ values-length
-
-  object-words-at : (j : ℕ) → j < width Objects → getD (objectWords (objectOf fieldCount r)) j 0 ≡ getD r j 0
-  unfolding values own
+  object-words-at : (j : ℕ) → j < width Objects → wordOf (objectWords (objectOf fieldCount r)) j ≡ wordOf r j
+  unfolding own value
   object-words-at zero h = refl
-  object-words-at (suc zero) h = shut-word (getD r 1 0) (ok .shut)
-  object-words-at (suc (suc k)) h =
-      let s : suc (suc k) ≡ 2 + k = omega arith in
-      getD-filled CLASS-FIELDS (map valueWord (map valueOf values)) k (omega arith)
-      ∙ rw (values-words values, s)
-      (elim (decLt k own) [
-        | yes l ↦ getD-take own (drop 2 r) k 0 l ∙ getD-drop 2 r k 0
-        | no l ↦ List·getD-eq-default values 0 {n = k} (omega (arith, values-length)) ∙ sym (ok .unused k (omega arith) (omega arith))
-      ])
+  object-words-at (suc zero) h = shut-word (wordOf r SHUT) (ok .shut)
+  object-words-at (suc (suc n)) h =
+      let k = n / VALUE in
+      let m = n % VALUE in
+      let e : fieldWord k + m ≡ suc (suc n) = omega arith in
+      rw (← e) (field-cell (objectOf fieldCount r) k m (omega arith) (omega arith) ∙ field-word k m (omega arith) (omega arith))
 
   object-words : objectWords (objectOf fieldCount r) ≡ r
   object-words =
@@ -75,7 +83,7 @@ module _ (fieldCount : ℕ → ℕ) (r : List ℕ) (wide : length r ≡ width Ob
 
 binding-words : (r : List ℕ) → length r ≡ width Bindings → bindingWords (bindingOf r) ≡ r
 unfolding run
-binding-words r wide = let e = listed (width Bindings) r wide in let v = word-back (getD r 2 0) in cc
+binding-words r wide = let e = listed (width Bindings) r wide in let v = word-back (wordOf r BOUND) in cc
 
 three-words : (r : List ℕ) → length r ≡ width Frames → getD r 0 0 ∷ getD r 1 0 ∷ getD r 2 0 ∷ [] ≡ r
 unfolding run
@@ -84,30 +92,25 @@ three-words r wide = listed (width Frames) r wide
 frame-words : (r : List ℕ) → length r ≡ width Frames → FrameOk (λ j. getD r j 0) → frameWords (frameOf r) ≡ r
 unfolding run
 frame-words r wide (is-awaits k) = rw k (let e = three-words r wide in rw k at e)
-frame-words r wide (is-casts k a) = rw k (let e = three-words r wide in rw (k, a) at e)
-frame-words r wide (is-locks k a) = rw k (let e = three-words r wide in rw (k, a) at e)
+frame-words r wide (is-casts k a) = rw k (let e = three-words r wide in rw (k, a .zero ENV (omega arith) (omega arith)) at e)
+frame-words r wide (is-locks k a) = rw k (let e = three-words r wide in rw (k, a .zero ENV (omega arith) (omega arith)) at e)
 
 -- what is asked of a record's words, asked of words that are the same
-pub object-same : (fieldCount w v : ℕ → ℕ) → ((j : ℕ) → j < width Objects → v j ≡ w j) → ObjectOk fieldCount w → ObjectOk fieldCount v
-object-same fieldCount w v e ok =
-    let class = e 0 (omega arith) in
-    record {
-      shut = rw (e 1 (omega arith)) (ok .shut);
-      few = rw class (ok .few);
-      unused = λ k h l. e (2 + k) (omega arith) ∙ ok .unused k (rw class at h) l;
-    }
+unused-same : {w v : ℕ → ℕ} (n : ℕ) {from to : ℕ} → ((j : ℕ) → j < n → v j ≡ w j) → to ≤ n → Unused w from to → Unused v from to
+unused-same n e h u = record { zero = λ j l k. e j (omega arith) ∙ u .zero j l k }
 
-pub position-same : (w v : ℕ → ℕ) → ((j : ℕ) → j < width Positions → v j ≡ w j) → PositionOk w → PositionOk v
-position-same w v e (is-running k a) = is-running (e 0 (omega arith) ∙ k) (e 3 (omega arith) ∙ a)
-position-same w v e (is-returning k a b) = is-returning (e 0 (omega arith) ∙ k) (e 1 (omega arith) ∙ a) (e 2 (omega arith) ∙ b)
-position-same w v e (is-failed k a b c d) =
-    is-failed (e 0 (omega arith) ∙ k) (e 1 (omega arith) ∙ a) (e 2 (omega arith) ∙ b) (e 3 (omega arith) ∙ c) (e 4 (omega arith) ∙ d)
-position-same w v e (is-join k a) = is-join (e 0 (omega arith) ∙ k) (e 3 (omega arith) ∙ a)
-
-pub frame-same : (w v : ℕ → ℕ) → ((j : ℕ) → j < width Frames → v j ≡ w j) → FrameOk w → FrameOk v
-frame-same w v e (is-awaits k) = is-awaits (e 0 (omega arith) ∙ k)
-frame-same w v e (is-casts k a) = is-casts (e 0 (omega arith) ∙ k) (e 2 (omega arith) ∙ a)
-frame-same w v e (is-locks k a) = is-locks (e 0 (omega arith) ∙ k) (e 2 (omega arith) ∙ a)
+pub record-same : (fieldCount : ℕ → ℕ) (a : Area) (w v : ℕ → ℕ) → ((j : ℕ) → j < width a → v j ≡ w j) → RecordOk fieldCount a w → RecordOk fieldCount a v
+record-same fieldCount Objects w v e ok =
+    let class = e CLASS (omega arith) in
+    record { shut = rw (e SHUT (omega arith)) (ok .shut); few = rw class (ok .few); unused = rw class (unused-same (width Objects) e (omega arith) (ok .unused)) }
+record-same fieldCount Bindings w v e ok = ok
+record-same fieldCount Positions w v e (is-running k u) = is-running (e KIND (omega arith) ∙ k) (unused-same (width Positions) e (omega arith) u)
+record-same fieldCount Positions w v e (is-returning k u) = is-returning (e KIND (omega arith) ∙ k) (unused-same (width Positions) e (omega arith) u)
+record-same fieldCount Positions w v e (is-failed k u) = is-failed (e KIND (omega arith) ∙ k) (unused-same (width Positions) e (omega arith) u)
+record-same fieldCount Positions w v e (is-join k u) = is-join (e KIND (omega arith) ∙ k) (unused-same (width Positions) e (omega arith) u)
+record-same fieldCount Frames w v e (is-awaits k) = is-awaits (e KIND (omega arith) ∙ k)
+record-same fieldCount Frames w v e (is-casts k u) = is-casts (e KIND (omega arith) ∙ k) (unused-same (width Frames) e (omega arith) u)
+record-same fieldCount Frames w v e (is-locks k u) = is-locks (e KIND (omega arith) ∙ k) (unused-same (width Frames) e (omega arith) u)
 
 -- rows that are each got back, and a sum of numbers that are the same
 rows-same : {A : Type 0} (f : A → List ℕ) (g : List ℕ → A) (rows : List (List ℕ)) → ((i : ℕ) → i < length rows → f (g (getD rows i [])) ≡ getD rows i []) → map f (map g rows) ≡ rows
@@ -164,25 +167,23 @@ module _ (fieldCount : ℕ → ℕ) (b : List ℕ) (o : InOrder fieldCount b) wh
   number : (a : Area) (i : ℕ) → i < length (rowsIn b a) → i < counted b a
   number a i h = omega (arith, rowsIn-length b a)
 
-  object-ok : (i : ℕ) → i < length (rowsIn b Objects) → (length (getD (rowsIn b Objects) i []) ≡ width Objects) × ObjectOk fieldCount (cell (rowsIn b Objects) i)
-  object-ok i h =
-      let l = number Objects i h in
-      (rowsIn-wide b Objects i h, object-same fieldCount (wordIn b Objects i) (cell (rowsIn b Objects) i) (λ j hj. rowsIn-cell b Objects i j l hj) (o .objects i l))
+  -- and is in order
+  record-ok : (a : Area) (i : ℕ) → i < length (rowsIn b a) → RecordOk fieldCount a (cell (rowsIn b a) i)
+  record-ok a i h =
+      let l = number a i h in
+      record-same fieldCount a (wordIn b a i) (cell (rowsIn b a) i) (λ j hj. rowsIn-cell b a i j l hj) (o .areas a .records .each i l)
 
   objects-are : map objectWords (map (objectOf fieldCount) (rowsIn b Objects)) ≡ rowsIn b Objects
   objects-are =
-      rows-same objectWords (objectOf fieldCount) (rowsIn b Objects) (λ i h. let k = object-ok i h in object-words fieldCount (getD (rowsIn b Objects) i []) (k .0) (k .1))
+      rows-same objectWords (objectOf fieldCount) (rowsIn b Objects)
+      (λ i h. object-words fieldCount (getD (rowsIn b Objects) i []) (rowsIn-wide b Objects i h) (record-ok Objects i h))
 
   bindings-are : map bindingWords (map bindingOf (rowsIn b Bindings)) ≡ rowsIn b Bindings
   bindings-are = rows-same bindingWords bindingOf (rowsIn b Bindings) (λ i h. binding-words (getD (rowsIn b Bindings) i []) (rowsIn-wide b Bindings i h))
 
   frames-are : map frameWords (map frameOf (rowsIn b Frames)) ≡ rowsIn b Frames
   frames-are =
-      rows-same frameWords frameOf (rowsIn b Frames)
-      (λ i h.
-      let l = number Frames i h in
-      frame-words (getD (rowsIn b Frames) i []) (rowsIn-wide b Frames i h)
-      (frame-same (wordIn b Frames i) (cell (rowsIn b Frames) i) (λ j hj. rowsIn-cell b Frames i j l hj) (o .frames i l)))
+      rows-same frameWords frameOf (rowsIn b Frames) (λ i h. frame-words (getD (rowsIn b Frames) i []) (rowsIn-wide b Frames i h) (record-ok Frames i h))
 
   abbrev given-out : List Frame
   given-out = reverse (map frameOf (rowsIn b Frames))
@@ -190,28 +191,25 @@ module _ (fieldCount : ℕ → ℕ) (b : List ℕ) (o : InOrder fieldCount b) wh
   frames-many : length given-out ≡ counted b Frames
   frames-many = length-reverse (map frameOf (rowsIn b Frames)) ∙ length-map (rowsIn b Frames) frameOf ∙ rowsIn-length b Frames
 
-  sum-is : sumBelow (λ i. cell (rowsIn b Positions) i 4) (length (rowsIn b Positions)) ≡ counted b Frames
+  sum-is : sumBelow (λ i. cell (rowsIn b Positions) i WAITING) (length (rowsIn b Positions)) ≡ counted b Frames
   sum-is =
       rw (rowsIn-length b Positions)
-      (sum-same (λ i. cell (rowsIn b Positions) i 4) (λ i. wordIn b Positions i 4) (counted b Positions) (λ i l. rowsIn-cell b Positions i 4 l (omega arith))
+      (sum-same (λ i. cell (rowsIn b Positions) i WAITING) (λ i. wordIn b Positions i WAITING) (counted b Positions) (λ i l. rowsIn-cell b Positions i WAITING l (omega arith))
       ∙ o .all-frames)
 
   growth : Grown (rowsIn b Positions) given-out 1
   growth =
       grown (rowsIn b Positions) given-out 1 (rw (firsts b Positions (omega arith)) (o .one-tree)) (rowsIn-wide b Positions)
-      (λ i h.
-      let l = number Positions i h in
-      position-same (wordIn b Positions i) (cell (rowsIn b Positions) i) (λ j hj. rowsIn-cell b Positions i j l hj) (o .positions i l))
-      (omega (arith, sum-is, frames-many))
+      (record-ok Positions) (omega (arith, sum-is, frames-many))
 
-  root : grove (rowsIn b Positions) given-out .trees ≡ c .tree ∷ []
+  root : forest (rowsIn b Positions) given-out .trees ≡ c .tree ∷ []
   unfolding configIn
-  root = one-of (grove (rowsIn b Positions) given-out .trees) (growth .many)
+  root = one-of (forest (rowsIn b Positions) given-out .trees) (growth .many)
 
   frames-of : framesOf (c .tree) ≡ map frameOf (rowsIn b Frames)
   unfolding flatMap
   frames-of =
-      let left : grove (rowsIn b Positions) given-out .frames ≡ [] = none-left (grove (rowsIn b Positions) given-out .frames) (omega (arith, growth .frames-left, sum-is, frames-many)) in
+      let left : forest (rowsIn b Positions) given-out .frames ≡ [] = none-left (forest (rowsIn b Positions) given-out .frames) (omega (arith, growth .frames-left, sum-is, frames-many)) in
       let e : reverse (framesOf (c .tree)) ≡ given-out = rw (root, left, append-nil (framesOf (c .tree)), append-nil (reverse (framesOf (c .tree)))) at (growth .frames-are) in
       sym (reverse-reverse (framesOf (c .tree))) ∙ ap reverse e ∙ reverse-reverse (map frameOf (rowsIn b Frames))
 
@@ -233,9 +231,9 @@ module _ (fieldCount : ℕ → ℕ) (b : List ℕ) (o : InOrder fieldCount b) wh
             rw (rows-are a)
             (elim (decLt i (counted b a)) [
               | yes l ↦ sym (rowsIn-cell b a i j l hj)
-              | no l ↦ o .blank a i j (omega arith) hi hj ∙ rw (List·getD-eq-default (rowsIn b a) [] {n = i} (omega (arith, rowsIn-length b a)))
+              | no l ↦ o .areas a .blank .zero i j (omega arith) hi hj ∙ rw (List·getD-eq-default (rowsIn b a) [] {n = i} (omega (arith, rowsIn-length b a)))
             ]);
-        rest = o .rest;
+        rest = o .rest .zero;
       }
 
   is-encoded : b ≡ encode c
@@ -245,14 +243,14 @@ module _ (fieldCount : ℕ → ℕ) (b : List ℕ) (o : InOrder fieldCount b) wh
   unfolding configIn
   object-fields x m =
       let a = Memᴰ·of-map (objectOf fieldCount) (rowsIn b Objects) m in
-      let k = each-row (λ r. (length r ≡ width Objects) × ObjectOk fieldCount (λ j. getD r j 0)) (rowsIn b Objects) object-ok (a .0) (a .1) in
-      let e = values-many fieldCount (a .0) (k .0) (k .1) in
-      rw (← a .2) (e, omega (arith, e, k .1 .few))
+      let k = each-row (λ r. ObjectOk fieldCount (wordOf r)) (rowsIn b Objects) (record-ok Objects) (a .0) (a .1) in
+      let e = values-many fieldCount (a .0) in
+      rw (← a .2) (e, omega (arith, e, k .few))
 
   in-order-fits : Fits fieldCount c
   in-order-fits =
       record {
-        few = λ a. omega (arith, in-order-shows .counts a, o .few a);
+        few = λ a. omega (arith, in-order-shows .counts a, o .areas a .few);
         own-fields = λ x m. object-fields x m .0;
         few-fields = λ x m. object-fields x m .1;
         words = words-small (blockWords c) (λ i. rw (← is-encoded) (o .small i));

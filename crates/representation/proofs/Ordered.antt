@@ -3,59 +3,73 @@ use mathlib.Core.Path.{_≡_, refl, ap, _∙_}
 use mathlib.Core.Bool.{Bool, true, false}
 use mathlib.Core.List.{List, [], _∷_, _++_, append-assoc, append-nil, map, map-map, map-append, flatMap, reverse, List·Memᴰ·head, List·Memᴰ·tail}
 use mathlib.Core.Option.{some}
-use Prim.Native.Nat.{ℕ, zero, suc, _+_, _<_, _≤_}
+use Prim.Native.Nat.{ℕ, zero, suc, _+_, _-_, _/_, _%_, _<_, _≤_}
 use native.Mathlib.Omega.{arith}
+use native.Mathlib.Decide.{decLt}
 use lib.ListN.{length, getD, length-append, length-map, length-reverse, List·getD-eq-default}
 use Rattle.limits.specs.Limits.{CLASS-FIELDS}
-use Rattle.script.specs.Lists.{_∈_, run, sumBelow}
+use Rattle.script.specs.Lists.{_∈_, sumBelow}
 use Rattle.machine.specs.declared.Frame.{Frame}
 use Rattle.machine.specs.declared.Frame.the-variants.{Awaits as awaits, Casts as casts, Locks as locks}
 use Rattle.machine.specs.Config.{Object, Tree, running, returning, failed, join, Config}
-use Rattle.block.specs.Rows.{cell}
+use Rattle.block.specs.Rows.{wordOf, cell}
 use Rattle.block.specs.declared.Area.{Area}
-use Rattle.block.specs.declared.Area.the-variants.{Objects, Positions, Frames}
-use Rattle.block.specs.Layout.{width, counted, wordIn, RUNNING, RETURNING, FAILED}
-use Rattle.block.specs.Block.{valueWord, shutWord, objectWords, frameWords, positionWords, waiting, preorder, framesOf, Parts, partsOf, rows, encode}
+use Rattle.block.specs.declared.Area.the-variants.{Objects, Bindings, Positions, Frames}
+use Rattle.block.specs.Layout.{VALUE, width, counted, wordIn, FIELDS, fieldWord, KIND, WAITING, RUNNING, RETURNING, FAILED}
+use Rattle.block.specs.Values.{valueWords}
+use Rattle.block.specs.Block.{shutWord, objectWords, frameWords, positionWords, waiting, preorder, framesOf, Parts, partsOf, rows, encode}
 use Rattle.block.specs.Fits.{Fits}
 use Rattle.block.specs.Decode.{decode}
-use Rattle.representation.specs.InOrder.{ObjectOk, PositionOk, is-running, is-returning, is-failed, is-join, FrameOk, is-awaits, is-casts, is-locks, Trees, no-tree, one-thread, one-join, InOrder}
-use Rattle.block.proofs.Rows.{getD-filled, row-at}
+use Rattle.representation.specs.InOrder.{Unused, ObjectOk, PositionOk, is-running, is-returning, is-failed, is-join, FrameOk, is-awaits, is-casts, is-locks, RecordOk, AreaOk, Trees, no-tree, one-thread, one-join, OneTree, InOrder}
+use Rattle.block.proofs.Rows.{row-at}
+use Rattle.block.proofs.Values.{field-cell}
 use Rattle.block.proofs.Words.{encode-length, count-is, word-is, rows-read, rest-blank}
 use Rattle.block.proofs.Fits.{all-small, encode-bytes}
 use Rattle.block.proofs.Decode.{encode-decode}
 use Rattle.representation.proofs.Growing.{sum-front}
-use Rattle.representation.proofs.InOrder.{object-same, position-same, frame-same, sum-same, firsts}
+use Rattle.representation.proofs.InOrder.{record-same, sum-same, firsts}
 
 shut-bound : (s : Bool) → shutWord s ≤ 1
 shut-bound true = omega arith
 shut-bound false = omega arith
 
-object-ok : (fieldCount : ℕ → ℕ) (o : Object) → length (o .fields) ≡ fieldCount (o .class) → length (o .fields) ≤ CLASS-FIELDS → ObjectOk fieldCount (λ j. getD (objectWords o) j 0)
+object-ok : (fieldCount : ℕ → ℕ) (o : Object) → length (o .fields) ≡ fieldCount (o .class) → length (o .fields) ≤ CLASS-FIELDS → ObjectOk fieldCount (wordOf (objectWords o))
 object-ok fieldCount o e h =
     record {
       shut = shut-bound (o .shut);
       few = omega arith;
-      unused = λ k l m.
-          let s : 2 + k ≡ suc (suc k) = omega arith in
-          rw s
-          (getD-filled CLASS-FIELDS (map valueWord (o .fields)) k m
-          ∙ List·getD-eq-default (map valueWord (o .fields)) 0 {n = k} (omega (arith, length-map (o .fields) valueWord)));
+      unused = record {
+        zero = λ j l m.
+            let k = (j - FIELDS) / VALUE in
+            let n = (j - FIELDS) % VALUE in
+            let s : fieldWord k + n ≡ j = omega arith in
+            rw (← s)
+            (field-cell o k n (omega arith) (omega arith)
+            ∙ rw (List·getD-eq-default (map valueWords (o .fields)) [] {n = k} (omega (arith, length-map (o .fields) valueWords))));
+      };
     }
 
-position-ok : (t : Tree) → PositionOk (λ j. getD (positionWords t) j 0)
-position-ok (running p e fs) = is-running refl refl
-position-ok (returning v fs) = is-returning refl refl refl
-position-ok failed = is-failed refl refl refl refl refl
-position-ok (join fs p e l r) = is-join refl refl
+-- words that are each 0
+none : {w : ℕ → ℕ} {j : ℕ} → Unused w j j
+none = record { zero = λ k l h. absurd (omega arith) }
 
-frame-ok : (f : Frame) → FrameOk (λ j. getD (frameWords f) j 0)
+more : {w : ℕ → ℕ} {from m : ℕ} → Unused w from m → w m ≡ 0 → Unused w from (m + 1)
+more {m = m} u z = record { zero = λ k l h. elim (decLt k m) [ yes y ↦ u .zero k l y | no y ↦ let e : k ≡ m = omega arith in rw e z ] }
+
+position-ok : (t : Tree) → PositionOk (wordOf (positionWords t))
+position-ok (running p e fs) = is-running refl (more none refl)
+position-ok (returning v fs) = is-returning refl (more (more none refl) refl)
+position-ok failed = is-failed refl (more (more (more (more none refl) refl) refl) refl)
+position-ok (join fs p e l r) = is-join refl (more none refl)
+
+frame-ok : (f : Frame) → FrameOk (wordOf (frameWords f))
 frame-ok (awaits p e) = is-awaits refl
-frame-ok (casts p) = is-casts refl refl
-frame-ok (locks o) = is-locks refl refl
+frame-ok (casts p) = is-casts refl (more none refl)
+frame-ok (locks o) = is-locks refl (more none refl)
 
 -- the kinds of a tree's positions, before those of other trees
 kind : Tree → ℕ
-kind t = getD (positionWords t) 0 0
+kind t = wordOf (positionWords t) KIND
 
 tree-kinds : (t : Tree) (ks : List ℕ) (n : ℕ) → Trees ks n → Trees (map kind (preorder t) ++ ks) (suc n)
 unfolding preorder kind
@@ -68,17 +82,17 @@ tree-kinds (join fs p e l r) ks n h =
     one-join refl all
 
 -- the numbers of frames add up to the frames there are
-frame-number : (t : Tree) → getD (positionWords t) 4 0 ≡ length (waiting t)
+frame-number : (t : Tree) → wordOf (positionWords t) WAITING ≡ length (waiting t)
 frame-number (running p e fs) = refl
 frame-number (returning v fs) = refl
 frame-number failed = refl
 frame-number (join fs p e l r) = refl
 
-frames-sum : (ts : List Tree) → sumBelow (λ i. cell (map positionWords ts) i 4) (length ts) ≡ length (flatMap (λ t. reverse (waiting t)) ts)
+frames-sum : (ts : List Tree) → sumBelow (λ i. cell (map positionWords ts) i WAITING) (length ts) ≡ length (flatMap (λ t. reverse (waiting t)) ts)
 unfolding sumBelow flatMap
 frames-sum [] = refl
 frames-sum (t ∷ ts) =
-    sum-front (λ i. cell (map positionWords (t ∷ ts)) i 4) (length ts)
+    sum-front (λ i. cell (map positionWords (t ∷ ts)) i WAITING) (length ts)
     ∙ omega (arith, frames-sum ts, frame-number t, length-reverse (waiting t), length-append (reverse (waiting t)) (flatMap (λ t. reverse (waiting t)) ts))
 
 -- an element by its number is in the list
@@ -104,7 +118,7 @@ module _ (fieldCount : ℕ → ℕ) (c : Config) (fit : Fits fieldCount c) where
   element-word a f xs i d e h j hj =
       row-word a i j (rw e (rw (length-map xs f) h)) hj ∙ rw e (ap (λ (r : List ℕ). getD r j 0) (row-at f xs i d h))
 
-  tree-shown : Trees (run (λ i. wordIn (encode c) Positions i 0) 0 (counted (encode c) Positions)) 1
+  tree-shown : OneTree (encode c)
   unfolding kind
   tree-shown =
       let first : (List ℕ → ℕ) = λ r. getD r 0 0 in
@@ -113,47 +127,58 @@ module _ (fieldCount : ℕ → ℕ) (c : Config) (fit : Fits fieldCount c) where
       in
       rw (← firsts (encode c) Positions (omega arith), rows-read p (fit .few) Positions) kinds
 
-  frames-shown : sumBelow (λ i. wordIn (encode c) Positions i 4) (length (p .positions)) ≡ length (p .frames)
+  frames-shown : sumBelow (λ i. wordIn (encode c) Positions i WAITING) (length (p .positions)) ≡ length (p .frames)
   unfolding framesOf
   frames-shown =
-      sum-same (λ i. wordIn (encode c) Positions i 4) (λ i. cell (map positionWords (p .positions)) i 4) (length (p .positions))
-      (λ i l. row-word Positions i 4 (rw (length-map (p .positions) positionWords) l) (omega arith))
+      sum-same (λ i. wordIn (encode c) Positions i WAITING) (λ i. cell (map positionWords (p .positions)) i WAITING) (length (p .positions))
+      (λ i l. row-word Positions i WAITING (rw (length-map (p .positions) positionWords) l) (omega arith))
       ∙ frames-sum (p .positions)
 
   -- the counts of lists
   counts-list : {A : Type 0} (a : Area) (f : A → List ℕ) (xs : List A) → rows p a ≡ map f xs → counted (encode c) a ≡ length xs
   counts-list a f xs e = count-is p a ∙ rw e (length-map xs f)
 
+  records-shown : (a : Area) (i : ℕ) → i < counted (encode c) a → RecordOk fieldCount a (wordIn (encode c) a i)
+  records-shown Objects i h =
+      let l : i < length (p .objects) = rw (counts-list Objects objectWords (p .objects) refl) at h in
+      let d : Object = record { class = 0; shut = false; fields = [] } in
+      let o = getD (p .objects) i d in
+      let m = at-in (p .objects) i d l in
+      record-same fieldCount Objects (wordOf (objectWords o)) (wordIn (encode c) Objects i) (element-word Objects objectWords (p .objects) i d refl l)
+      (object-ok fieldCount o (fit .own-fields o m) (fit .few-fields o m))
+  records-shown Bindings i h = tt
+  records-shown Positions i h =
+      let l : i < length (p .positions) = rw (counts-list Positions positionWords (p .positions) refl) at h in
+      let t = getD (p .positions) i failed in
+      record-same fieldCount Positions (wordOf (positionWords t)) (wordIn (encode c) Positions i)
+      (element-word Positions positionWords (p .positions) i failed refl l) (position-ok t)
+  records-shown Frames i h =
+      let l : i < length (p .frames) = rw (counts-list Frames frameWords (p .frames) refl) at h in
+      let f = getD (p .frames) i (casts 0) in
+      record-same fieldCount Frames (wordOf (frameWords f)) (wordIn (encode c) Frames i)
+      (element-word Frames frameWords (p .frames) i (casts 0) refl l) (frame-ok f)
+
+  area-shown : (a : Area) → AreaOk fieldCount (encode c) a
+  area-shown a =
+      record {
+        few = rw (count-is p a) (fit .few a);
+        records = record { each = records-shown a };
+        blank = record {
+          zero = λ i j n h l.
+              let m : length (rows p a) ≤ i = rw (count-is p a) at n in
+              word-is p a i j h l ∙ rw (List·getD-eq-default (rows p a) [] {n = i} m);
+        };
+      }
+
   pub fits-in-order : InOrder fieldCount (encode c)
   fits-in-order =
-      let objects-many = counts-list Objects objectWords (p .objects) refl in
-      let positions-many = counts-list Positions positionWords (p .positions) refl in
-      let frames-many = counts-list Frames frameWords (p .frames) refl in
       record {
         long = encode-length c;
         small = all-small (encode c) (encode-bytes fieldCount c fit);
-        few = λ a. rw (count-is p a) (fit .few a);
-        objects = λ i h.
-            let l : i < length (p .objects) = rw objects-many at h in
-            let d : Object = record { class = 0; shut = false; fields = [] } in
-            let o = getD (p .objects) i d in
-            let m = at-in (p .objects) i d l in
-            object-same fieldCount (λ j. getD (objectWords o) j 0) (wordIn (encode c) Objects i) (element-word Objects objectWords (p .objects) i d refl l)
-            (object-ok fieldCount o (fit .own-fields o m) (fit .few-fields o m));
-        positions = λ i h.
-            let l : i < length (p .positions) = rw positions-many at h in
-            position-same (λ j. getD (positionWords (getD (p .positions) i failed)) j 0) (wordIn (encode c) Positions i)
-            (element-word Positions positionWords (p .positions) i failed refl l) (position-ok (getD (p .positions) i failed));
-        frames = λ i h.
-            let l : i < length (p .frames) = rw frames-many at h in
-            frame-same (λ j. getD (frameWords (getD (p .frames) i (casts 0))) j 0) (wordIn (encode c) Frames i)
-            (element-word Frames frameWords (p .frames) i (casts 0) refl l) (frame-ok (getD (p .frames) i (casts 0)));
+        areas = area-shown;
         one-tree = tree-shown;
-        all-frames = rw (positions-many, frames-many) frames-shown;
-        blank = λ a i j n h l.
-            let m : length (rows p a) ≤ i = rw (count-is p a) at n in
-            word-is p a i j h l ∙ rw (List·getD-eq-default (rows p a) [] {n = i} m);
-        rest = rest-blank p;
+        all-frames = rw (counts-list Positions positionWords (p .positions) refl, counts-list Frames frameWords (p .frames) refl) frames-shown;
+        rest = record { zero = rest-blank p };
       }
 
 -- what is decoded is in order

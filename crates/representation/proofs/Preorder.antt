@@ -13,11 +13,11 @@ use lib.Seq.{take-at, drop-at, take-suc, take-take, drop-append-le, length-take-
 use Rattle.script.specs.Syntax.{Point}
 use Rattle.script.specs.Lists.{sumBelow}
 use Rattle.machine.specs.declared.Frame.{Frame}
-use Rattle.machine.specs.Config.{Code, Stores, Tree, running, returning, failed, join, Config}
-use Rattle.machine.specs.Machine.{Places, Outcome, still, full, moved, Path, here, left, right, inLeft, inRight, moveAt, move, spare, size, locate, part}
+use Rattle.machine.specs.Config.{Code, Stores, Tree, running, returning, failed, join}
+use Rattle.machine.specs.Machine.{Places, Outcome, still, full, moved, Path, here, left, right, inLeft, inRight, moveAt, size, locate, part}
 use Rattle.block.specs.Block.{preorder, waiting, positionWords, framesOf}
 use Rattle.representation.specs.Changed.{frameStart}
-use Rattle.representation.specs.Preorder.{splice, Named, replaced, framesAbove, inTree, PartMoves, isJoin, joinsFrom}
+use Rattle.representation.specs.Preorder.{splice, Named, replaced, framesAbove, inTree, isJoin, joinsFrom}
 use Rattle.block.proofs.Rows.{flatMap-append}
 use Rattle.block.proofs.Trees.{frames-join}
 
@@ -114,15 +114,6 @@ found t n p h =
 pub named-below : (t : Tree) (n : ℕ) → ((p : Path) × (locate t n ≡ some p)) ↔ (n < size t)
 named-below t n = (λ x. inside (found t n (x .0) (x .1) .1), λ h. let x = placed t n h in (x .place, located (x .stands)))
 
--- Two different choices name different places.
-one-number : {t u v : Tree} {m n : ℕ} {p : Path} → Stands t m p u → Stands t n p v → m ≡ n
-one-number at-root at-root = refl
-one-number (at-left x) (at-left y) = ap suc (one-number x y)
-one-number (at-right {l = l} x) (at-right y) = ap (λ (k : ℕ). suc (size l + k)) (one-number x y)
-
-pub one-choice : (t : Tree) (m n : ℕ) (p : Path) → locate t m ≡ some p → locate t n ≡ some p → m ≡ n
-one-choice t m n p h k = one-number (found t m p h .1) (found t n p k .1)
-
 -- Every part of a tree stands at a place that a choice names.
 at-part : (t : Tree) (p : Path) (u : Tree) → part t p ≡ some u → (n : ℕ) × Stands t n p u
 at-part t here u h = let e : t ≡ u = cc in (0, subst (Stands t 0 here) e at-root)
@@ -134,9 +125,6 @@ at-part failed (left p) u h = absurd (Option·none-ne-some _ h)
 at-part failed (right p) u h = absurd (Option·none-ne-some _ h)
 at-part (join fs a e l r) (left p) u h = let x = at-part l p u h in (suc (x .0), at-left (x .1))
 at-part (join fs a e l r) (right p) u h = let x = at-part r p u h in (suc (size l + x .0), at-right (x .1))
-
-pub part-named : (t : Tree) (p : Path) (u : Tree) → part t p ≡ some u → (n : ℕ) × (locate t n ≡ some p)
-part-named t p u h = let x = at-part t p u h in (x .0, located (x .1))
 
 -- the frames of some records, in the order of the frame area
 abbrev framesIn : List Tree → List Frame
@@ -313,35 +301,6 @@ module _ (s : Code) (room : Places) (st : Stores) where
   pub part-moves : (above : List Frame) (t : Tree) (p : Path) (u : Tree) → part t p ≡ some u
       → moveAt s room st above t p ≡ inTree t p (moveAt s room st (framesAbove above t p) u here)
   part-moves above t p u h = moves-there (at-part t p u h .1) above
-
--- A move at position n exchanges the records and the frames of the part there for those of what it becomes.
-pub move-replaces : (s : Code) (lim : Places) (c : Config) (n : ℕ) (p : Path) {su : Stores} {v : Tree} → locate (c .tree) n ≡ some p → move s lim c p ≡ moved su v
-    → PartMoves s lim c n p su v
-unfolding move
-move-replaces s lim c n p {su} {v} h m =
-    let x = named (c .tree) n p h in
-    go (x .tree) (x .there) (moveAt s room (c .stores) above (x .tree) here) refl (sym (part-moves s room (c .stores) [] (c .tree) p (x .tree) (x .there)) ∙ m)
-  where
-    room : Places
-    room = spare lim (c .stores) (c .tree)
-
-    above : List Frame
-    above = framesAbove [] (c .tree) p
-
-    go : (u : Tree) → part (c .tree) p ≡ some u → (o : Outcome) → moveAt s room (c .stores) above u here ≡ o → inTree (c .tree) p o ≡ moved su v → PartMoves s lim c n p su v
-    go u k still e q = let z : _≡_ {A = ℕ} 0 1 = cc in absurd (omega arith)
-    go u k (full i) e q = let z : _≡_ {A = ℕ} 0 1 = cc in absurd (omega arith)
-    go u k (moved sw w) e q =
-        let y : v ≡ replaced (c .tree) p w = cc in
-        record {
-          old = u;
-          new = w;
-          there = k;
-          moves = cc;
-          tree = y;
-          positions = ap (λ (t : Tree). map positionWords (preorder t)) y ∙ records-replaced (c .tree) n p u h k w;
-          frames = ap framesOf y ∙ frames-replaced (c .tree) n p u h k w;
-        }
 
 -- the joins directly before a record
 joins-within : (ss : List Tree) (n : ℕ) → joinsFrom ss n ≤ n

@@ -16,7 +16,7 @@ use Rattle.block.specs.declared.Area.the-variants.{Objects, Bindings, Positions
 use Rattle.block.specs.Layout.{WORDS, HEADER, countWord, width, most, begins, END}
 use Rattle.block.specs.Block.{Parts, laid}
 use Rattle.representation.specs.Shows.{Shows}
-use Rattle.block.proofs.Words.{length-laid, laid-bytes, count-is, word-is, rest-blank}
+use Rattle.block.proofs.Words.{length-laid, count-is, word-is, rest-blank}
 
 -- bytes are those of the words read from them
 bytes-run : (b : List ℕ) → ((i : ℕ) → getD b i 0 < 256) → (i n : ℕ) → 2 * (i + n) ≡ length b → bytes (run (λ k. wordAt b (2 * k)) i n) ≡ drop (2 * i) b
@@ -93,7 +93,3 @@ module _ (b : List ℕ) (p : Parts) (s : Shows b p) where
     where
       word : ℕ → ℕ
       word n = wordAt b (2 * n)
-
--- and what is laid from parts shows them
-pub laid-shows : (p : Parts) → ((i : ℕ) → getD (bytes (laid p)) i 0 < 256) → Shows (bytes (laid p)) p
-laid-shows p small = record { long = laid-bytes p; small = small; counts = count-is p; records = word-is p; rest = rest-blank p }

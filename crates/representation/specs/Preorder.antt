@@ -2,14 +2,13 @@
 use Prim.Native.Nat.{ℕ, zero, suc, _+_}
 use mathlib.Core.Path.{_≡_}
 use mathlib.Core.Bool.{Bool, true, false, cond}
-use mathlib.Core.List.{List, [], _++_, map}
+use mathlib.Core.List.{List, [], _++_}
 use mathlib.Core.Option.{some}
-use lib.ListN.{length, getD, take, drop}
+use lib.ListN.{getD, take, drop}
 use Rattle.machine.specs.declared.Frame.{Frame}
-use Rattle.machine.specs.Config.{Code, Stores, Tree, running, returning, failed, join, Config}
-use Rattle.machine.specs.Machine.{Places, Outcome, still, full, moved, Path, here, left, right, moveAt, spare, size, part}
-use Rattle.block.specs.Block.{preorder, positionWords, framesOf}
-use Rattle.representation.specs.Changed.{frameStart}
+use Rattle.machine.specs.Config.{Tree, running, returning, failed, join}
+use Rattle.machine.specs.Machine.{Outcome, still, full, moved, Path, here, left, right, size, part}
+use Rattle.block.specs.Block.{preorder}
 
 -- A list with `old` elements from number `at` on replaced by others.
 abbrev pub splice : {A : Type 0} → List A → ℕ → ℕ → List A → List A
@@ -51,16 +50,6 @@ abbrev pub inTree : Tree → Path → Outcome → Outcome
 inTree t p still = still
 inTree t p (full k) = full k
 inTree t p (moved st w) = moved st (replaced t p w)
-
--- A move at position n, place p, from c to stores su and tree v: the part there makes it, and its records and frames are replaced by those of what it becomes.
-pub record PartMoves (s : Code) (lim : Places) (c : Config) (n : ℕ) (p : Path) (su : Stores) (v : Tree) : Type 0 where
-  pub old : Tree
-  pub new : Tree
-  pub there : part (c .tree) p ≡ some old
-  pub moves : moveAt s (spare lim (c .stores) (c .tree)) (c .stores) (framesAbove [] (c .tree) p) old here ≡ moved su new
-  pub tree : v ≡ replaced (c .tree) p new
-  pub positions : map positionWords (preorder v) ≡ splice (map positionWords (preorder (c .tree))) n (size old) (map positionWords (preorder new))
-  pub frames : framesOf v ≡ splice (framesOf (c .tree)) (frameStart (c .tree) n) (length (framesOf old)) (framesOf new)
 
 -- The number of the first of the joins that stand, one after the other, directly before record n; n itself if none does.
 abbrev pub isJoin : Tree → Bool

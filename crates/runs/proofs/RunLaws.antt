@@ -19,7 +19,7 @@ use Rattle.machine.specs.WellFormed.{WfConfig, WellFormed}
 use Rattle.machine.specs.Runs.{look, Report, stopped, report}
 use Rattle.machine.proofs.Run.{moved-choice}
 use Rattle.tree.specs.declared.Tree.{Tree}
-use Rattle.state.specs.Hand.{InHand}
+use Rattle.state.specs.Represents.{Represents}
 use Rattle.moves.specs.declared.Effect.{Effect}
 use Rattle.moves.specs.declared.Effect.the-variants.{Still, Moved, Full}
 use Rattle.moves.specs.declared.Step.{Step}
@@ -28,7 +28,7 @@ use Rattle.enabled.specs.declared.Looked.the-variants.{GoesOn as SeenOn, Ends}
 use Rattle.runs.specs.declared.Next.{Next}
 use Rattle.runs.specs.declared.Next.the-variants.{GoesOn, Stops}
 use Rattle.runs.specs.declared.Taken.{Taken}
-use Rattle.choices.specs.Chose.{Chose, chose-still, chose-full, chose-moved}
+use Rattle.choices.specs.PerformsChoice.{PerformsChoice, choice-still, choice-full, choice-moved}
 use Rattle.enabled.specs.Looks.{Standing, lookOf}
 use Rattle.runs.specs.Reports.{added, TakenAs, taken-on, taken-stops, RanAs}
 
@@ -91,45 +91,45 @@ ended-report s c k (n ∷ ns) e = rw e
 
 -- the outcome by a name of its own
 pub did-as : {s b after : List ℕ} {tree : Tree} {step : Step} (x : Standing s b tree) (n : ℕ)
-    → ((c : Config) (w : Want) → InHand b tree c → WfConfig (codeOf s) w c → Chose b tree (choice (codeOf s) limits c n) after step)
-    → (o : Outcome) → choice (codeOf s) limits (x .config) n ≡ o → Chose b tree o after step
-did-as x n did o e = rw (← e) (did (x .config) (Upto (x .type)) (x .hand) (x .formed .formed))
+    → ((c : Config) (w : Want) → Represents b tree c → WfConfig (codeOf s) w c → PerformsChoice b tree (choice (codeOf s) limits c n) after step)
+    → (o : Outcome) → choice (codeOf s) limits (x .config) n ≡ o → PerformsChoice b tree o after step
+did-as x n did o e = rw (← e) (did (x .config) (Upto (x .type)) (x .represents) (x .formed .formed))
 
 -- what a choice did, by the effect that the code sees
-module _ {s b after : List ℕ} {tree : Tree} {step : Step} (x : Standing s b tree) (n : ℕ) (did : (o : Outcome) → choice (codeOf s) limits (x .config) n ≡ o → Chose b tree o after step) where
+module _ {s b after : List ℕ} {tree : Tree} {step : Step} (x : Standing s b tree) (n : ℕ) (did : (o : Outcome) → choice (codeOf s) limits (x .config) n ≡ o → PerformsChoice b tree o after step) where
   pub took-still : look (codeOf s) limits (x .config) ≡ none → step .effect ≡ Still → TakenAs s after (x .type) (x .config) n (record { made = 0; next = GoesOn; tree = step .tree })
   unfolding effectNumber
   took-still on e = go (choice (codeOf s) limits (x .config) n) refl (did _ refl) e
     where
-      go : {now : List ℕ} {r : Step} (o : Outcome) → choice (codeOf s) limits (x .config) n ≡ o → Chose b tree o now r → r .effect ≡ Still → TakenAs s now (x .type) (x .config) n (record { made = 0; next = GoesOn; tree = r .tree })
-      go still q chose-still h = taken-on (x .hand) (x .formed) on (one-still (codeOf s) (x .config) n on q)
-      go (full k) q chose-full h = let z : _≡_ {A = ℕ} 2 0 = ap effectNumber h in absurd (omega arith)
-      go (moved st t) q (chose-moved i) h = let z : _≡_ {A = ℕ} 1 0 = ap effectNumber h in absurd (omega arith)
+      go : {now : List ℕ} {r : Step} (o : Outcome) → choice (codeOf s) limits (x .config) n ≡ o → PerformsChoice b tree o now r → r .effect ≡ Still → TakenAs s now (x .type) (x .config) n (record { made = 0; next = GoesOn; tree = r .tree })
+      go still q choice-still h = taken-on (x .represents) (x .formed) on (one-still (codeOf s) (x .config) n on q)
+      go (full k) q choice-full h = let z : _≡_ {A = ℕ} 2 0 = ap effectNumber h in absurd (omega arith)
+      go (moved st t) q (choice-moved i) h = let z : _≡_ {A = ℕ} 1 0 = ap effectNumber h in absurd (omega arith)
 
   pub took-full : (k : Store) → look (codeOf s) limits (x .config) ≡ none → step .effect ≡ Full k → TakenAs s after (x .type) (x .config) n (record { made = 0; next = Stops (StopFull k); tree = step .tree })
   unfolding effectNumber storeIn
   took-full k on e = go (choice (codeOf s) limits (x .config) n) refl (did _ refl) e
     where
-      go : {now : List ℕ} {r : Step} (o : Outcome) → choice (codeOf s) limits (x .config) n ≡ o → Chose b tree o now r → r .effect ≡ Full k → TakenAs s now (x .type) (x .config) n (record { made = 0; next = Stops (StopFull k); tree = r .tree })
-      go still q chose-still h = let z : _≡_ {A = ℕ} 0 2 = ap effectNumber h in absurd (omega arith)
-      go (full j) q chose-full h = let z : j ≡ k = ap (storeIn j) h in taken-stops (x .hand) (rw z at (one-full (codeOf s) (x .config) n on q))
-      go (moved st t) q (chose-moved i) h = let z : _≡_ {A = ℕ} 1 2 = ap effectNumber h in absurd (omega arith)
+      go : {now : List ℕ} {r : Step} (o : Outcome) → choice (codeOf s) limits (x .config) n ≡ o → PerformsChoice b tree o now r → r .effect ≡ Full k → TakenAs s now (x .type) (x .config) n (record { made = 0; next = Stops (StopFull k); tree = r .tree })
+      go still q choice-still h = let z : _≡_ {A = ℕ} 0 2 = ap effectNumber h in absurd (omega arith)
+      go (full j) q choice-full h = let z : j ≡ k = ap (storeIn j) h in taken-stops (x .represents) (rw z at (one-full (codeOf s) (x .config) n on q))
+      go (moved st t) q (choice-moved i) h = let z : _≡_ {A = ℕ} 1 2 = ap effectNumber h in absurd (omega arith)
 
   -- the configuration after a move
   pub record AfterMove : Type 0 where
     pub stores : Stores
     pub threads : machine.Tree
     pub moves : choice (codeOf s) limits (x .config) n ≡ moved stores threads
-    pub hand : InHand after (step .tree) (record { stores = stores; tree = threads })
+    pub represents : Represents after (step .tree) (record { stores = stores; tree = threads })
 
   after-move : step .effect ≡ Moved → AfterMove
   unfolding effectNumber
   after-move e = go (choice (codeOf s) limits (x .config) n) refl after step (did _ refl) refl refl e
     where
-      go : (o : Outcome) → choice (codeOf s) limits (x .config) n ≡ o → (now : List ℕ) (r : Step) → Chose b tree o now r → now ≡ after → r ≡ step → r .effect ≡ Moved → AfterMove
-      go still q now r chose-still a m h = let z : _≡_ {A = ℕ} 0 1 = ap effectNumber h in absurd (omega arith)
-      go (full k) q now r chose-full a m h = let z : _≡_ {A = ℕ} 2 1 = ap effectNumber h in absurd (omega arith)
-      go (moved st t) q now r (chose-moved {tree = u} i) a m h = record { stores = st; threads = t; moves = q; hand = rw (a, ap (λ (y : Step). y .tree) m) at i }
+      go : (o : Outcome) → choice (codeOf s) limits (x .config) n ≡ o → (now : List ℕ) (r : Step) → PerformsChoice b tree o now r → now ≡ after → r ≡ step → r .effect ≡ Moved → AfterMove
+      go still q now r choice-still a m h = let z : _≡_ {A = ℕ} 0 1 = ap effectNumber h in absurd (omega arith)
+      go (full k) q now r choice-full a m h = let z : _≡_ {A = ℕ} 2 1 = ap effectNumber h in absurd (omega arith)
+      go (moved st t) q now r (choice-moved {tree = u} i) a m h = record { stores = st; threads = t; moves = q; represents = rw (a, ap (λ (y : Step). y .tree) m) at i }
 
   pub moved-standing : step .effect ≡ Moved → Standing s after (step .tree)
   moved-standing e =
@@ -137,7 +137,7 @@ module _ {s b after : List ℕ} {tree : Tree} {step : Step} (x : Standing s b tr
       record {
         config = record { stores = m .stores; tree = m .threads };
         type = x .type;
-        hand = m .hand;
+        represents = m .represents;
         accepted = x .accepted;
         formed = moved-choice (x .accepted) limits n (x .formed) (m .moves);
       }
@@ -148,7 +148,7 @@ module _ {s b after : List ℕ} {tree : Tree} {step : Step} (x : Standing s b tr
   took-move on e how l k =
       let m = after-move e in
       let y = moved-standing e in
-      taken-on (m .hand) (y .formed) (look-on (look (codeOf s) limits (y .config)) how l k) (one-moved (codeOf s) (x .config) n on (m .moves))
+      taken-on (m .represents) (y .formed) (look-on (look (codeOf s) limits (y .config)) how l k) (one-moved (codeOf s) (x .config) n on (m .moves))
 
   pub took-last : look (codeOf s) limits (x .config) ≡ none → (e : step .effect ≡ Moved) (how : Looked) (j : Ending) → how ≡ lookOf (look (codeOf s) limits (moved-standing e .config)) → how ≡ Ends j
       → TakenAs s after (x .type) (x .config) n (record { made = 1; next = Stops (Ended j); tree = step .tree })
@@ -157,7 +157,7 @@ module _ {s b after : List ℕ} {tree : Tree} {step : Step} (x : Standing s b tr
       let m = after-move e in
       let y = moved-standing e in
       let q = look-ends (look (codeOf s) limits (y .config)) how j l k in
-      taken-stops (m .hand)
+      taken-stops (m .represents)
       (λ ns. one-moved (codeOf s) (x .config) n on (m .moves) ns ∙ ap (added 1 1) (ended-report (codeOf s) (y .config) j ns q) ∙ same-counts _ _ (1 + 0) (1 + 0) 1 1 refl refl)
 
 spent-report : (s : Code) (c : Config) → look s limits c ≡ none → report s limits c [] ≡ stopped Spent c
@@ -175,7 +175,7 @@ stopIn d (Stops k) = k
 -- A run that has read so many choices and made so many moves, and goes on.
 pub record Going (s b : List ℕ) (self : Tree) (t : ℕ) (c : Config) (ns : List ℕ) (read moves : ℕ) : Type 0 where
   pub config : Config
-  pub hand : InHand b self config
+  pub represents : Represents b self config
   pub formed : WellFormed (codeOf s) limits t config
   pub on : look (codeOf s) limits config ≡ none
   pub rest : report (codeOf s) limits c ns ≡ added read moves (report (codeOf s) limits config (drop read ns))
@@ -192,39 +192,39 @@ module _ {s after : List ℕ} {t : ℕ} (c d : Config) (ns : List ℕ) (read mov
   stops : {taken : Taken} {stop : Stop} → TakenAs s after t d (getD ns read 0) taken → taken .next ≡ Stops stop
       → RanAs (report (codeOf s) limits c ns) after (record { stop = stop; read = read + 1; moves = moves + taken .made; tree = taken .tree })
   unfolding nextNumber stopIn
-  stops (taken-on hand formed on rep) e = let z : _≡_ {A = ℕ} 0 1 = ap nextNumber e in absurd (omega arith)
-  stops (taken-stops {stop = j} hand rep) e =
+  stops (taken-on represents formed on rep) e = let z : _≡_ {A = ℕ} 0 1 = ap nextNumber e in absurd (omega arith)
+  stops (taken-stops {stop = j} represents rep) e =
       rw (so-far ∙ ap (added read moves) (rep (drop (suc read) ns)))
-      (record { stop = sym (ap (stopIn j) e); read = refl; moves = refl; hand = hand })
+      (record { stop = sym (ap (stopIn j) e); read = refl; moves = refl; represents = represents })
 
   goes : {taken : Taken} → TakenAs s after t d (getD ns read 0) taken → taken .next ≡ GoesOn → Going s after (taken .tree) t c ns (read + 1) (moves + taken .made)
   unfolding nextNumber
-  goes (taken-on {made = made} {d = f} hand formed on rep) e =
+  goes (taken-on {made = made} {d = f} represents formed on rep) e =
       let n : read + 1 ≡ suc read = omega arith in
       let r = report (codeOf s) limits f (drop (suc read) ns) in
       record {
         config = f;
-        hand = hand;
+        represents = represents;
         formed = formed;
         on = on;
         rest = so-far ∙ ap (added read moves) (rep (drop (suc read) ns))
             ∙ same-counts (r .stop) (r .config) (read + (1 + r .read)) (moves + (made + r .moves)) (read + 1 + r .read) (moves + made + r .moves) (omega arith) (omega arith)
             ∙ ap (λ (k : ℕ). added (read + 1) (moves + made) (report (codeOf s) limits f (drop k ns))) (sym n);
       }
-  goes (taken-stops {stop = j} hand rep) e = let z : _≡_ {A = ℕ} 1 0 = ap nextNumber e in absurd (omega arith)
+  goes (taken-stops {stop = j} represents rep) e = let z : _≡_ {A = ℕ} 1 0 = ap nextNumber e in absurd (omega arith)
 
 module _ {s b₀ : List ℕ} {tree₀ : Tree} {ns : List ℕ} where
   pub loop-begun : ((x : Standing s b₀ tree₀) → look (codeOf s) limits (x .config) ≡ none) → Loop s b₀ tree₀ ns b₀ tree₀ 0 0
   loop-begun on =
       record {
-        going = λ x. record { config = x .config; hand = x .hand; formed = x .formed; on = on x; rest = same-counts _ _ _ _ _ _ (omega arith) (omega arith) };
+        going = λ x. record { config = x .config; represents = x .represents; formed = x .formed; on = on x; rest = same-counts _ _ _ _ _ _ (omega arith) (omega arith) };
         few = omega arith;
         fewer = omega arith;
       }
 
   module _ {b : List ℕ} {self : Tree} {read moves : ℕ} (h : Loop s b₀ tree₀ ns b self read moves) where
     pub loop-standing : Standing s b₀ tree₀ → Standing s b self
-    loop-standing x = let g = h .going x in record { config = g .config; type = x .type; hand = g .hand; accepted = x .accepted; formed = g .formed }
+    loop-standing x = let g = h .going x in record { config = g .config; type = x .type; represents = g .represents; accepted = x .accepted; formed = g .formed }
 
     module _ {after : List ℕ} {taken : Taken} (more : read < length ns) (one : taken .made ≤ 1) (n : ℕ) (is : n ≡ getD ns read 0)
         (did : (y : Standing s b self) → look (codeOf s) limits (y .config) ≡ none → TakenAs s after (y .type) (y .config) n taken) where
@@ -248,10 +248,10 @@ module _ {s b₀ : List ℕ} {tree₀ : Tree} {ns : List ℕ} where
         let g = h .going x in
         let none-left : drop read ns ≡ [] = drop-of-length-le ns {i = read} l in
         let r = g .rest ∙ ap (λ (m : List ℕ). added read moves (report (codeOf s) limits (g .config) m)) none-left ∙ ap (added read moves) (spent-report (codeOf s) (g .config) (g .on)) in
-        rw r (record { stop = refl; read = omega arith; moves = omega arith; hand = g .hand })
+        rw r (record { stop = refl; read = omega arith; moves = omega arith; represents = g .represents })
 
 -- a run that has ended before it reads a choice
 pub ended-first : {s b : List ℕ} {tree : Tree} (x : Standing s b tree) (ns : List ℕ) (how : Looked) (k : Ending) → how ≡ lookOf (look (codeOf s) limits (x .config)) → how ≡ Ends k
     → RanAs (report (codeOf s) limits (x .config) ns) b (record { stop = Ended k; read = 0; moves = 0; tree = tree })
 ended-first {s} x ns how k e h =
-    rw (ended-report (codeOf s) (x .config) k ns (look-ends (look (codeOf s) limits (x .config)) how k e h)) (record { stop = refl; read = refl; moves = refl; hand = x .hand })
+    rw (ended-report (codeOf s) (x .config) k ns (look-ends (look (codeOf s) limits (x .config)) how k e h)) (record { stop = refl; read = refl; moves = refl; represents = x .represents })

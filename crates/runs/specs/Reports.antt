@@ -9,7 +9,7 @@ use Rattle.machine.specs.Machine.{limits}
 use Rattle.machine.specs.WellFormed.{WellFormed}
 use Rattle.machine.specs.Runs.{look, Report, report}
 use Rattle.tree.specs.declared.Tree.{Tree}
-use Rattle.state.specs.Hand.{InHand}
+use Rattle.state.specs.Represents.{Represents}
 use Rattle.runs.specs.declared.Next.the-variants.{GoesOn, Stops}
 use Rattle.runs.specs.declared.Taken.{Taken}
 use Rattle.runs.specs.declared.Ran.{Ran}
@@ -20,16 +20,16 @@ added read moves r = record { stop = r .stop; read = read + r .read; moves = mov
 
 -- What choice n did to the configuration c, in which something can move; the block is b after it.
 pub data TakenAs (s b : List ℕ) (t : ℕ) (c : Config) (n : ℕ) : Taken → Type 0 where
-  taken-on : {made : ℕ} {tree : Tree} {d : Config} → InHand b tree d → WellFormed (codeOf s) limits t d → look (codeOf s) limits d ≡ none
+  taken-on : {made : ℕ} {tree : Tree} {d : Config} → Represents b tree d → WellFormed (codeOf s) limits t d → look (codeOf s) limits d ≡ none
       → ((ns : List ℕ) → report (codeOf s) limits c (n ∷ ns) ≡ added 1 made (report (codeOf s) limits d ns))
       → TakenAs s b t c n (record { made = made; next = GoesOn; tree = tree })
-  taken-stops : {made : ℕ} {stop : Stop} {tree : Tree} {d : Config} → InHand b tree d
+  taken-stops : {made : ℕ} {stop : Stop} {tree : Tree} {d : Config} → Represents b tree d
       → ((ns : List ℕ) → report (codeOf s) limits c (n ∷ ns) ≡ record { stop = stop; read = 1; moves = made; config = d })
       → TakenAs s b t c n (record { made = made; next = Stops stop; tree = tree })
 
--- The answer is the report's, and what is in hand is the configuration that the run leaves.
+-- The answer is the report's, and block and tree represent the configuration that the run leaves.
 pub record RanAs (rep : Report) (b : List ℕ) (r : Ran) : Type 0 where
   pub stop : r .stop ≡ rep .stop
   pub read : r .read ≡ rep .read
   pub moves : r .moves ≡ rep .moves
-  pub hand : InHand b (r .tree) (rep .config)
+  pub represents : Represents b (r .tree) (rep .config)

@@ -18,7 +18,7 @@ pub struct Taken {
     pub tree: Tree,
 }
 
-// What Run returns, and the tree that it leaves in hand.
+// What Run returns, and the tree that it leaves.
 pub struct Ran {
     pub stop: Stop,
     pub read: usize,

@@ -27,6 +27,17 @@ fn wide(x: u8) -> usize
     x as usize
 }
 
+// What a choice did, of these parts.
+fn taken(made: usize, next: Next, tree: Tree) -> Taken
+    ensures { λ r. ⌜ r ≡ record { made = made; next = next; tree = tree } ⌝ }
+{
+    Taken {
+        made: made,
+        next: next,
+        tree: tree,
+    }
+}
+
 // The choice of a position where something can move, and the look after it. Where no move was made nothing has changed, and the look is spared.
 fn take_choice(
     s: &[u8],
@@ -49,31 +60,15 @@ fn take_choice(
     let effect = step.effect;
     let after = step.tree;
     match effect {
-        Effect::Still => Taken {
-            made: 0,
-            next: Next::GoesOn,
-            tree: after,
-        },
+        Effect::Still => taken(0, Next::GoesOn, after),
         Effect::Moved => {
             let how = look(s, block, after);
             match how {
-                Looked::GoesOn => Taken {
-                    made: 1,
-                    next: Next::GoesOn,
-                    tree: after,
-                },
-                Looked::Ends(e) => Taken {
-                    made: 1,
-                    next: Next::Stops(Stop::Ended(e)),
-                    tree: after,
-                },
+                Looked::GoesOn => taken(1, Next::GoesOn, after),
+                Looked::Ends(e) => taken(1, Next::Stops(Stop::Ended(e)), after),
             }
         }
-        Effect::Full(k) => Taken {
-            made: 0,
-            next: Next::Stops(Stop::Full(k)),
-            tree: after,
-        },
+        Effect::Full(k) => taken(0, Next::Stops(Stop::Full(k)), after),
     }
 }
 
@@ -124,7 +119,7 @@ fn follow(
     }
 }
 
-// Run: the stop, "choices read and moves made", and the tree that the run leaves in hand.
+// Run: the stop, "choices read and moves made", and the tree that the run leaves.
 pub fn run_choices(
     s: &[u8],
     starts: &[u16],

@@ -1,6 +1,6 @@
 -- The computed answers to questions 1 to 8 say what the plain statements say. `decides-..` is that a test says whether its statement holds, of the script or of a record.
 use mathlib.Core.Path.{_≡_, refl, sym, ap, _∙_}
-use mathlib.Core.Bool.{false}
+use mathlib.Core.Bool.{Bool}
 use mathlib.Core.List.{List, [], _∷_}
 use mathlib.Core.Logic.{⊎-elim, inl, inr}
 use mathlib.Core.Option.{Option, none, some}
@@ -13,16 +13,18 @@ use borrow.Author.Tests.{le-leb, lt-leb}
 use Rattle.limits.specs.Limits.{CONTENTS, FILE, CLASS-FIELDS}
 use Rattle.script.specs.declared.Question.{Question}
 use Rattle.script.specs.declared.Question.the-variants.{Length, Counts, Places, Interfaces, Owners, Types, Nodes, Names, Joins}
+use Rattle.script.specs.declared.Role.{Role}
+use Rattle.script.specs.declared.Role.the-variants.{Unused, Variable, Member, Bound, NewClass, CastType, Expression, Unknown}
 use Rattle.script.specs.Lists.{sumBelow, countIn}
-use Rattle.script.specs.Section.{Section, interfaces, signatures, classes, fields, methods, nodes, sections, mostOf, sizeOf, bodyAt, countOf, endOf, nodeWord}
-use Rattle.script.specs.Syntax.{Point, Node, n-null, n-var, n-select, n-update, n-call, n-bind, n-new, n-cast, n-fork, n-lock, parts}
-use Rattle.script.specs.Reading.{Kind, null-kind, var-kind, select-kind, update-kind, call-kind, bind-kind, new-kind, cast-kind, fork-kind, lock-kind, unknown-kind, kindOf, viewAt, ownSignatures, ownFields, ownMethods}
-use Rattle.script.specs.Asking.{Refusal, firstNo, lowestOut, Decides, holds, fails, Each, Lowest, lowest-at}
-use Rattle.script.specs.Questions.{lengthTest, withinTest, countsTest, placedFrom, placesTest, earlierTest, interfaceTest, interfacesTest, ownersTest, typeTest, interfaceTypeTest, classTypeTest, operandTest, typesTest, knownTest, unusedAt, boundTest, partTest, usesIn, dueUses, nodeTest, nodesTest, runStart, hasName, freshTest, namesTest, layoutQuestions}
-use Rattle.script.specs.Statements.{LengthIs, CountsAre, PlacesAre, Earlier, InterfaceIs, a-list, a-join, InterfacesAre, OwnersAre, TypeWord, InterfaceWord, ClassWord, OperandIs, TypesAre, BoundIs, Part, NodeIs, NodesAre, Fresh, NamesAre, WithinLayout}
+use Rattle.script.specs.Section.{Section, interfaces, signatures, classes, fields, methods, nodes, sections, mostOf, sizeOf, bodyAt, countOf, endOf, recordWord}
+use Rattle.script.specs.Syntax.{Point}
+use Rattle.script.specs.Reading.{ownSignatures, ownFields, ownMethods}
+use Rattle.script.specs.Asking.{Refusal, firstNo, lowestIn, Decides, holds, fails, Each, LowestNo, Lowest}
+use Rattle.script.specs.Questions.{lengthTest, withinTest, countsTest, placedFrom, placesTest, earlierTest, interfaceTest, interfacesTest, ownersTest, typeTest, interfaceTypeTest, classTypeTest, typeWordTest, wordsTest, twoTypesTest, typesTest, partTest, wordTest, usesIn, dueUses, nodeTest, nodesTest, runStart, hasName, freshTest, namesTest, layoutQuestions}
+use Rattle.script.specs.Statements.{LengthIs, CountsAre, Placed, PlacesAre, Earlier, InterfaceIs, a-list, a-join, InterfacesAre, OwnersAre, TypeWord, InterfaceWord, ClassWord, TypeWordIs, Words, TypesAre, Part, WordIs, NodeIs, NodesAre, Fresh, NamesAre, WithinLayout}
 use Rattle.script.proofs.Lists.{AtIndex, sum-more, owner-of}
-use Rattle.script.proofs.Tests.{true-false, decides, decides-as, decides-and, decides-or, decides-not, decides-eq, decides-le, decides-lt, decides-all}
-use Rattle.script.proofs.Lowest.{Placed, placed, fault-not, lowest, ask-whole, ask-records}
+use Rattle.script.proofs.Tests.{decides-as, decides-and, decides-or, decides-not, decides-eq, decides-le, decides-lt}
+use Rattle.script.proofs.Lowest.{no-more, asked, passed, lowest, fault-not, ask-whole, ask-records}
 
 -- Question 1.
 pub decides-length : (s : List ℕ) → Decides (LengthIs s) (lengthTest s)
@@ -67,21 +69,8 @@ decides-placed s at [] = decides-eq at (length s)
 decides-placed s at (k ∷ ks) = decides-and (decides-eq (bodyAt s k) at) (decides-placed s (endOf s k) ks)
 
 pub decides-places : (s : List ℕ) → Decides (PlacesAre s) (placesTest s)
-unfolding placesTest sections
-decides-places s =
-    decides-as
-    (λ h.
-    record {
-      interfaces-at = h .0;
-      signatures-at = h .1 .0;
-      classes-at = h .1 .1 .0;
-      fields-at = h .1 .1 .1 .0;
-      methods-at = h .1 .1 .1 .1 .0;
-      nodes-at = h .1 .1 .1 .1 .1 .0;
-      file-ends = h .1 .1 .1 .1 .1 .1;
-    })
-    (placed s)
-    (decides-placed s CONTENTS sections)
+unfolding placesTest
+decides-places s = decides-placed s CONTENTS sections
 
 -- Question 4.
 decides-earlier : (i t : ℕ) → Decides (Earlier i t) (earlierTest i t)
@@ -96,15 +85,6 @@ decides-interface s i =
     (decides-or
     (decides-and (decides-eq _ 0) (decides-eq _ 0))
     (decides-and (decides-eq _ 1) (decides-and (decides-earlier i _) (decides-earlier i _))))
-
-pub decides-interfaces : (s : List ℕ) (k : Section) (i : ℕ) → Decides (InterfacesAre s k i) (interfacesTest s k i)
-unfolding interfacesTest
-decides-interfaces s interfaces i = decides-interface s i
-decides-interfaces s signatures i = holds tt
-decides-interfaces s classes i = holds tt
-decides-interfaces s fields i = holds tt
-decides-interfaces s methods i = holds tt
-decides-interfaces s nodes i = holds tt
 
 -- Question 5.
 pub decides-owners : (s : List ℕ) → Decides (OwnersAre s) (ownersTest s)
@@ -122,64 +102,44 @@ decides-type s t = decides-le t _
 
 decides-class : (s : List ℕ) (t : ℕ) → Decides (ClassWord s t) (classTypeTest s t)
 unfolding classTypeTest
-decides-class s t = decides-as (λ h. record { past = h .0; last = h .1 }) (λ h. (h .past, h .last)) (decides-and (decides-lt (countOf s interfaces) t) (decides-type s t))
+decides-class s t = decides-as (λ h. record { past = h .0; last = h .1 }) (λ h. (h .past, h .last)) (decides-and (decides-lt (countOf s interfaces) t) (decides-le t _))
 
 decides-implements : (s : List ℕ) (t : ℕ) → Decides (InterfaceWord s t) (interfaceTypeTest s t)
 unfolding interfaceTypeTest
 decides-implements s t = decides-as (λ h. record { first = h .0; last = h .1 }) (λ h. (h .first, h .last)) (decides-and (decides-lt 0 t) (decides-le t (countOf s interfaces)))
 
-decides-operand : (s : List ℕ) (n : Node) → Decides (OperandIs s n) (operandTest s n)
-decides-operand s n-null = holds tt
-decides-operand s (n-var x) = holds tt
-decides-operand s (n-select x f) = holds tt
-decides-operand s (n-update x f p) = holds tt
-decides-operand s (n-call x m p) = holds tt
-decides-operand s (n-bind x p q) = holds tt
-decides-operand s (n-new c) = decides-class s c
-decides-operand s (n-cast t p) = decides-type s t
-decides-operand s (n-fork p q r) = holds tt
-decides-operand s (n-lock x p) = holds tt
+decides-type-word : (s : List ℕ) (r : Role) (w : ℕ) → Decides (TypeWordIs s r w) (typeWordTest s r w)
+decides-type-word s Unused w = holds tt
+decides-type-word s Variable w = holds tt
+decides-type-word s Member w = holds tt
+decides-type-word s Bound w = holds tt
+decides-type-word s NewClass w = decides-class s w
+decides-type-word s CastType w = decides-type s w
+decides-type-word s Expression w = holds tt
+decides-type-word s Unknown w = holds tt
 
-pub decides-types : (s : List ℕ) (k : Section) (i : ℕ) → Decides (TypesAre s k i) (typesTest s k i)
-unfolding typesTest
-decides-types s interfaces i = holds tt
-decides-types s signatures i = decides-and (decides-type s _) (decides-type s _)
-decides-types s classes i = decides-implements s _
-decides-types s fields i = decides-type s _
-decides-types s methods i = decides-and (decides-type s _) (decides-type s _)
-decides-types s nodes i = decides-operand s (viewAt s i)
+decides-words :
+    (s : List ℕ) (Is : Role → ℕ → Type 0) (test : Role → ℕ → Bool) (n : Point) → ((r : Role) (w : ℕ) → Decides (Is r w) (test r w))
+    → Decides (Words s Is n) (wordsTest s test n)
+decides-words s Is test n d =
+    decides-as
+    (λ h. record { a-is = h .0; b-is = h .1 .0; c-is = h .1 .1 })
+    (λ h. (h .a-is, (h .b-is, h .c-is)))
+    (decides-and (d _ _) (decides-and (d _ _) (d _ _)))
 
--- Question 7. Only an unknown kind fails the test of kinds.
-unknown-is : (k : Kind) → knownTest k ≡ false → k ≡ unknown-kind
-unknown-is null-kind e = absurd (true-false e)
-unknown-is var-kind e = absurd (true-false e)
-unknown-is select-kind e = absurd (true-false e)
-unknown-is update-kind e = absurd (true-false e)
-unknown-is call-kind e = absurd (true-false e)
-unknown-is bind-kind e = absurd (true-false e)
-unknown-is new-kind e = absurd (true-false e)
-unknown-is cast-kind e = absurd (true-false e)
-unknown-is fork-kind e = absurd (true-false e)
-unknown-is lock-kind e = absurd (true-false e)
-unknown-is unknown-kind e = refl
-
-decides-known : (k : Kind) → Decides (k ≡ unknown-kind → ⊥) (knownTest k)
-decides-known k = decides (knownTest k) (λ e u. true-false (sym e ∙ ap knownTest u)) (λ e n. n (unknown-is k e))
-
-decides-bound : (n : Node) → Decides (BoundIs n) (boundTest n)
-decides-bound n-null = holds tt
-decides-bound (n-var x) = holds tt
-decides-bound (n-select x f) = holds tt
-decides-bound (n-update x f p) = holds tt
-decides-bound (n-call x m p) = holds tt
-decides-bound (n-bind x p q) = decides-le 2 x
-decides-bound (n-new c) = holds tt
-decides-bound (n-cast t p) = holds tt
-decides-bound (n-fork p q r) = holds tt
-decides-bound (n-lock x p) = holds tt
-
+-- Question 7.
 decides-part : (s : List ℕ) (n p : Point) → Decides (Part s n p) (partTest s n p)
 decides-part s n p = decides-as (λ h. record { later = h .0; there = h .1 }) (λ h. (h .later, h .there)) (decides-and (decides-lt n p) (decides-lt p (countOf s nodes)))
+
+decides-word : (s : List ℕ) (n : Point) (r : Role) (w : ℕ) → Decides (WordIs s n r w) (wordTest s n r w)
+decides-word s n Unused w = decides-eq w 0
+decides-word s n Variable w = holds tt
+decides-word s n Member w = holds tt
+decides-word s n Bound w = decides-le 2 w
+decides-word s n NewClass w = holds tt
+decides-word s n CastType w = holds tt
+decides-word s n Expression w = decides-part s n w
+decides-word s n Unknown w = fails (λ h. h)
 
 -- Whether node n is used as often as it is to be.
 decides-used : (n uses : ℕ) → Decides ((n ≡ 0 → uses ≡ 0) × (0 < n → uses ≡ 1)) (eqb uses (dueUses n))
@@ -190,22 +150,9 @@ decides-node : (s : List ℕ) (n : Point) → Decides (NodeIs s n) (nodeTest s n
 unfolding nodeTest
 decides-node s n =
     decides-as
-    (λ h. record { known = h .0; unused = h .1 .0; bound = h .1 .1 .0; in-order = h .1 .1 .1 .0; start-unused = h .1 .1 .1 .1 .0; used-once = h .1 .1 .1 .1 .1 })
-    (λ h. (h .known, (h .unused, (h .bound, (h .in-order, (h .start-unused, h .used-once))))))
-    (decides-and (decides-known (kindOf (nodeWord s n 0)))
-    (decides-and (decides-all (λ w. w ≡ 0) (λ w. eqb w 0) (unusedAt s n) (λ w. decides-eq w 0))
-    (decides-and (decides-bound (viewAt s n))
-    (decides-and (decides-all (Part s n) (partTest s n) (parts (viewAt s n)) (decides-part s n))
-    (decides-used n (countIn n (usesIn s)))))))
-
-pub decides-nodes : (s : List ℕ) (k : Section) (i : ℕ) → Decides (NodesAre s k i) (nodesTest s k i)
-unfolding nodesTest
-decides-nodes s interfaces i = holds tt
-decides-nodes s signatures i = holds tt
-decides-nodes s classes i = holds tt
-decides-nodes s fields i = holds tt
-decides-nodes s methods i = decides-lt _ _
-decides-nodes s nodes i = decides-node s i
+    (λ h. record { words = h .0; start-unused = h .1 .0; used-once = h .1 .1 })
+    (λ h. (h .words, (h .start-unused, h .used-once)))
+    (decides-and (decides-words s (WordIs s n) (wordTest s n) n (decides-word s n)) (decides-used n (countIn n (usesIn s))))
 
 -- Question 8. The run of the owner of record i begins where `runStart` says.
 pub run-start : (own : ℕ → ℕ) (n i owner : ℕ) → owner < n → sumBelow own owner ≤ i → i < sumBelow own owner + own owner → runStart own n i ≡ sumBelow own owner
@@ -248,29 +195,41 @@ decides-fresh name own n i h =
     f (a .index) (record { owner = o .owner; among = o .among; from = omega arith; before = omega arith; upto = o .upto }) (sym (a .is)))
     (decides-not (decides-named name (name i) (runStart own n i) (i - runStart own n i)))
 
--- Where owners' counts add up, each signature, field and method has an owner.
-pub decides-names : (s : List ℕ) → OwnersAre s → (k : Section) (i : ℕ) → i < countOf s k → Decides (NamesAre s k i) (namesTest s k i)
-unfolding namesTest
-decides-names s o interfaces i h = holds tt
-decides-names s o signatures i h = decides-fresh _ (ownSignatures s) (countOf s interfaces) i (rw (o .of-signatures) h)
-decides-names s o classes i h = decides-le (ownFields s i) CLASS-FIELDS
-decides-names s o fields i h = decides-fresh _ (ownFields s) (countOf s classes) i (rw (o .of-fields) h)
-decides-names s o methods i h = decides-fresh _ (ownMethods s) (countOf s classes) i (rw (o .of-methods) h)
-decides-names s o nodes i h = holds tt
-
 -- The place of a no to question 4, 6, 7 or 8 is that of the lowest record at fault.
 module _ (s : List ℕ) (p : PlacesAre s) where
-  pub lowest-interfaces : Lowest s (InterfacesAre s) (lowestOut s (interfacesTest s))
-  lowest-interfaces = lowest s (interfacesTest s) (InterfacesAre s) p (λ k i h f. decides-interfaces s k i)
+  pub lowest-interfaces : Lowest s (InterfacesAre s) (lowestIn s (interfacesTest s))
+  unfolding interfacesTest sections
+  lowest-interfaces = lowest s p (asked (λ i h f. decides-interface s i) (passed (passed (passed (passed (passed no-more))))))
 
-  pub lowest-types : Lowest s (TypesAre s) (lowestOut s (typesTest s))
-  lowest-types = lowest s (typesTest s) (TypesAre s) p (λ k i h f. decides-types s k i)
+  two-types : (k : Section) (i : ℕ) → Decides (TypeWord s (recordWord s k i 1) × TypeWord s (recordWord s k i 2)) (twoTypesTest s k i)
+  two-types k i = decides-and (decides-type s _) (decides-type s _)
 
-  pub lowest-nodes : Lowest s (NodesAre s) (lowestOut s (nodesTest s))
-  lowest-nodes = lowest s (nodesTest s) (NodesAre s) p (λ k i h f. decides-nodes s k i)
+  pub lowest-types : Lowest s (TypesAre s) (lowestIn s (typesTest s))
+  unfolding typesTest sections
+  lowest-types =
+      lowest s p
+      (passed
+      (asked (λ i h f. two-types signatures i)
+      (asked (λ i h f. decides-implements s _)
+      (asked (λ i h f. decides-type s _)
+      (asked (λ i h f. two-types methods i)
+      (asked (λ n h f. decides-words s (TypeWordIs s) (typeWordTest s) n (decides-type-word s)) no-more))))))
 
-  pub lowest-names : OwnersAre s → Lowest s (NamesAre s) (lowestOut s (namesTest s))
-  lowest-names o = lowest s (namesTest s) (NamesAre s) p (λ k i h f. decides-names s o k i h)
+  pub lowest-nodes : Lowest s (NodesAre s) (lowestIn s (nodesTest s))
+  unfolding nodesTest sections
+  lowest-nodes = lowest s p (passed (passed (passed (passed (asked (λ i h f. decides-lt _ _) (asked (λ n h f. decides-node s n) no-more))))))
+
+  -- Where owners' counts add up, each signature, field and method has an owner.
+  pub lowest-names : OwnersAre s → Lowest s (NamesAre s) (lowestIn s (namesTest s))
+  unfolding namesTest sections
+  lowest-names o =
+      lowest s p
+      (passed
+      (asked (λ i h f. decides-fresh _ (ownSignatures s) (countOf s interfaces) i (rw (o .of-signatures) h))
+      (asked (λ i h f. decides-le (ownFields s i) CLASS-FIELDS)
+      (asked (λ i h f. decides-fresh _ (ownFields s) (countOf s classes) i (rw (o .of-fields) h))
+      (asked (λ i h f. decides-fresh _ (ownMethods s) (countOf s classes) i (rw (o .of-methods) h))
+      (passed no-more))))))
 
 -- The plain statements of the questions before this one, the last first.
 pub data Before (s : List ℕ) : Question → Type 0 where
@@ -289,11 +248,11 @@ pub data LayoutNo (s : List ℕ) : Refusal → Type 0 where
   length-no : (LengthIs s → ⊥) → Before s Length → LayoutNo s (record { question = Length; place = 0 })
   counts-no : (CountsAre s → ⊥) → Before s Counts → LayoutNo s (record { question = Counts; place = 0 })
   places-no : (PlacesAre s → ⊥) → Before s Places → LayoutNo s (record { question = Places; place = 0 })
-  interfaces-no : {place : ℕ} → Lowest s (InterfacesAre s) (some place) → Before s Interfaces → LayoutNo s (record { question = Interfaces; place = place })
+  interfaces-no : {place : ℕ} → LowestNo s (InterfacesAre s) place → Before s Interfaces → LayoutNo s (record { question = Interfaces; place = place })
   owners-no : (OwnersAre s → ⊥) → Before s Owners → LayoutNo s (record { question = Owners; place = 0 })
-  types-no : {place : ℕ} → Lowest s (TypesAre s) (some place) → Before s Types → LayoutNo s (record { question = Types; place = place })
-  nodes-no : {place : ℕ} → Lowest s (NodesAre s) (some place) → Before s Nodes → LayoutNo s (record { question = Nodes; place = place })
-  names-no : {place : ℕ} → Lowest s (NamesAre s) (some place) → Before s Names → LayoutNo s (record { question = Names; place = place })
+  types-no : {place : ℕ} → LowestNo s (TypesAre s) place → Before s Types → LayoutNo s (record { question = Types; place = place })
+  nodes-no : {place : ℕ} → LowestNo s (NodesAre s) place → Before s Nodes → LayoutNo s (record { question = Nodes; place = place })
+  names-no : {place : ℕ} → LowestNo s (NamesAre s) place → Before s Names → LayoutNo s (record { question = Names; place = place })
 
 -- What the answer to questions 1 to 8 says.
 pub data LayoutSays (s : List ℕ) : Option Refusal → Type 0 where
@@ -341,19 +300,16 @@ within-layout s e = go (rw e at (layout-says s))
           names-are = n₈;
         }
 
-none-faulty : {s : List ℕ} {Good : Section → ℕ → Type 0} {place : ℕ} → Lowest s Good (some place) → Each s Good → ⊥
-none-faulty (lowest-at x f) g = fault-not x g
-
 -- A script within layout and limits gets no no to questions 1 to 8.
 none-refused : {s : List ℕ} {r : Refusal} → WithinLayout s → LayoutNo s r → ⊥
 none-refused w (length-no n b) = n (w .length-is)
 none-refused w (counts-no n b) = n (w .counts-are)
 none-refused w (places-no n b) = n (w .places-are)
-none-refused w (interfaces-no n b) = none-faulty n (w .interfaces-are)
+none-refused {s} w (interfaces-no {place = place} n b) = fault-not s (InterfacesAre s) place (n .fault) (w .interfaces-are)
 none-refused w (owners-no n b) = n (w .owners-are)
-none-refused w (types-no n b) = none-faulty n (w .types-are)
-none-refused w (nodes-no n b) = none-faulty n (w .nodes-are)
-none-refused w (names-no n b) = none-faulty n (w .names-are)
+none-refused {s} w (types-no {place = place} n b) = fault-not s (TypesAre s) place (n .fault) (w .types-are)
+none-refused {s} w (nodes-no {place = place} n b) = fault-not s (NodesAre s) place (n .fault) (w .nodes-are)
+none-refused {s} w (names-no {place = place} n b) = fault-not s (NamesAre s) place (n .fault) (w .names-are)
 
 -- So it gets a yes.
 pub layout-passes : (s : List ℕ) → WithinLayout s → firstNo (layoutQuestions s) ≡ none

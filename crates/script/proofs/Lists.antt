@@ -4,14 +4,19 @@ use mathlib.Core.Bool.{Bool, true, false, cond}
 use mathlib.Core.List.{List, [], _∷_, List·Memᴰ·head, List·Memᴰ·tail, List·Memᴰ·cases-cons, List·Memᴰ·not-nil}
 use mathlib.Core.Logic.{_⊎_, ⊎-elim, inl, inr}
 use mathlib.Core.Option.{none, some}
-use Prim.Native.Nat.{ℕ, zero, suc, _+_, _-_, _<_, _≤_}
+use Prim.Native.Nat.{ℕ, zero, suc, _+_, _<_, _≤_}
 use native.Mathlib.Omega.{arith}
 use native.Mathlib.Nat.{eq-or-lt-of-le, le-of-suc-le-suc}
 use lib.Dec.{eqb, ltb}
 use lib.ListN.{length, getD}
 use borrow.Author.Tests.{eqb-true, eqb-false, eq-eqb, ne-eqb, ltb-true, ltb-false}
-use Rattle.script.specs.Lists.{_∈_, run, sumBelow, named}
+use Rattle.script.specs.Lists.{_∈_, Every, run, sumBelow, named}
 use Rattle.script.specs.Regular.{Unique, no-more, one-more}
+
+-- what follows of each element
+pub every-map : {A : Type 0} (P Q : A → Type 0) → ((a : A) → P a → Q a) → (l : List A) → Every P l → Every Q l
+every-map P Q f [] e = tt
+every-map P Q f (a ∷ l) e = (f a (e .0), every-map P Q f l (e .1))
 
 pub length-run : {A : Type 0} (f : ℕ → A) (i k : ℕ) → length (run f i k) ≡ k
 unfolding run

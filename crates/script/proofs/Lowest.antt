@@ -1,19 +1,17 @@
--- What `firstOut`, `lowestOut` and `firstNo` answer.
+-- What `firstOut`, `lowestIn` and `firstNo` answer.
 use mathlib.Core.Path.{_≡_, refl}
 use mathlib.Core.Bool.{Bool, cond}
-use mathlib.Core.List.{List, [], _∷_, List·Memᴰ·head, List·Memᴰ·tail, List·Memᴰ·cases-cons, List·Memᴰ·not-nil}
-use mathlib.Core.Logic.{⊎-elim}
+use mathlib.Core.List.{List, [], _∷_}
+use mathlib.Core.Logic.{⊎-elim, inl, inr}
 use mathlib.Core.Option.{Option, none, some}
 use Prim.Native.Nat.{ℕ, zero, suc, _+_, _<_, _≤_}
 use native.Mathlib.Omega.{arith}
 use native.Mathlib.Nat.{eq-or-lt-of-le, mul-le-mul-left}
-use lib.ListN.{length}
 use Rattle.limits.specs.Limits.{CONTENTS}
 use Rattle.script.specs.declared.Question.{Question}
-use Rattle.script.specs.Lists.{_∈_}
-use Rattle.script.specs.Section.{Section, interfaces, signatures, classes, fields, methods, nodes, sections, sizeOf, bodyAt, countOf, endOf, recordAt}
-use Rattle.script.specs.Asking.{Asked, Refusal, firstNo, atZero, firstOut, placeOr, lowestIn, lowestOut, Decides, holds, fails, FaultAt, Each, Lowest, all-good, lowest-at}
-use Rattle.script.specs.Statements.{PlacesAre}
+use Rattle.script.specs.Section.{Section, sections, sizeOf, countOf, endOf, recordAt}
+use Rattle.script.specs.Asking.{Asked, Refusal, firstNo, atZero, firstOut, placeOr, lowestIn, Decides, holds, fails, Asks, Each, FaultAt, LowestNo, Lowest, all-good, lowest-at}
+use Rattle.script.specs.Statements.{Placed, PlacesAre}
 
 -- Of the k records from i on: all are good, or j is the first that is not.
 pub data FirstOut (Good : ℕ → Type 0) (i k : ℕ) : Option ℕ → Type 0 where
@@ -51,93 +49,69 @@ record-rises : (s : List ℕ) (k : Section) (i j : ℕ) → i ≤ j → recordAt
 unfolding recordAt
 record-rises s k i j h = omega (arith, mul-le-mul-left (sizeOf k) h)
 
--- The bodies of some sections follow each other from a place on up to the end of the file.
-abbrev pub Placed : List ℕ → ℕ → List Section → Type 0
-Placed s at [] = at ≡ length s
-Placed s at (k ∷ ks) = (bodyAt s k ≡ at) × Placed s (endOf s k) ks
+-- A question asks some of these sections, in this order, and each of its tests decides what is asked of a record if all before it in its section are good.
+pub data Tested (s : List ℕ) : List (Section × (ℕ → Bool)) → Asks → List Section → Type 1 where
+  no-more : Tested s [] [] []
+  asked :
+      {k : Section} {test : ℕ → Bool} {Good : ℕ → Type 0} {ts : List (Section × (ℕ → Bool))} {l : Asks} {ks : List Section}
+      → ((i : ℕ) → i < countOf s k → ((j : ℕ) → j < i → Good j) → Decides (Good i) (test i))
+      → Tested s ts l ks
+      → Tested s ((k, test) ∷ ts) ((k, Good) ∷ l) (k ∷ ks)
+  passed : {k : Section} {ts : List (Section × (ℕ → Bool))} {l : Asks} {ks : List Section} → Tested s ts l ks → Tested s ts l (k ∷ ks)
 
--- Question 3 says this of all sections.
-pub placed : (s : List ℕ) → PlacesAre s → Placed s CONTENTS sections
-unfolding sections
-placed s p = (p .interfaces-at, (p .signatures-at, (p .classes-at, (p .fields-at, (p .methods-at, (p .nodes-at, p .file-ends))))))
+module _ (s : List ℕ) where
+  -- Sections that are so placed have no record before that place.
+  fault-after : (at : ℕ) {ts : List (Section × (ℕ → Bool))} {l : Asks} {ks : List Section} → Placed s at ks → Tested s ts l ks → (place : ℕ) → FaultAt s l place → at ≤ place
+  unfolding endOf recordAt
+  fault-after at p no-more place f = absurd f
+  fault-after at p (asked {k = k} d m) place f =
+      ⊎-elim (λ x. omega (arith, x .there)) (λ y. omega (arith, fault-after (endOf s k) (p .1) m place y)) f
+  fault-after at p (passed {k = k} m) place f = omega (arith, fault-after (endOf s k) (p .1) m place f)
 
--- Sections that are so placed have no record before that place.
-body-after : (s : List ℕ) (at : ℕ) (ks : List Section) → Placed s at ks → (k : Section) → k ∈ ks → at ≤ bodyAt s k
-unfolding endOf
-body-after s at [] p k m = absurd (List·Memᴰ·not-nil m)
-body-after s at (j ∷ ks) p k m = ⊎-elim (λ (e : k ≡ j). rw e (omega arith)) (λ (t : k ∈ ks). omega (arith, body-after s (endOf s j) ks (p .1) k t)) (List·Memᴰ·cases-cons m)
-
--- Every section is gone through.
-every-section : (k : Section) → k ∈ sections
-unfolding sections
-every-section interfaces = List·Memᴰ·head refl
-every-section signatures = List·Memᴰ·tail (List·Memᴰ·head refl)
-every-section classes = List·Memᴰ·tail (List·Memᴰ·tail (List·Memᴰ·head refl))
-every-section fields = List·Memᴰ·tail (List·Memᴰ·tail (List·Memᴰ·tail (List·Memᴰ·head refl)))
-every-section methods = List·Memᴰ·tail (List·Memᴰ·tail (List·Memᴰ·tail (List·Memᴰ·tail (List·Memᴰ·head refl))))
-every-section nodes = List·Memᴰ·tail (List·Memᴰ·tail (List·Memᴰ·tail (List·Memᴰ·tail (List·Memᴰ·tail (List·Memᴰ·head refl)))))
-
--- `Lowest` of the records of some sections.
-data LowestIn (s : List ℕ) (Good : Section → ℕ → Type 0) (ks : List Section) : Option ℕ → Type 0 where
-  good-in : ((k : Section) → k ∈ ks → (i : ℕ) → i < countOf s k → Good k i) → LowestIn s Good ks none
-  lowest-in : {place : ℕ} → FaultAt s Good place → ((k : Section) → k ∈ ks → (i : ℕ) → i < countOf s k → (Good k i → ⊥) → place ≤ recordAt s k i) → LowestIn s Good ks (some place)
-
--- What holds of the records of a section and of those of the sections after it.
-in-cons : (P : Section → ℕ → Type 0) (k : Section) (ks : List Section) → ((i : ℕ) → P k i) → ((j : Section) → j ∈ ks → (i : ℕ) → P j i) → (j : Section) → j ∈ k ∷ ks → (i : ℕ) → P j i
-in-cons P k ks f g j m i = ⊎-elim (λ (e : j ≡ k). rw e (f i)) (λ (t : j ∈ ks). g j t i) (List·Memᴰ·cases-cons m)
-
-module _ (s : List ℕ) (test : Section → ℕ → Bool) (Good : Section → ℕ → Type 0) where
   -- One section more, before the others.
   section-first :
-      (k : Section) (ks : List Section) {o r : Option ℕ}
-      → ((j : Section) → j ∈ ks → endOf s k ≤ bodyAt s j)
-      → FirstOut (Good k) 0 (countOf s k) o
-      → LowestIn s Good ks r
-      → LowestIn s Good (k ∷ ks) (placeOr s k o r)
+      (k : Section) (Good : ℕ → Type 0) {l : Asks} {o r : Option ℕ}
+      → ((place : ℕ) → FaultAt s l place → endOf s k ≤ place)
+      → FirstOut Good 0 (countOf s k) o
+      → Lowest s l r
+      → Lowest s ((k, Good) ∷ l) (placeOr s k o r)
   unfolding endOf recordAt
-  section-first k ks after (none-out f) (good-in g) = good-in (in-cons (λ j i. i < countOf s j → Good j i) k ks (λ i h. f i (omega arith) (omega arith)) g)
-  section-first k ks after (none-out f) (lowest-in {place = place} x g) =
-      lowest-in x (in-cons (λ j i. i < countOf s j → (Good j i → ⊥) → place ≤ recordAt s j i) k ks (λ i h bad. absurd (bad (f i (omega arith) (omega arith)))) g)
-  section-first k ks after (out-at {j = h} a b bad f) r =
-      lowest-in
-      (record { section = k; index = h; within = omega arith; there = refl; bad = bad })
-      (in-cons (λ j i. i < countOf s j → (Good j i → ⊥) → recordAt s k h ≤ recordAt s j i) k ks
-      (λ i l bad. let n : i < h → ⊥ = λ e. bad (f i (omega arith) e) in record-rises s k h i (omega arith))
-      (λ j t i l bad. omega (arith, after j t, record-rises s k h (countOf s k) (omega arith))))
+  section-first k Good after (none-out f) (all-good g) = all-good (λ i h. f i (omega arith) (omega arith), g)
+  section-first k Good after (none-out f) (lowest-at n) =
+      lowest-at (record { fault = inr (n .fault); lowest = λ other. ⊎-elim (λ x. absurd (x .bad (f (x .index) (omega arith) (omega (arith, x .within))))) (n .lowest other) })
+  section-first k Good after (out-at {j = h} a b bad f) r =
+      lowest-at
+      (record {
+        fault = inl (record { index = h; within = omega arith; there = refl; bad = bad });
+        lowest =
+            λ other.
+            ⊎-elim
+            (λ x. let n : x .index < h → ⊥ = λ e. x .bad (f (x .index) (omega arith) e) in rw (← x .there) (record-rises s k h (x .index) (omega arith)))
+            (λ y. omega (arith, after other y, record-rises s k h (countOf s k) (omega arith)));
+      })
 
-  -- `lowest`, of the records of some sections.
-  lowest-among :
-      ((k : Section) (i : ℕ) → i < countOf s k → ((j : ℕ) → j < i → Good k j) → Decides (Good k i) (test k i))
-      → (at : ℕ) (ks : List Section)
-      → Placed s at ks
-      → LowestIn s Good ks (lowestIn s test ks)
+  lowest-among : (at : ℕ) {ts : List (Section × (ℕ → Bool))} {l : Asks} {ks : List Section} → Placed s at ks → Tested s ts l ks → Lowest s l (lowestIn s ts)
   unfolding lowestIn
-  lowest-among d at [] p = good-in (λ k m. absurd (List·Memᴰ·not-nil m))
-  lowest-among d at (k ∷ ks) p =
-      section-first k ks
-      (body-after s (endOf s k) ks (p .1))
-      (first-out (test k) (Good k) 0 (countOf s k) (λ i a b f. d k i (omega arith) (λ j l. f j (omega arith) l)))
-      (lowest-among d (endOf s k) ks (p .1))
+  lowest-among at p no-more = all-good tt
+  lowest-among at p (asked {k = k} {test = test} {Good = Good} d m) =
+      section-first k Good
+      (fault-after (endOf s k) (p .1) m)
+      (first-out test Good 0 (countOf s k) (λ i a b f. d i (omega arith) (λ j l. f j (omega arith) l)))
+      (lowest-among (endOf s k) (p .1) m)
+  lowest-among at p (passed {k = k} m) = lowest-among (endOf s k) (p .1) m
 
-  -- And of those of all sections.
-  in-all : {o : Option ℕ} → LowestIn s Good sections o → Lowest s Good o
-  in-all (good-in f) = all-good (λ k i. f k (every-section k) i)
-  in-all (lowest-in x f) = lowest-at x (λ other y. rw (y .there) at (f (y .section) (every-section (y .section)) (y .index) (y .within) (y .bad)))
-
-  -- `lowestOut` finds the lowest record that is not good, if the test decides each record before which all of its section are good.
-  pub lowest :
-      PlacesAre s
-      → ((k : Section) (i : ℕ) → i < countOf s k → ((j : ℕ) → j < i → Good k j) → Decides (Good k i) (test k i))
-      → Lowest s Good (lowestOut s test)
-  lowest p d = in-all (lowest-among d CONTENTS sections (placed s p))
+  -- `lowestIn` finds the lowest record of which what is asked does not hold.
+  pub lowest : {ts : List (Section × (ℕ → Bool))} {l : Asks} → PlacesAre s → Tested s ts l sections → Lowest s l (lowestIn s ts)
+  lowest p m = lowest-among CONTENTS p m
 
 -- Where a statement holds of each record none is at fault.
-pub fault-not : {s : List ℕ} {Good : Section → ℕ → Type 0} {place : ℕ} → FaultAt s Good place → Each s Good → ⊥
-fault-not x g = x .bad (g (x .section) (x .index) (x .within))
+pub fault-not : (s : List ℕ) (l : Asks) (place : ℕ) → FaultAt s l place → Each s l → ⊥
+fault-not s [] place f g = f
+fault-not s (a ∷ l) place f g = ⊎-elim (λ x. x .bad (g .0 (x .index) (x .within))) (λ y. fault-not s l place y (g .1)) f
 
-pub lowest-none : {s : List ℕ} {Good : Section → ℕ → Type 0} {o : Option ℕ} → Lowest s Good o → Each s Good → o ≡ none
+pub lowest-none : {s : List ℕ} {l : Asks} {o : Option ℕ} → Lowest s l o → Each s l → o ≡ none
 lowest-none (all-good f) g = refl
-lowest-none (lowest-at x f) g = absurd (fault-not x g)
+lowest-none {s} {l} (lowest-at {place = place} n) g = absurd (fault-not s l place (n .fault) g)
 
 -- The first no of a list of questions is a no to the first of them, or the first no of the others after a yes to it.
 module _ (Says : Option Refusal → Type 0) (q : Question) (l : List Asked) where
@@ -154,11 +128,11 @@ module _ (Says : Option Refusal → Type 0) (q : Question) (l : List Asked) wher
 
   -- A question about records: a no to it has the place of the lowest at fault.
   pub ask-records :
-      {s : List ℕ} {Good : Section → ℕ → Type 0} {o : Option ℕ}
-      → Lowest s Good o
-      → ((place : ℕ) → Lowest s Good (some place) → Says (some (record { question = q; place = place })))
-      → (Each s Good → Says (firstNo l))
+      {s : List ℕ} {a : Asks} {o : Option ℕ}
+      → Lowest s a o
+      → ((place : ℕ) → LowestNo s a place → Says (some (record { question = q; place = place })))
+      → (Each s a → Says (firstNo l))
       → Says (firstNo (record { question = q; no-at = o } ∷ l))
   unfolding firstNo
   ask-records (all-good f) n y = y f
-  ask-records (lowest-at {place = place} x f) n y = n place (lowest-at x f)
+  ask-records (lowest-at {place = place} x) n y = n place x

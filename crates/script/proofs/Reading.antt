@@ -1,14 +1,15 @@
 -- The expressions of a script: each is built from those of its parts, and what goes from parts to nodes holds of all.
 use Prim.Native.Nat.{ℕ, zero, suc, _+_, _-_, _<_, _≤_}
 use mathlib.Core.Path.{_≡_, refl, ap, ap₂}
-use mathlib.Core.List.{List, _∷_, List·Memᴰ·head, List·Memᴰ·tail}
+use mathlib.Core.List.{List, [], _∷_, List·Memᴰ·head, List·Memᴰ·tail, List·Memᴰ·cases-cons, List·Memᴰ·not-nil}
+use mathlib.Core.Logic.{⊎-elim}
 use native.Mathlib.Omega.{arith}
 use lib.ListN.{getD}
 use Rattle.script.specs.Lists.{_∈_}
-use Rattle.script.specs.Section.{nodes, countOf}
+use Rattle.script.specs.Section.{nodes, countOf, nodeWord}
 use Rattle.script.specs.Syntax.{Point, Expr, null, update, call, bind, cast, fork, lock, Node, n-null, n-var, n-select, n-update, n-call, n-bind, n-new, n-cast, n-fork, n-lock, parts, build}
-use Rattle.script.specs.Reading.{viewAt, lastExprs, exprAt}
-use Rattle.script.specs.Statements.{Part}
+use Rattle.script.specs.Reading.{Kind, null-kind, var-kind, select-kind, update-kind, call-kind, bind-kind, new-kind, cast-kind, fork-kind, lock-kind, unknown-kind, kindOf, shapeOf, nodeOf, viewAt, lastExprs, exprAt}
+use Rattle.script.specs.Statements.{Part, WordIs, WithinLayout}
 
 -- The first, second and third part of a node are among its parts.
 pub first : {p : Point} {l : List Point} → p ∈ p ∷ l
@@ -54,6 +55,35 @@ module _ (s : List ℕ) where
       let y : countOf s nodes - n ≡ suc (countOf s nodes - suc n) = omega arith in
       let z : countOf s nodes - suc (countOf s nodes - suc n) ≡ n = omega arith in
       rw (y, z) (build-same n _ (exprAt s) (viewAt s n) (λ p m. part-at n p (later p m)))
+
+  -- What question 7 asks of a node's words it asks of its parts.
+  all-none : {n : Point} (p : Point) → p ∈ [] → Part s n p
+  all-none p m = absurd (List·Memᴰ·not-nil m)
+
+  all-more : {n a : Point} {l : List Point} → Part s n a → ((p : Point) → p ∈ l → Part s n p) → (p : Point) → p ∈ a ∷ l → Part s n p
+  all-more {a = a} {l = l} x f p m = ⊎-elim (λ (e : p ≡ a). rw e x) (λ (k : p ∈ l). f p k) (List·Memᴰ·cases-cons m)
+
+  part-words : (n : Point) (k : Kind) (a b c : ℕ) → WordIs s n (shapeOf k .0) a → WordIs s n (shapeOf k .1) b → WordIs s n (shapeOf k .2) c → (p : Point) → p ∈ parts (nodeOf k a b c) → Part s n p
+  part-words n null-kind a b c x y z = all-none
+  part-words n var-kind a b c x y z = all-none
+  part-words n select-kind a b c x y z = all-none
+  part-words n update-kind a b c x y z = all-more z all-none
+  part-words n call-kind a b c x y z = all-more z all-none
+  part-words n bind-kind a b c x y z = all-more y (all-more z all-none)
+  part-words n new-kind a b c x y z = all-none
+  part-words n cast-kind a b c x y z = all-more y all-none
+  part-words n fork-kind a b c x y z = all-more x (all-more y (all-more z all-none))
+  part-words n lock-kind a b c x y z = all-more y all-none
+  part-words n unknown-kind a b c x y z = all-none
+
+  module _ (w : WithinLayout s) (n : Point) (h : n < countOf s nodes) where
+    -- The parts of a node stand later, and its kind is known.
+    pub in-order : (p : Point) → p ∈ parts (viewAt s n) → Part s n p
+    unfolding viewAt
+    in-order = let x = w .nodes-are .1 .0 n h .words in part-words n (kindOf (nodeWord s n 0)) _ _ _ (x .a-is) (x .b-is) (x .c-is)
+
+    pub known : kindOf (nodeWord s n 0) ≡ unknown-kind → ⊥
+    known e = let x = w .nodes-are .1 .0 n h .words .a-is in rw e at x
 
   -- What holds of a node whenever it holds of the node's parts holds of every node, since parts stand later.
   module _ (P : Point → Type 0)

@@ -3,11 +3,12 @@ use Prim.Native.Nat.{ℕ, zero, suc, _+_, _<_, _≤_}
 use mathlib.Core.Path.{_≡_}
 use mathlib.Core.Bool.{Bool, true, false, cond}
 use mathlib.Core.List.{List, [], _∷_}
+use mathlib.Core.Logic.{_⊎_}
 use mathlib.Core.Option.{Option, none, some}
 use Rattle.script.specs.declared.Question.{Question}
 use Rattle.script.specs.declared.Question.the-variants.{Length, Counts, Places, Interfaces, Owners, Types, Nodes, Names, Joins, Classes}
 use Rattle.script.specs.declared.Question.the-variants.{Variables, Nulls, Members, Fits, Sharing}
-use Rattle.script.specs.Section.{Section, sections, countOf, recordAt}
+use Rattle.script.specs.Section.{Section, countOf, recordAt}
 
 -- "A no gives the number"
 abbrev pub numberOf : Question → ℕ
@@ -26,6 +27,24 @@ numberOf Nulls = 12
 numberOf Members = 13
 numberOf Fits = 14
 numberOf Sharing = 15
+
+-- "Questions to a call, in order": how many come before it, the five of the walk standing in one place.
+abbrev pub rankOf : Question → ℕ
+rankOf Length = 0
+rankOf Counts = 1
+rankOf Places = 2
+rankOf Interfaces = 3
+rankOf Owners = 4
+rankOf Types = 5
+rankOf Nodes = 6
+rankOf Names = 7
+rankOf Joins = 8
+rankOf Classes = 9
+rankOf Variables = 10
+rankOf Nulls = 10
+rankOf Members = 10
+rankOf Fits = 10
+rankOf Sharing = 10
 
 -- A question with the place of its no, if it gets one.
 pub record Asked : Type 0 where
@@ -60,32 +79,42 @@ abbrev pub placeOr : List ℕ → Section → Option ℕ → Option ℕ → Opti
 placeOr s k none r = r
 placeOr s k (some i) r = some (recordAt s k i)
 
--- "the place is the offset of the lowest faulty record": the sections stand in the order in which they are gone through.
-unfoldable pub lowestIn : List ℕ → (Section → ℕ → Bool) → List Section → Option ℕ
-lowestIn s test [] = none
-lowestIn s test (k ∷ ks) = let r = lowestIn s test ks in placeOr s k (firstOut (test k) 0 (countOf s k)) r
-
-abbrev pub lowestOut : List ℕ → (Section → ℕ → Bool) → Option ℕ
-lowestOut s test = lowestIn s test sections
+-- "the place is the offset of the lowest faulty record": a question names the sections that it asks, in the order of their bodies, each with a test.
+unfoldable pub lowestIn : List ℕ → List (Section × (ℕ → Bool)) → Option ℕ
+lowestIn s [] = none
+lowestIn s (a ∷ l) = let r = lowestIn s l in placeOr s (a .0) (firstOut (a .1) 0 (countOf s (a .0))) r
 
 -- A test that says whether a statement holds.
 pub data Decides (P : Type 0) : Bool → Type 0 where
   holds : P → Decides P true
   fails : (P → ⊥) → Decides P false
 
--- A record of the script of which a statement does not hold, and its place.
-pub record FaultAt (s : List ℕ) (Good : Section → ℕ → Type 0) (place : ℕ) : Type 0 where
-  pub section : Section
+-- What a question asks of records, as a plain statement: the sections that it asks, each with what it asks of a record.
+abbrev pub Asks : Type 1
+Asks = List (Section × (ℕ → Type 0))
+
+-- It holds of each record that is asked.
+abbrev pub Each : List ℕ → Asks → Type 0
+Each s [] = Unit {0}
+Each s (a ∷ l) = ((i : ℕ) → i < countOf s (a .0) → a .1 i) × Each s l
+
+-- A record of section k of which it does not hold, and its place.
+pub record FaultIn (s : List ℕ) (k : Section) (Good : ℕ → Type 0) (place : ℕ) : Type 0 where
   pub index : ℕ
-  pub within : index < countOf s section
-  pub there : recordAt s section index ≡ place
-  pub bad : Good section index → ⊥
+  pub within : index < countOf s k
+  pub there : recordAt s k index ≡ place
+  pub bad : Good index → ⊥
 
--- A statement holds of each record of the script.
-abbrev pub Each : List ℕ → (Section → ℕ → Type 0) → Type 0
-Each s Good = (k : Section) (i : ℕ) → i < countOf s k → Good k i
+abbrev pub FaultAt : List ℕ → Asks → ℕ → Type 0
+FaultAt s [] place = ⊥
+FaultAt s (a ∷ l) place = FaultIn s (a .0) (a .1) place ⊎ FaultAt s l place
 
--- What the answer to a question about records says: the statement holds of each record, or the place is that of the lowest of which it does not.
-pub data Lowest (s : List ℕ) (Good : Section → ℕ → Type 0) : Option ℕ → Type 0 where
-  all-good : Each s Good → Lowest s Good none
-  lowest-at : {place : ℕ} → FaultAt s Good place → ((other : ℕ) → FaultAt s Good other → place ≤ other) → Lowest s Good (some place)
+-- A no to it has "the offset of the lowest faulty record" as its place.
+pub record LowestNo (s : List ℕ) (l : Asks) (place : ℕ) : Type 0 where
+  pub fault : FaultAt s l place
+  pub lowest : (other : ℕ) → FaultAt s l other → place ≤ other
+
+-- What the answer to it says: a yes, or a no with this place.
+pub data Lowest (s : List ℕ) (l : Asks) : Option ℕ → Type 0 where
+  all-good : Each s l → Lowest s l none
+  lowest-at : {place : ℕ} → LowestNo s l place → Lowest s l (some place)

@@ -10,6 +10,11 @@ infix 40 _∈_
 abbrev pub _∈_ {ℓ} : {A : Type ℓ} → A → List A → Type ℓ
 _∈_ a l = List·Memᴰ a l
 
+-- What holds of each element of a list.
+abbrev pub Every : {A : Type 0} → (A → Type 0) → List A → Type 0
+Every P [] = Unit {0}
+Every P (a ∷ l) = P a × Every P l
+
 -- The k records from i on, each read by f.
 unfoldable pub run : {A : Type 0} → (ℕ → A) → ℕ → ℕ → List A
 run f i zero = []

@@ -4,6 +4,8 @@ use mathlib.Core.Bool.{cond}
 use mathlib.Core.List.{List, [], _∷_}
 use lib.Dec.{eqb}
 use lib.ListN.{getD}
+use Rattle.script.specs.declared.Role.the-variants.{Unused, Variable, Member, Bound, NewClass, CastType, Expression, Unknown}
+use Rattle.script.specs.declared.Shape.{Shape}
 use Rattle.script.specs.Lists.{run, sumBelow}
 use Rattle.script.specs.Section.{interfaces, signatures, classes, fields, methods, nodes, countOf, recordWord, nodeWord}
 use Rattle.script.specs.Syntax.{Point, Expr, null, Node, n-null, n-var, n-select, n-update, n-call, n-bind, n-new, n-cast, n-fork, n-lock}
@@ -20,6 +22,23 @@ kindOf k =
     (null-kind ∷ var-kind ∷ select-kind ∷ update-kind ∷ call-kind ∷ bind-kind ∷ new-kind ∷ cast-kind ∷ fork-kind ∷ lock-kind ∷ [])
     k
     unknown-kind
+
+-- What the words a, b and c of a node of this kind are there for.
+abbrev pub shapeOf : Kind → Shape
+shapeOf null-kind = record { 0 = Unused; 1 = Unused; 2 = Unused }
+shapeOf var-kind = record { 0 = Variable; 1 = Unused; 2 = Unused }
+shapeOf select-kind = record { 0 = Variable; 1 = Member; 2 = Unused }
+shapeOf update-kind = record { 0 = Variable; 1 = Member; 2 = Expression }
+shapeOf call-kind = record { 0 = Variable; 1 = Member; 2 = Expression }
+shapeOf bind-kind = record { 0 = Bound; 1 = Expression; 2 = Expression }
+shapeOf new-kind = record { 0 = NewClass; 1 = Unused; 2 = Unused }
+shapeOf cast-kind = record { 0 = CastType; 1 = Expression; 2 = Unused }
+shapeOf fork-kind = record { 0 = Expression; 1 = Expression; 2 = Expression }
+shapeOf lock-kind = record { 0 = Variable; 1 = Expression; 2 = Unused }
+shapeOf unknown-kind = record { 0 = Unknown; 1 = Unknown; 2 = Unknown }
+
+abbrev pub shapeAt : List ℕ → Point → Shape
+shapeAt s n = shapeOf (kindOf (nodeWord s n 0))
 
 -- A node of this kind with words a, b and c. One of no known kind, which question 7 refuses, has no parts.
 abbrev pub nodeOf : Kind → ℕ → ℕ → ℕ → Node

@@ -14,7 +14,7 @@ IsType p t = t ≤ length (p .interfaces) + length (p .classes)
 
 pub record IsClass (p : Program) (t : ℕ) : Type 0 where
   pub past : length (p .interfaces) < t
-  pub last : IsType p t
+  pub last : t ≤ length (p .interfaces) + length (p .classes)
 
 pub record IsInterface (p : Program) (t : ℕ) : Type 0 where
   pub first : 0 < t

@@ -32,6 +32,21 @@ pub enum Section {
     Nodes,
 }
 
+// What a word of a node is there for.
+pub enum Role {
+    Unused,
+    Variable,
+    Member,
+    Bound,
+    NewClass,
+    CastType,
+    Expression,
+    Unknown,
+}
+
+// The words a, b and c of the nodes of some kind.
+pub struct Shape(pub Role, pub Role, pub Role);
+
 // What a search finds: an index or a place.
 pub enum Found {
     At(usize),

@@ -7,13 +7,13 @@ use lib.ListN.{length}
 use Rattle.limits.specs.Limits.{NODES, FILE}
 use Rattle.script.specs.declared.Section.{Section}
 use Rattle.script.specs.declared.Section.the-variants.{Interfaces as interfaces, Signatures as signatures, Classes as classes, Fields as fields, Methods as methods, Nodes as nodes}
-use Rattle.script.specs.Section.{sizeOf, bodyAt, countOf, endOf, recordAt}
+use Rattle.script.specs.Section.{sections, sizeOf, bodyAt, countOf, endOf, recordAt}
 use Rattle.script.specs.Statements.{PlacesAre}
 use Rattle.sections.specs.Laid.{Laid}
 
 -- A section's body ends within the file.
 pub end-within : (s : List ℕ) (k : Section) → Laid s → endOf s k ≤ length s
-unfolding endOf
+unfolding endOf sections
 end-within s k l = go k (l .places-are)
   where
     go : (k : Section) → PlacesAre s → bodyAt s k + sizeOf k * countOf s k ≤ length s
@@ -34,6 +34,15 @@ module _ (s : List ℕ) (k : Section) (i : ℕ) (l : Laid s) where
   pub word-within : (j : ℕ) → i < countOf s k → 2 * j + 1 < sizeOf k → recordAt s k i + 2 * j + 1 < length s
   unfolding endOf recordAt
   word-within j h b = omega (arith, mul-le-mul-left (sizeOf k) h, end-within s k l, mul-suc (sizeOf k) i)
+
+-- Every record has a first word.
+pub first-word : (k : Section) → 1 < sizeOf k
+first-word interfaces = omega arith
+first-word signatures = omega arith
+first-word classes = omega arith
+first-word fields = omega arith
+first-word methods = omega arith
+first-word nodes = omega arith
 
 -- No section has more records than there may be nodes.
 pub count-within : (s : List ℕ) (k : Section) → Laid s → countOf s k ≤ NODES

@@ -17,7 +17,7 @@ use Rattle.script.specs.declared.Section.the-variants.{Interfaces as interfaces
 use Rattle.script.specs.Section.{sections, entryOf, mostOf, sizeOf, bodyAt, countOf, endOf, recordAt, recordWord}
 use Rattle.script.specs.Reading.{ownSignatures, ownFields, ownMethods}
 use Rattle.script.specs.Questions.{lengthTest, withinTest, countsTest, placedFrom, placesTest, ownersTest}
-use Rattle.sections.specs.Laid.{Laid, ownerOf, ownOf, Owned}
+use Rattle.sections.specs.Laid.{Laid, ownerOf, ownOf, ownedTest}
 use Rattle.sections.proofs.Access.{record-within, word-within}
 
 -- What the contents say of section k, and its records.
@@ -132,16 +132,16 @@ module _ (s : List ℕ) where
   places-last end at l p = rw (l, p)
 
   -- Question 5.
-  pub owners-no-signatures : (r : Bool) → r ≡ Owned s signatures → not r ≡ true → false ≡ ownersTest s
+  pub owners-no-signatures : (r : Bool) → r ≡ ownedTest s signatures → not r ≡ true → false ≡ ownersTest s
   unfolding ownersTest
   owners-no-signatures r p e = rw (← p, not-true r e)
 
-  module _ (a : Bool) (p : a ≡ Owned s signatures) (e : not a ≡ false) where
-    pub owners-no-fields : (b : Bool) → b ≡ Owned s fields → not b ≡ true → false ≡ ownersTest s
+  module _ (a : Bool) (p : a ≡ ownedTest s signatures) (e : not a ≡ false) where
+    pub owners-no-fields : (b : Bool) → b ≡ ownedTest s fields → not b ≡ true → false ≡ ownersTest s
     unfolding ownersTest
     owners-no-fields b q f = rw (← p, not-false a e, ← q, not-true b f)
 
-    pub owners-rest : (b r : Bool) → b ≡ Owned s fields → not b ≡ false → r ≡ Owned s methods → r ≡ ownersTest s
+    pub owners-rest : (b r : Bool) → b ≡ ownedTest s fields → not b ≡ false → r ≡ ownedTest s methods → r ≡ ownersTest s
     unfolding ownersTest
     owners-rest b r q f t = rw (← p, not-false a e, ← q, not-false b f) t
 
@@ -154,5 +154,5 @@ unfolding endOf
 end-is s k at size n p q t = rw (p, q, t)
 
 -- After the last owner.
-pub owned-is : (s : List ℕ) (k owner : Section) (n sum o m : ℕ) → owner ≡ ownerOf k → n ≡ countOf s owner → sum ≡ sumBelow (ownOf s k) o → o ≤ n → n ≤ o → m ≡ countOf s k → eqb sum m ≡ Owned s k
+pub owned-is : (s : List ℕ) (k owner : Section) (n sum o m : ℕ) → owner ≡ ownerOf k → n ≡ countOf s owner → sum ≡ sumBelow (ownOf s k) o → o ≤ n → n ≤ o → m ≡ countOf s k → eqb sum m ≡ ownedTest s k
 owned-is s k owner n sum o m p q t a b e = let z : o ≡ n = omega arith in rw (t, e, z, q, p)

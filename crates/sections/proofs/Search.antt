@@ -1,15 +1,19 @@
 -- Laws for loops that search. The invariant is that the answer for what is left is the answer for the whole: `whole ≡ firstOut test i (n - i)`.
-use mathlib.Core.Path.{_≡_, refl}
-use mathlib.Core.Bool.{Bool, true, false, cond}
-use mathlib.Core.List.{List, _∷_}
+use mathlib.Core.Path.{_≡_, refl, sym, _∙_}
+use mathlib.Core.Bool.{Bool, true, false, cond, not, _||_}
+use mathlib.Core.List.{List, [], _∷_}
 use mathlib.Core.Option.{Option, none, some}
 use Prim.Native.Nat.{ℕ, zero, suc, _+_, _-_, _<_, _≤_}
 use native.Mathlib.Omega.{arith}
+use lib.Dec.{eqb}
+use borrow.Author.Tests.{eq-eqb, ne-eqb}
+use Rattle.script.specs.declared.Found.{Found}
 use Rattle.script.specs.declared.Found.the-variants.{At, Nothing}
 use Rattle.script.specs.declared.Section.{Section}
-use Rattle.script.specs.Section.{countOf, recordAt}
-use Rattle.script.specs.Asking.{firstOut, lowestIn}
-use Rattle.sections.specs.Laid.{foundOf}
+use Rattle.script.specs.Section.{countOf, recordAt, recordWord}
+use Rattle.script.specs.Asking.{firstOut, placeOr, lowestIn}
+use Rattle.script.specs.Questions.{hasName}
+use Rattle.sections.specs.Laid.{foundOf, nameOf, otherName, newIn}
 
 -- What is found says what the search answers.
 pub nothing-is : (o : Option ℕ) → Nothing ≡ foundOf o → o ≡ none
@@ -21,12 +25,6 @@ at-is none i e = absurd (let z : _≡_ {A = ℕ} 0 1 = cc in omega arith)
 at-is (some j) i e = cc
 
 module _ (test : ℕ → Bool) where
-  -- Where all records pass nothing is found.
-  pub none-out : (i k : ℕ) → ((j : ℕ) → i ≤ j → j < i + k → test j ≡ true) → firstOut test i k ≡ none
-  unfolding firstOut
-  none-out i zero f = refl
-  none-out i (suc k) f = rw (f i (omega arith) (omega arith)) (none-out (i + 1) k (λ j a b. f j (omega arith) (omega arith)))
-
   -- What is found among some records and then among those after them.
   pub out-none : (i a b : ℕ) → firstOut test i a ≡ none → firstOut test i (a + b) ≡ firstOut test (i + a) b
   unfolding firstOut
@@ -86,21 +84,66 @@ unfolding firstOut
 out-same f g i zero e = refl
 out-same f g i (suc k) e = rw (e i (omega arith) (omega arith), out-same f g (i + 1) k (λ j a b. e j (omega arith) (omega arith)))
 
--- The index that is found is that of a record.
-pub found-below : (test : ℕ → Bool) (n i : ℕ) → At i ≡ foundOf (firstOut test 0 n) → i < n
-found-below test n i e = omega (arith, out-below test 0 n i (at-is _ i e))
-
--- The lowest record at fault, section by section.
-module _ (s : List ℕ) (test : Section → ℕ → Bool) (k : Section) (ks : List Section) where
-  pub lowest-at : (i r : ℕ) → At i ≡ foundOf (firstOut (test k) 0 (countOf s k)) → r ≡ recordAt s k i → At r ≡ foundOf (lowestIn s test (k ∷ ks))
+-- The lowest record at fault, section by section: what was found in one, and then in those after it.
+module _ (s : List ℕ) (k : Section) (test : ℕ → Bool) where
+  pub lowest-here : (i r : ℕ) → At i ≡ foundOf (firstOut test 0 (countOf s k)) → r ≡ recordAt s k i → At r ≡ foundOf (lowestIn s ((k, test) ∷ []))
   unfolding lowestIn
-  lowest-at i r e p = rw (at-is (firstOut (test k) 0 (countOf s k)) i e, p)
+  lowest-here i r e p = rw (at-is (firstOut test 0 (countOf s k)) i e, p)
 
-  pub lowest-pass : Nothing ≡ foundOf (firstOut (test k) 0 (countOf s k)) → lowestIn s test (k ∷ ks) ≡ lowestIn s test ks
+  pub lowest-none : Nothing ≡ foundOf (firstOut test 0 (countOf s k)) → Nothing ≡ foundOf (lowestIn s ((k, test) ∷ []))
   unfolding lowestIn
-  lowest-pass e = rw (nothing-is (firstOut (test k) 0 (countOf s k)) e)
+  lowest-none e = rw (nothing-is (firstOut test 0 (countOf s k)) e)
 
-  -- A section that is not asked.
-  pub lowest-skip : ((i : ℕ) → test k i ≡ true) → lowestIn s test (k ∷ ks) ≡ lowestIn s test ks
-  unfolding lowestIn
-  lowest-skip f = rw (none-out (test k) 0 (countOf s k) (λ j a b. f j))
+  module _ (l : List (Section × (ℕ → Bool))) (r : Found) (e : r ≡ foundOf (lowestIn s ((k, test) ∷ []))) where
+    pub lowest-found : (p : ℕ) → r ≡ At p → r ≡ foundOf (lowestIn s ((k, test) ∷ l))
+    unfolding lowestIn
+    lowest-found p f = go (firstOut test 0 (countOf s k)) e
+      where
+        go : (o : Option ℕ) → r ≡ foundOf (placeOr s k o none) → r ≡ foundOf (placeOr s k o (lowestIn s l))
+        go none g = absurd (let z : _≡_ {A = ℕ} 0 1 = cc in omega arith)
+        go (some i) g = g
+
+    pub lowest-later : (x : Found) → r ≡ Nothing → x ≡ foundOf (lowestIn s l) → x ≡ foundOf (lowestIn s ((k, test) ∷ l))
+    unfolding lowestIn
+    lowest-later x f h = go (firstOut test 0 (countOf s k)) e
+      where
+        go : (o : Option ℕ) → r ≡ foundOf (placeOr s k o none) → x ≡ foundOf (placeOr s k o (lowestIn s l))
+        go none g = h
+        go (some i) g = absurd (let z : _≡_ {A = ℕ} 0 1 = cc in omega arith)
+
+-- A search for a name: at record i the answer for what is left is the answer for the whole.
+module _ (s : List ℕ) (k : Section) (x to i : ℕ) (o : Option ℕ) (rest : o ≡ firstOut (otherName s k x) i (to - i)) where
+  pub seek-end : to ≤ i → Nothing ≡ foundOf o
+  unfolding firstOut
+  seek-end h = let e : to - i ≡ 0 = omega arith in rw (rest, e)
+
+  module _ (name : ℕ) (h : i < to) (e : name ≡ recordWord s k i 0) where
+    pub seek-hit : name ≡ x → At i ≡ foundOf o
+    unfolding firstOut
+    seek-hit q = let z : to - i ≡ suc (to - suc i) = omega arith in rw (rest, z, eq-eqb _ x (sym e ∙ q))
+
+    pub seek-miss : (name ≡ x → ⊥) → o ≡ firstOut (otherName s k x) (i + 1) (to - (i + 1))
+    unfolding firstOut
+    seek-miss n = let z : to - i ≡ suc (to - (i + 1)) = omega arith in rw (rest, z, ne-eqb _ x (rw e at n))
+
+-- A name was found where one of the records has it.
+abbrev seen : Option ℕ → Bool
+seen none = false
+seen (some i) = true
+
+module _ (s : List ℕ) (k : Section) (x : ℕ) where
+  has-seen : (j n : ℕ) → hasName (nameOf s k) x j n ≡ seen (firstOut (otherName s k x) j n)
+  unfolding hasName firstOut
+  has-seen j zero = refl
+  has-seen j (suc n) = go (eqb (nameOf s k j) x) (has-seen (j + 1) n)
+    where
+      go : (b : Bool) → hasName (nameOf s k) x (j + 1) n ≡ seen (firstOut (otherName s k x) (j + 1) n) → (b || hasName (nameOf s k) x (j + 1) n) ≡ seen (cond (not b) (firstOut (otherName s k x) (j + 1) n) (some j))
+      go true e = refl
+      go false e = e
+
+  module _ (start i : ℕ) (f : Found) (p : x ≡ nameOf s k i) (q : f ≡ foundOf (firstOut (otherName s k x) start (i - start))) where
+    pub name-old : (j : ℕ) → f ≡ At j → newIn (nameOf s k) start i ≡ false
+    name-old j e = rw (← p, has-seen start (i - start), at-is (firstOut (otherName s k x) start (i - start)) j (sym e ∙ q))
+
+    pub name-new : f ≡ Nothing → newIn (nameOf s k) start i ≡ true
+    name-new e = rw (← p, has-seen start (i - start), nothing-is (firstOut (otherName s k x) start (i - start)) (sym e ∙ q))

@@ -39,8 +39,8 @@ ownOf s fields o = ownFields s o
 ownOf s methods o = ownMethods s o
 ownOf s nodes o = 0
 
-abbrev pub Owned : List ℕ → Section → Bool
-Owned s k = eqb (sumBelow (ownOf s k) (countOf s (ownerOf k))) (countOf s k)
+abbrev pub ownedTest : List ℕ → Section → Bool
+ownedTest s k = eqb (sumBelow (ownOf s k) (countOf s (ownerOf k))) (countOf s k)
 
 -- What a search finds, as the code says it.
 abbrev pub foundOf : Option ℕ → Found
@@ -50,6 +50,10 @@ foundOf (some i) = At i
 -- The name of record j of section k, one of those whose records begin with a name.
 abbrev pub nameOf : List ℕ → Section → ℕ → ℕ
 nameOf s k j = recordWord s k j 0
+
+-- Has record i of section k another name than x?
+abbrev pub otherName : List ℕ → Section → ℕ → ℕ → Bool
+otherName s k x i = not (eqb (nameOf s k i) x)
 
 -- Has none of the records from `start` on before record i the name of record i?
 abbrev pub newIn : (ℕ → ℕ) → ℕ → ℕ → Bool

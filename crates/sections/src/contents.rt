@@ -1,13 +1,16 @@
 // The contents of a script file, and access to its records.
 use limits::Limits;
+use script::Found;
 use script::Section;
 ghost use mathlib.Core.Path.{_≡_};
-ghost use Prim.Native.Nat.{_+_, _*_, _<_, _≤_};
+ghost use Prim.Native.Nat.{_+_, _*_, _-_, _<_, _≤_};
 ghost use lib.ListN.{length};
 ghost use Rattle.words.specs.Word.{WORD};
 ghost use Rattle.limits.specs.Limits.{CONTENTS, FILE};
-ghost use Rattle.script.specs.Section.{entryOf, mostOf, sizeOf, bodyAt, countOf, recordAt, recordWord};
-ghost use Rattle.sections.specs.Laid.{Laid};
+ghost use Rattle.script.specs.Section.{entryOf, mostOf, sizeOf, bodyAt, countOf, recordAt, recordWord, nodeWord};
+ghost use Rattle.script.specs.Asking.{firstOut};
+ghost use Rattle.script.specs.Statements.{WithinLayout};
+ghost use Rattle.sections.specs.Laid.{Laid, foundOf, otherName};
 
 // The number of a section's entry in the contents.
 fn entry_of(k: Section) -> usize
@@ -86,4 +89,28 @@ pub fn record_word(s: &[u8], k: Section, i: usize, j: usize) -> u16
 {
     let at = record_at(s, k, i);
     slices::word_at(s, at + 2 * j)
+}
+
+// Word j of node n.
+pub fn node_word(s: &[u8], n: u16, j: usize) -> u16
+    requires { ⌜ WithinLayout (now s) × (n < countOf (now s) Section.Nodes) × (j < 4) ⌝ }
+    ensures { λ r. ⌜ (r ≡ nodeWord (now (s .entry)) n j) × (r < WORD) ⌝ }
+{
+    record_word(s, Section::Nodes, n as usize, j)
+}
+
+// The first of the records of section k from `from` up to `to` that has the name x.
+pub fn find_name(s: &[u8], k: Section, from: usize, to: usize, x: u16) -> Found
+    requires { ⌜ Laid (now s) × (to ≤ countOf (now s) k) ⌝ }
+    ensures { λ r. ⌜ r ≡ foundOf (firstOut (otherName (now (s .entry)) k x) from (to - from)) ⌝ }
+{
+    let mut i = from;
+    while i < to {
+        let name = record_word(s, k, i, 0);
+        if name == x {
+            return Found::At(i);
+        }
+        i += 1;
+    }
+    Found::Nothing
 }

@@ -14,7 +14,7 @@ ghost use Rattle.words.specs.Word.{WORD};
 ghost use Rattle.limits.specs.Limits.{CONTENTS};
 ghost use Rattle.script.specs.Section.{mostOf, countOf, endOf};
 ghost use Rattle.script.specs.Questions.{lengthTest, countsTest, placesTest, ownersTest};
-ghost use Rattle.sections.specs.Laid.{Laid, Owned, ownerOf, ownOf};
+ghost use Rattle.sections.specs.Laid.{Laid, ownedTest, ownerOf, ownOf};
 
 // 1. Is the file 24 to 13,592 bytes?
 pub fn length_fits(s: &[u8]) -> bool
@@ -132,7 +132,7 @@ pub fn own_count(s: &[u8], k: Section, o: usize) -> usize
 // Do the owners' counts add up to a section's count?
 fn owned_fit(s: &[u8], k: Section) -> bool
     requires { ⌜ Laid (now s) ⌝ }
-    ensures { λ r. ⌜ r ≡ Owned (now (s .entry)) k ⌝ }
+    ensures { λ r. ⌜ r ≡ ownedTest (now (s .entry)) k ⌝ }
 {
     let owner = owner_of(k);
     let n = count_of(s, owner);

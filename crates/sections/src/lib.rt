@@ -3,6 +3,8 @@ mod contents;
 mod layout;
 
 pub use contents::count_of;
+pub use contents::find_name;
+pub use contents::node_word;
 pub use contents::record_at;
 pub use contents::record_word;
 pub use layout::counts_fit;

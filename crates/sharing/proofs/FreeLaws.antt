@@ -15,8 +15,8 @@ use Rattle.script.specs.Lists.{_∈_}
 use Rattle.script.specs.Section.{countOf, nodeWord}
 use Rattle.script.specs.Syntax.{Point, Expr, Node, n-null, n-var, n-select, n-update, n-call, n-bind, n-new, n-cast, n-fork, n-lock, parts, build}
 use Rattle.script.specs.Reading.{kindOf, nodeOf, viewAt, exprAt}
-use Rattle.script.specs.Statements.{Part, WithinLayout}
-use Rattle.script.proofs.Reading.{first, second, third, expr-at, every-node}
+use Rattle.script.specs.Statements.{WithinLayout}
+use Rattle.script.proofs.Reading.{first, second, third, expr-at, in-order, every-node}
 use Rattle.script.proofs.Tests.{true-false}
 use Rattle.typing.specs.Typing.{without, fv, isIn}
 use Rattle.sharing.specs.Free.{SPAN, MaskOf, FreeMask, Along, Ahead, ForkMark, Uses}
@@ -141,31 +141,28 @@ module _ (P : ℕ → Type 0) where
   all-node : (n : Point) (f : Point → Expr) (v : Node) → Uses P v → ((p : Point) → p ∈ parts v → All (fv (f p))) → All (fv (build n f v))
   unfolding fv
   all-node n f n-null u h = all-none
-  all-node n f (n-var x) u h = all-cons x [] u all-none
-  all-node n f (n-select x g) u h = all-cons x [] u all-none
-  all-node n f (n-update x g p) u h = all-cons x (fv (f p)) u (h p first)
-  all-node n f (n-call x m p) u h = all-cons x (fv (f p)) u (h p first)
+  all-node n f (n-var x) u h = all-cons x [] (u .0) all-none
+  all-node n f (n-select x g) u h = all-cons x [] (u .0) all-none
+  all-node n f (n-update x g p) u h = all-cons x (fv (f p)) (u .0) (h p first)
+  all-node n f (n-call x m p) u h = all-cons x (fv (f p)) (u .0) (h p first)
   all-node n f (n-bind x p q) u h = all-append (fv (f p)) (without x (fv (f q))) (h p first) (all-without x (fv (f q)) (h q second))
   all-node n f (n-new c) u h = all-none
   all-node n f (n-cast t p) u h = h p first
   all-node n f (n-fork p q r) u h = all-append (fv (f p)) (fv (f q) ++ fv (f r)) (h p first) (all-append (fv (f q)) (fv (f r)) (h q second) (h r third))
-  all-node n f (n-lock x p) u h = all-cons x (fv (f p)) u (h p first)
+  all-node n f (n-lock x p) u h = all-cons x (fv (f p)) (u .0) (h p first)
 
 module _ (s : List ℕ) (layout : WithinLayout s) where
-  pub in-order : (n : Point) → n < countOf s nodes → (p : Point) → p ∈ parts (viewAt s n) → Part s n p
-  in-order n h = layout .nodes-are nodes n h .in-order
-
   pub all-free : (P : ℕ → Type 0) → ((n : Point) → n < countOf s nodes → Uses P (viewAt s n)) → (n : Point) → n < countOf s nodes → (x : ℕ) → isIn x (fv (exprAt s n)) ≡ true → P x
   all-free P uses =
       every-node
       s
       (λ n. All P (fv (exprAt s n)))
-      in-order
-      (λ n h ih. rw (expr-at s n h (in-order n h)) (all-node P n (exprAt s) (viewAt s n) (uses n h) ih))
+      (in-order s layout)
+      (λ n h ih. rw (expr-at s n h (in-order s layout n h)) (all-node P n (exprAt s) (viewAt s n) (uses n h) ih))
 
   -- A part's mask is in the table.
   pub part-within : (masks : List ℕ) (n p : ℕ) → length masks ≡ NODES → n < countOf s nodes → p ∈ parts (viewAt s n) → p < length masks
-  part-within masks n p size h m = omega (arith, in-order n h p m .there, layout .counts-are .within nodes)
+  part-within masks n p size h m = omega (arith, in-order s layout n h p m .there, layout .counts-are .within nodes)
 
 module _ (s masks : List ℕ) (start n : ℕ) (h : Ahead s masks start n) where
   part-free : (p m : ℕ) → p ∈ parts (viewAt s n) → m ≡ getD masks p 0 → MaskOf start m (fv (exprAt s p))

@@ -6,20 +6,21 @@ use mathlib.Core.Logic.{⊎-elim}
 use native.Mathlib.Nat.{eq-or-lt-of-le}
 use native.Mathlib.Omega.{arith}
 use borrow.Author.Count.{below-more}
-use lib.ListN.{length, getD, set, length-set}
+use lib.ListN.{length, getD, set, length-set, replicate, getD-replicate}
 use lib.Seq.{getD-set-same, getD-set-other}
 use Rattle.limits.specs.Limits.{NODES}
 use Rattle.script.specs.declared.Section.the-variants.{Nodes as nodes}
 use Rattle.script.specs.Section.{countOf, nodeWord}
-use Rattle.script.specs.Syntax.{Node, n-null, n-var, n-select, n-update, n-call, n-bind, n-new, n-cast, n-fork, n-lock}
+use Rattle.script.specs.Syntax.{namesOf, n-fork}
 use Rattle.script.specs.Reading.{viewAt, exprAt}
 use Rattle.script.specs.Statements.{WithinLayout}
-use Rattle.script.proofs.Reading.{first}
+use Rattle.script.proofs.Lists.{every-map}
+use Rattle.script.proofs.Reading.{first, in-order}
 use Rattle.typing.specs.Typing.{fv, shares}
 use Rattle.sharing.specs.Tables.{flagOf, Forks}
 use Rattle.sharing.specs.Free.{SPAN, NAMES, FreeMask, Along, Ahead, ForkMark, Uses, Beyond, NextUse}
 use Rattle.sharing.proofs.MarkLaws.{mark-none, mark-next, mark-done}
-use Rattle.sharing.proofs.FreeLaws.{in-order, all-free, fork-kind, Marks}
+use Rattle.sharing.proofs.FreeLaws.{all-free, fork-kind, Marks}
 
 -- A store right before the entries that are known, and one past them.
 module _ (P : ℕ → ℕ → Type 0) (table : List ℕ) (n v : ℕ) where
@@ -33,19 +34,6 @@ module _ (P : ℕ → ℕ → Type 0) (table : List ℕ) (n v : ℕ) where
   along-before : (j : ℕ) → j ≤ n → Along P table 0 j → Along P (set table n v) 0 j
   along-before j h along i b t = rw (getD-set-other table n i v 0 (λ e. omega arith)) (along i b t)
 
--- What follows of each variable in use.
-uses-map : (P Q : ℕ → Type 0) → ((x : ℕ) → P x → Q x) → (v : Node) → Uses P v → Uses Q v
-uses-map P Q f n-null u = tt
-uses-map P Q f (n-var x) u = f x u
-uses-map P Q f (n-select x g) u = f x u
-uses-map P Q f (n-update x g p) u = f x u
-uses-map P Q f (n-call x m p) u = f x u
-uses-map P Q f (n-bind x p q) u = tt
-uses-map P Q f (n-new c) u = tt
-uses-map P Q f (n-cast t p) u = tt
-uses-map P Q f (n-fork p q r) u = tt
-uses-map P Q f (n-lock x p) u = f x u
-
 -- The variables in use of the first n nodes lie beyond.
 abbrev pub BeyondTo : List ℕ → ℕ → ℕ → ℕ → Type 0
 BeyondTo s start next n = (k : ℕ) → k < n → Uses (Beyond start next) (viewAt s k)
@@ -55,8 +43,8 @@ next-step s start next n x r all here less near =
     below-more
     (λ k. Uses (Beyond start r) (viewAt s k))
     n
-    (λ k h. uses-map (Beyond start next) (Beyond start r) further (viewAt s k) (all k h))
-    (uses-map (λ y. (y ≡ x) × (y < NAMES)) (Beyond start r) own (viewAt s n) here)
+    (λ k h. every-map (Beyond start next) (Beyond start r) further (namesOf (viewAt s k)) (all k h))
+    (every-map (λ y. (y ≡ x) × (y < NAMES)) (Beyond start r) own (namesOf (viewAt s n)) here)
   where
     further : (y : ℕ) → Beyond start next y → Beyond start r y
     further y b = record { gap = λ h. omega (arith, b .gap h); word = b .word }
@@ -69,7 +57,7 @@ abbrev Words : List ℕ → Type 0
 Words s = (n : ℕ) → n < countOf s nodes → Uses (λ x. x < NAMES) (viewAt s n)
 
 pub words-of : (s : List ℕ) (start next : ℕ) → NextUse s start next → Words s
-words-of s start next u n h = uses-map (Beyond start next) (λ x. x < NAMES) (λ x b. b .word) (viewAt s n) (u .gap n h)
+words-of s start next u n h = every-map (Beyond start next) (λ x. x < NAMES) (λ x b. b .word) (namesOf (viewAt s n)) (u .gap n h)
 
 module _ (s : List ℕ) (layout : WithinLayout s) where
   abbrev Marked : ℕ → List ℕ → Type 0
@@ -88,14 +76,14 @@ module _ (s : List ℕ) (layout : WithinLayout s) where
       (marked n b h p q r v)
     where
       gaps : (k : ℕ) → k < countOf s nodes → Uses (λ x. bound ≤ x → next ≤ x) (viewAt s k)
-      gaps k l = uses-map (Beyond bound next) (λ x. bound ≤ x → next ≤ x) (λ x b. b .gap) (viewAt s k) (u .gap k l)
+      gaps k l = every-map (Beyond bound next) (λ x. bound ≤ x → next ≤ x) (λ x b. b .gap) (namesOf (viewAt s k)) (u .gap k l)
 
   -- Past every name the marks are the answers.
   pub marked-all : (bound : ℕ) (forks : List ℕ) → NAMES ≤ bound → length forks ≡ NODES → Words s → Marked bound forks → Forks s forks
   marked-all bound forks past size small marked = record { size = size; flags = flags }
     where
       below : (k : ℕ) → k < countOf s nodes → Uses (λ x. x < bound) (viewAt s k)
-      below k l = uses-map (λ x. x < NAMES) (λ x. x < bound) (λ x b. omega arith) (viewAt s k) (small k l)
+      below k l = every-map (λ x. x < NAMES) (λ x. x < bound) (λ x b. omega arith) (namesOf (viewAt s k)) (small k l)
 
       flags : (n a b c : ℕ) → n < countOf s nodes → viewAt s n ≡ n-fork a b c → getD forks n 0 ≡ flagOf (shares (fv (exprAt s a)) (fv (exprAt s b)))
       flags n a b c h v =
@@ -108,18 +96,9 @@ module _ (s : List ℕ) (layout : WithinLayout s) where
           (marked n (omega arith) h a b c v)
 
   -- A table of zeros has no fork marked.
-  pub marked-none : (forks : List ℕ) → length forks ≡ NODES → ((n : ℕ) → n < length forks → getD forks n 0 ≡ 0) → Marked 0 forks
-  marked-none forks size zeros n b h p q r v =
-      rw (zeros n (omega (arith, layout .counts-are .within nodes))) (mark-none (fv (exprAt s p)) (fv (exprAt s q)))
-
--- One more entry is zero.
-pub clear-step : (forks : List ℕ) (n : ℕ) → n < length forks → ((k : ℕ) → k < n → getD forks k 0 ≡ 0) → (k : ℕ) → k < n + 1 → getD (set forks n 0) k 0 ≡ 0
-clear-step forks n h all =
-    below-more
-    (λ k. getD (set forks n 0) k 0 ≡ 0)
-    n
-    (λ k l. rw (getD-set-other forks n k 0 0 (λ e. omega arith)) (all k l))
-    (getD-set-same forks n 0 0 h)
+  pub marked-none : (forks : List ℕ) (size : ℕ) → size ≡ NODES → forks ≡ replicate size 0 → Marked 0 forks
+  marked-none forks size e zeros n b h p q r v =
+      rw (zeros, e, getD-replicate {A = ℕ} NODES n 0 0 (omega (arith, layout .counts-are .within nodes))) (mark-none (fv (exprAt s p)) (fv (exprAt s q)))
 
 -- With no fork every table is right.
 pub no-forks : (s forks : List ℕ) → length forks ≡ NODES → ((n : ℕ) → n < countOf s nodes → nodeWord s n 0 ≡ 8 → ⊥) → Forks s forks

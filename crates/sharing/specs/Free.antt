@@ -6,9 +6,10 @@ use mathlib.Core.List.{List}
 use lib.ListN.{length, getD}
 use Rattle.words.specs.Word.{WORD}
 use Rattle.limits.specs.Limits.{NODES}
+use Rattle.script.specs.Lists.{Every}
 use Rattle.script.specs.declared.Section.the-variants.{Nodes as nodes}
 use Rattle.script.specs.Section.{countOf}
-use Rattle.script.specs.Syntax.{Node, n-null, n-var, n-select, n-update, n-call, n-bind, n-new, n-cast, n-fork, n-lock}
+use Rattle.script.specs.Syntax.{Node, namesOf, n-fork}
 use Rattle.script.specs.Reading.{viewAt, exprAt}
 use Rattle.script.specs.Statements.{WithinLayout}
 use Rattle.typing.specs.Typing.{fv, isIn}
@@ -54,18 +55,9 @@ pub data Mark (bound : ℕ) (l m : List ℕ) : ℕ → Type 0 where
 abbrev pub ForkMark : List ℕ → ℕ → ℕ → ℕ → Type 0
 ForkMark s bound n t = (a b c : ℕ) → viewAt s n ≡ n-fork a b c → Mark bound (fv (exprAt s a)) (fv (exprAt s b)) t
 
--- What holds of the variable that a node uses.
+-- What holds of each variable that a node uses.
 abbrev pub Uses : (ℕ → Type 0) → Node → Type 0
-Uses P n-null = Unit {0}
-Uses P (n-var x) = P x
-Uses P (n-select x f) = P x
-Uses P (n-update x f p) = P x
-Uses P (n-call x m p) = P x
-Uses P (n-bind x p q) = Unit {0}
-Uses P (n-new c) = Unit {0}
-Uses P (n-cast t p) = Unit {0}
-Uses P (n-fork p q r) = Unit {0}
-Uses P (n-lock x p) = P x
+Uses P v = Every P (namesOf v)
 
 -- A variable that is not from `start` up to `next`.
 pub record Beyond (start next x : ℕ) : Type 0 where

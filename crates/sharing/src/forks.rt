@@ -224,17 +224,6 @@ fn fill_spans(s: &[u8], masks: &mut [u64], forks: &mut [u8])
     }
 }
 
-// No fork is marked yet.
-fn clear(forks: &mut [u8])
-    ensures { λ r. ⌜ ((n : ℕ) → n < length (now (forks .exit)) → getD (now (forks .exit)) n 0 ≡ 0) ⌝ }
-{
-    let mut n = 0;
-    while n < forks.len() {
-        forks[n] = 0;
-        n += 1;
-    }
-}
-
 // Fills the table of forks: 1 at a fork whose asyncs share a free variable, else 0.
 pub fn fill_forks(s: &[u8], forks: &mut [u8])
     requires { ⌜ WithinLayout (now s) × (length (now forks) ≡ NODES) ⌝ }
@@ -243,7 +232,7 @@ pub fn fill_forks(s: &[u8], forks: &mut [u8])
     if !has_fork(s) {
         return;
     }
-    clear(forks);
+    slices::clear(forks);
     let mut masks = [0u64; Limits::NODES];
     fill_spans(s, &mut masks, forks);
 }

@@ -1,4 +1,4 @@
--- What is in hand, seen from a position: the part there and all else; and the whole again, with another part there.
+-- Block and tree, seen from a position: the part there and all else; and the whole again, with another part there.
 use mathlib.Core.Path.{_≡_, refl, sym, ap, subst, _∙_}
 use mathlib.Core.List.{List, [], _∷_, List·Memᴰ·head, List·Memᴰ·tail, _++_, map, map-append, flatMap, reverse}
 use mathlib.Core.Option.{some, Option·none-ne-some}
@@ -15,7 +15,9 @@ use Rattle.machine.specs.Config as machine
 use Rattle.machine.specs.Config.{running, returning, failed, join, Stores, Config}
 use Rattle.machine.specs.Machine.{Path, here, left, right, size, locate, part}
 use Rattle.block.specs.declared.Area.the-variants.{Positions}
-use Rattle.block.specs.Layout.{width, begins}
+use Rattle.block.specs.Rows.{wordOf}
+use Rattle.block.specs.Values.{valueWord}
+use Rattle.block.specs.Layout.{width, begins, RESULT}
 use Rattle.block.specs.Block.{preorder, waiting, positionWords, framesOf, partsOf, laid, blockWords}
 use Rattle.representation.specs.Changed.{frameStart}
 use Rattle.block.specs.Fits.{Few, AllWords}
@@ -27,8 +29,8 @@ use Rattle.tree.specs.declared.Entry.{Entry}
 use Rattle.tree.specs.declared.Tree.{Tree}
 use Rattle.tree.specs.Entries.{entryOf, entries, frameSum, blank, used}
 use Rattle.tree.proofs.Trees.{entries-length, sum-append, sum-start}
-use Rattle.state.specs.Hand.{partsIn, InHand, Else, Seen}
-use Rattle.state.specs.Positions.{entryFrom, valueIn, Worded}
+use Rattle.state.specs.Represents.{partsIn, Represents, Rest, StateAt}
+use Rattle.state.specs.Positions.{entryFrom, resultOf, Worded}
 use Rattle.state.proofs.Taking.{entry-back}
 use Rattle.state.proofs.Putting.{records-many}
 
@@ -98,7 +100,7 @@ word-small [] i h = omega arith
 word-small (w ∷ ws) zero h = h w (List·Memᴰ·head refl)
 word-small (w ∷ ws) (suc i) h = word-small ws i (λ v m. h v (List·Memᴰ·tail m))
 
-value-word : (t : machine.Tree) → valueIn (entryOf t .cell) ≡ getD (positionWords t) 3 0
+value-word : (t : machine.Tree) → valueWord (resultOf (entryOf t .cell)) ≡ wordOf (positionWords t) RESULT
 value-word (running a e fs) = refl
 value-word (returning v fs) = refl
 value-word failed = refl
@@ -107,8 +109,8 @@ value-word (join fs a e l r) = refl
 below : (t : machine.Tree) (n : ℕ) (p : Path) → locate t n ≡ some p → n < size t
 below t n p h = named-below t n .0 (p, h)
 
-module _ {b : List ℕ} {self : Tree} {c : Config} (h : InHand b self c) where
-  -- If the words of its block are words, so are those of the values in hand: what put_tree asks.
+module _ {b : List ℕ} {self : Tree} {c : Config} (h : Represents b self c) where
+  -- If the words of its block are words, so are those of the tree's values: what put_tree asks.
   pub hand-worded : AllWords (blockWords c) → Worded self
   hand-worded words k =
       let ts : List machine.Tree = preorder (c .tree) in
@@ -118,16 +120,16 @@ module _ {b : List ℕ} {self : Tree} {c : Config} (h : InHand b self c) where
       (elim (decLt k (length ts)) [
         | yes l ↦
             let room : k < POSITIONS = omega (arith, records-many self (c .tree) (h .tree), length-map ts positionWords, h .tree .tidy .small) in
-            let n = begins Positions + width Positions * k + 3 in
-            let e : getD (blockWords c) n 0 ≡ getD (positionWords v) 3 0 =
-            sym (word-bytes (blockWords c) n) ∙ word-is (partsOf c) Positions k 3 room (omega arith) ∙ ap (λ (r : List ℕ). getD r 3 0) (row-at positionWords ts k failed l)
+            let n = begins Positions + width Positions * k + RESULT in
+            let e : getD (blockWords c) n 0 ≡ wordOf (positionWords v) RESULT =
+            sym (word-bytes (blockWords c) n) ∙ word-is (partsOf c) Positions k RESULT room (omega arith) ∙ ap (λ (r : List ℕ). wordOf r RESULT) (row-at positionWords ts k failed l)
             in
             omega (arith, e, word-small (blockWords c) n words)
         | no l ↦ let e = ap (λ (t : machine.Tree). getD (positionWords t) 3 0) (List·getD-eq-default ts failed {n = k} (omega arith)) in omega (arith, e)
       ])
 
   -- All but the part u at position n.
-  abbrev pub around : ℕ → machine.Tree → Else
+  abbrev pub around : ℕ → machine.Tree → Rest
   around n u =
       record {
         before = take n (used self);
@@ -144,8 +146,8 @@ module _ {b : List ℕ} {self : Tree} {c : Config} (h : InHand b self c) where
     frames-there : (w : machine.Tree) → framesOf (replaced (c .tree) p w) ≡ around n u .outer ++ (framesOf w ++ around n u .later)
     frames-there w = frames-replaced (c .tree) n p u at there w
 
-    -- The configuration in hand, seen from position n.
-    pub seen-there : Seen b self n (around n u) (c .stores) u
+    -- The configuration, seen from position n.
+    pub seen-there : StateAt b self n (around n u) (c .stores) u
     seen-there =
         let same = replaced-same (c .tree) p u there in
         let l : n < size (c .tree) = below (c .tree) n p at in
@@ -162,8 +164,8 @@ module _ {b : List ℕ} {self : Tree} {c : Config} (h : InHand b self c) where
         }
 
     -- With another part there, it is the configuration with that part.
-    pub seen-whole : {now : List ℕ} {other : Tree} {st : Stores} {w : machine.Tree} → Seen now other n (around n u) st w
-        → InHand now other (record { stores = st; tree = replaced (c .tree) p w })
+    pub seen-whole : {now : List ℕ} {other : Tree} {st : Stores} {w : machine.Tree} → StateAt now other n (around n u) st w
+        → Represents now other (record { stores = st; tree = replaced (c .tree) p w })
     seen-whole {st = st} {w = w} s =
         record {
           positions = h .positions;

@@ -30,7 +30,7 @@ use Rattle.tree.specs.Entries.{entryOf, entries, beneathCell, frameSum, blank, 
 use Rattle.tree.specs.Parts.{Leftmost}
 use Rattle.tree.proofs.Trees.{size-some, entries-first, sum-append, sum-start}
 use Rattle.tree.proofs.Parts.{used-length, part-before, part-root, part-inside}
-use Rattle.state.specs.Hand.{partsIn, Sight}
+use Rattle.state.specs.Represents.{partsIn, SomeState}
 use Rattle.state.specs.Holding.{isLock, LockWithin, Held}
 use Rattle.state.proofs.Glue.{frames-sum, sum-take}
 
@@ -105,7 +105,7 @@ module _ (ss : List machine.Tree) where
   found (suc n) r run = found-step n r run (getD ss n failed) refl (found n r)
 
 -- holds: where the run lies
-module _ (b : List ℕ) (self : Tree) (i : ℕ) (s : Sight b self i) where
+module _ (b : List ℕ) (self : Tree) (i : ℕ) (s : SomeState b self i) where
   pub sight-long : length b ≡ BLOCK
   sight-long = ap length (s .seen .block) ∙ laid-bytes _
 

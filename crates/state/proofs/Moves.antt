@@ -26,7 +26,7 @@ use Rattle.tree.specs.declared.Tree.{Tree}
 use Rattle.tree.specs.Entries.{cellOf, entryOf, frameSum, blank, used, Tidy}
 use Rattle.tree.specs.Parts.{PartAt, Placed, Forked, Failing, Joined, FramesWithin}
 use Rattle.tree.proofs.Changes.{placed-by}
-use Rattle.state.specs.Hand.{Else, Seen}
+use Rattle.state.specs.Represents.{Rest, StateAt}
 use Rattle.state.proofs.Seeing.{around, lying, beneath, frames-first, frames-thread, frames-many, seen-few, bindings-counted, frames-counted, seen-waiting, frames-begin, frames-end}
 
 -- what insert_frame and remove_frames ensure, of the bytes b before and c after
@@ -81,13 +81,13 @@ few-bindings p bs h l Positions = h Positions
 few-bindings p bs h l Frames = h Frames
 
 -- The stores: other objects, and one binding more. The block has the bindings in the order in which they were made, the stores newest first.
-module _ {b c : List ℕ} {self : Tree} {i : ℕ} {x : Else} {st : Stores} {u : machine.Tree} (s : Seen b self i x st u) where
+module _ {b c : List ℕ} {self : Tree} {i : ℕ} {x : Rest} {st : Stores} {u : machine.Tree} (s : StateAt b self i x st u) where
   pub seen-objects : (os : List Object) → length os ≤ OBJECTS → c ≡ bytes (laid (withObjects (lying x st (framesOf u)) os))
-      → Seen c self i x (record { objects = os; bindings = st .bindings }) u
+      → StateAt c self i x (record { objects = os; bindings = st .bindings }) u
   seen-objects os l e = record { tidy = s .tidy; there = s .there; start = s .start; block = e; few = few-objects (lying x st (framesOf u)) os (s .few) l }
 
   pub seen-bindings : (d : Binding) → counted b Bindings < BINDINGS → c ≡ bytes (laid (withBindings (lying x st (framesOf u)) (reverse (st .bindings) ++ d ∷ [])))
-      → Seen c self i x (record { objects = st .objects; bindings = d ∷ st .bindings }) u
+      → StateAt c self i x (record { objects = st .objects; bindings = d ∷ st .bindings }) u
   seen-bindings d room e =
       let turned : reverse (st .bindings) ++ d ∷ [] ≡ reverse (d ∷ st .bindings) = sym (reverse-cons d (st .bindings)) in
       let l : length (reverse (d ∷ st .bindings)) ≤ BINDINGS = rw (length-reverse (d ∷ st .bindings)) (omega (arith, bindings-counted s, room)) in
@@ -100,13 +100,13 @@ module _ {b c : List ℕ} {self : Tree} {i : ℕ} {x : Else} {st : Stores} {u : 
       }
 
 -- The part: another with the same frames, and another with other frames.
-module _ {b : List ℕ} {self r : Tree} {i : ℕ} {x : Else} {st : Stores} {u w : machine.Tree} (s : Seen b self i x st u) where
-  same-frames : framesOf u ≡ framesOf w → Tidy r → PartAt r i (x .before) w (x .after) → Seen b r i x st w
+module _ {b : List ℕ} {self r : Tree} {i : ℕ} {x : Rest} {st : Stores} {u w : machine.Tree} (s : StateAt b self i x st u) where
+  same-frames : framesOf u ≡ framesOf w → Tidy r → PartAt r i (x .before) w (x .after) → StateAt b r i x st w
   same-frames e t p =
       record { tidy = t; there = p; start = s .start; block = s .block ∙ ap (λ (fs : List Frame). bytes (laid (lying x st fs))) e; few = rw (← e) (s .few) }
 
   other-frames : {c : List ℕ} (fs : List Frame) → fs ≡ around x (framesOf w) → c ≡ bytes (laid (withFrames (lying x st (framesOf u)) fs))
-      → frameCount w + length (x .outer) + length (x .later) ≤ FRAMES → Tidy r → PartAt r i (x .before) w (x .after) → Seen c r i x st w
+      → frameCount w + length (x .outer) + length (x .later) ≤ FRAMES → Tidy r → PartAt r i (x .before) w (x .after) → StateAt c r i x st w
   other-frames fs e is l t p =
       let long : length (around x (framesOf w)) ≤ FRAMES = omega (arith, length-append (x .outer) (framesOf w ++ x .later), length-append (framesOf w) (x .later), frames-many w) in
       record {
@@ -120,16 +120,16 @@ module _ {b : List ℕ} {self r : Tree} {i : ℕ} {x : Else} {st : Stores} {u w 
 entry-of : (w : machine.Tree) (cell : Cell) (n : ℕ) → cellOf w ≡ cell → length (waiting w) ≡ n → record { cell = cell; frames = n } ≡ entryOf w
 entry-of w cell n e f = rw (← e, ← f)
 
-module _ {b : List ℕ} {self r : Tree} {i : ℕ} {x : Else} {st : Stores} where
-  -- settle
+module _ {b : List ℕ} {self r : Tree} {i : ℕ} {x : Rest} {st : Stores} where
+  -- set_cell
   pub settled : {u w : machine.Tree} (cell : Cell) → Placed self i (record { cell = cell; frames = getD (self .entries) i blank .frames }) r → size u ≡ 1 → size w ≡ 1 → cellOf w ≡ cell
-      → waiting w ≡ waiting u → Seen b self i x st u → Seen b r i x st w
+      → waiting w ≡ waiting u → StateAt b self i x st u → StateAt b r i x st w
   settled {u} {w} cell p one too e f s =
       let at : Placed self i (entryOf w) r = rw (entry-of w cell (getD (self .entries) i blank .frames) e (ap length f ∙ sym (seen-waiting s))) at p in
       same-frames s (frames-thread u one ∙ ap reverse (sym f) ∙ sym (frames-thread w too)) (p .tidy) (placed-by self i r w too at one (s .there))
 
   -- fork
-  pub forks : {a₀ e₀ : ℕ} {fs : List Frame} (a d k e : ℕ) → Forked self i a d k e r → Seen b self i x st (running a₀ e₀ fs) → Seen b r i x st (join fs k e (running a e []) (running d e []))
+  pub forks : {a₀ e₀ : ℕ} {fs : List Frame} (a d k e : ℕ) → Forked self i a d k e r → StateAt b self i x st (running a₀ e₀ fs) → StateAt b r i x st (join fs k e (running a e []) (running d e []))
   forks {a₀} {e₀} {fs} a d k e p s =
       let t = join fs k e (running a e []) (running d e []) in
       let same : framesOf (running a₀ e₀ fs) ≡ framesOf t =
@@ -139,18 +139,18 @@ module _ {b : List ℕ} {self r : Tree} {i : ℕ} {x : Else} {st : Stores} where
       same-frames s same (p .tidy) (p .now refl (s .there))
 
   -- rejoin
-  pub rejoins : {fs : List Frame} {a e : ℕ} {left right : machine.Tree} → Joined self i r → framesOf left ≡ [] → framesOf right ≡ [] → Seen b self i x st (join fs a e left right)
-      → Seen b r i x st (running a e fs)
+  pub rejoins : {fs : List Frame} {a e : ℕ} {left right : machine.Tree} → Joined self i r → framesOf left ≡ [] → framesOf right ≡ [] → StateAt b self i x st (join fs a e left right)
+      → StateAt b r i x st (running a e fs)
   rejoins {fs} {a} {e} {left} {right} p l k s =
       let same : framesOf (join fs a e left right) ≡ framesOf (running a e fs) =
       frames-join fs a e left right ∙ rw (l, k) (append-nil (reverse fs)) ∙ sym (frames-thread (running a e fs) refl)
       in
       same-frames s same (p .tidy) (p .now (s .there))
 
-module _ {b c : List ℕ} {self r : Tree} {i : ℕ} {x : Else} {st : Stores} where
+module _ {b c : List ℕ} {self r : Tree} {i : ℕ} {x : Rest} {st : Stores} where
   -- push
   pub pushed : {a₀ e₀ : ℕ} {fs : List Frame} (at a e : ℕ) (f : Frame) → counted b Frames < FRAMES → at ≡ frameSum (take (i + 1) (used self)) → Inserts b c at f
-      → Placed self i (record { cell = Running a e; frames = getD (self .entries) i blank .frames + 1 }) r → Seen b self i x st (running a₀ e₀ fs) → Seen c r i x st (running a e (f ∷ fs))
+      → Placed self i (record { cell = Running a e; frames = getD (self .entries) i blank .frames + 1 }) r → StateAt b self i x st (running a₀ e₀ fs) → StateAt c r i x st (running a e (f ∷ fs))
   pushed {a₀} {e₀} {fs} at a e f room h ins p s =
       let u = running a₀ e₀ fs in
       let w = running a e (f ∷ fs) in
@@ -164,7 +164,7 @@ module _ {b c : List ℕ} {self r : Tree} {i : ℕ} {x : Else} {st : Stores} whe
   -- pop
   pub popped : {w : machine.Tree} {v : Value} {f : Frame} {fs : List Frame} (end : ℕ) (cell : Cell) → end ≡ frameSum (take (i + 1) (used self)) → Removes b c (end - 1) 1
       → Placed self i (record { cell = cell; frames = getD (self .entries) i blank .frames - 1 }) r → size w ≡ 1 → cellOf w ≡ cell → waiting w ≡ fs
-      → Seen b self i x st (returning v (f ∷ fs)) → Seen c r i x st w
+      → StateAt b self i x st (returning v (f ∷ fs)) → StateAt c r i x st w
   popped {w} {v} {f} {fs} end cell h rem p one e k s =
       let u = returning v (f ∷ fs) in
       let less : Placed self i (entryOf w) r = rw (entry-of w cell (getD (self .entries) i blank .frames - 1) e (ap length k ∙ omega (arith, seen-waiting s))) at p in
@@ -179,7 +179,7 @@ module _ {b c : List ℕ} {self r : Tree} {i : ℕ} {x : Else} {st : Stores} whe
       thread-frames t z = sym (frames-many t) ∙ ap length (frames-thread t z) ∙ length-reverse (waiting t)
 
   -- fail
-  pub fails : {u : machine.Tree} (at k : ℕ) → at ≡ frameSum (take i (used self)) → FramesWithin self i k → Removes b c at k → Failing self i r → Seen b self i x st u → Seen c r i x st failed
+  pub fails : {u : machine.Tree} (at k : ℕ) → at ≡ frameSum (take i (used self)) → FramesWithin self i k → Removes b c at k → Failing self i r → StateAt b self i x st u → StateAt c r i x st failed
   fails {u} at k h many rem p s =
       let none : framesOf failed ≡ [] = frames-thread failed refl in
       let here : at ≡ length (x .outer) + length {A = Frame} [] = omega (arith, h, frames-begin s) in
@@ -190,8 +190,8 @@ module _ {b c : List ℕ} {self r : Tree} {i : ℕ} {x : Else} {st : Stores} whe
       other-frames s _ now (rem (lying x st (framesOf u)) (s .block)) (omega (arith, frames-counted s, seen-few s Frames)) (p .tidy) (p .now (s .there))
 
 -- top_frame
-pub top-read : {b : List ℕ} {self : Tree} {i : ℕ} {x : Else} {st : Stores} {u : machine.Tree} {g f : Frame} {fs : List Frame} (end : ℕ)
-    → end ≡ frameSum (take (i + 1) (used self)) → Reads b (end - 1) g → waiting u ≡ f ∷ fs → Seen b self i x st u → g ≡ f
+pub top-read : {b : List ℕ} {self : Tree} {i : ℕ} {x : Rest} {st : Stores} {u : machine.Tree} {g f : Frame} {fs : List Frame} (end : ℕ)
+    → end ≡ frameSum (take (i + 1) (used self)) → Reads b (end - 1) g → waiting u ≡ f ∷ fs → StateAt b self i x st u → g ≡ f
 top-read {x = x} {st} {u} {g} {f} {fs} end h reads e s =
     let n : length (waiting u) ≡ suc (length fs) = ap length e in
     let here : end - 1 ≡ length (x .outer) + length (reverse fs) = omega (arith, h, frames-end s, length-reverse fs) in

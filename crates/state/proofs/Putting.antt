@@ -5,7 +5,7 @@ use Prim.Native.Nat.{ℕ, zero, suc, _+_, _*_, _<_, _≤_}
 use native.Mathlib.Omega.{arith}
 use lib.ListN.{length, getD, set, take, replicate, length-append, length-map, replicate-append-replicate, drop-of-length-le, List·getD-map, List·getD-eq-default}
 use lib.Seq.{sets, sets-eq, take-suc, length-take-le, getD-take}
-use Rattle.words.specs.Word.{WORD, bytes}
+use Rattle.words.specs.Word.{bytes}
 use Rattle.slices.specs.Put.{putWord}
 use Rattle.slices.proofs.Laws.{put-bytes}
 use Rattle.limits.specs.Limits.{POSITIONS}
@@ -16,7 +16,8 @@ use Rattle.machine.specs.Config.{failed, Stores, Config}
 use Rattle.block.specs.declared.Area.the-variants.{Positions}
 use Rattle.block.specs.Rows.{filled}
 use Rattle.block.specs.Layout.{WORDS, width, begins, countWord, countByte, wordByte}
-use Rattle.block.specs.Block.{valueWord, preorder, positionWords, framesOf, Parts, rows, area, headerWords, laid, encode}
+use Rattle.block.specs.Values.{Storable}
+use Rattle.block.specs.Block.{preorder, positionWords, framesOf, Parts, rows, area, headerWords, laid, encode}
 use Rattle.block.proofs.Rows.{Wide, filled-nil, set-filled, sets-inside}
 use Rattle.block.proofs.Words.{rows-wide, length-area, ahead, behind, apart, before-length}
 use Rattle.tree.specs.declared.Cell.{Cell}
@@ -26,14 +27,14 @@ use Rattle.tree.specs.declared.Tree.{Tree}
 use Rattle.tree.specs.Entries.{entryOf, entries, blank, Is}
 use Rattle.tree.proofs.Parts.{used-length}
 use Rattle.tree.proofs.EntryWords.{cellWords, entryWords, words-entry}
-use Rattle.state.specs.Hand.{partsIn, InHand}
-use Rattle.state.specs.Positions.{valueIn, Worded, rowAt}
+use Rattle.state.specs.Represents.{partsIn, Represents}
+use Rattle.state.specs.Positions.{resultOf, Worded, rowAt}
 
 -- the words of a position, by its cell
 pub row-said : (x : Entry) (c : Cell) → x .cell ≡ c → (t : machine.Tree) → x ≡ entryOf t → cellWords c (x .frames) ≡ positionWords t
 row-said x c e t h = ap (λ (k : Cell). cellWords k (x .frames)) (sym e) ∙ ap entryWords h ∙ words-entry t
 
-pub value-small : (c : Cell) (v : Value) → c ≡ Returning v → valueIn c < WORD → valueWord v < WORD
+pub value-small : (c : Cell) (v : Value) → c ≡ Returning v → Storable (resultOf c) → Storable v
 value-small c v e h = rw e at h
 
 -- element i of a list of which each is put into a row
@@ -42,7 +43,7 @@ row-in f [] i y d h = absurd (omega arith)
 row-in f (x ∷ xs) zero y d h = refl
 row-in f (x ∷ xs) (suc i) y d h = row-in f xs i y d (omega arith)
 
-pub small-there : (self : Tree) (i : ℕ) → Worded self → i < self .len → valueIn (getD (self .entries) i blank .cell) < WORD
+pub small-there : (self : Tree) (i : ℕ) → Worded self → i < self .len → Storable (resultOf (getD (self .entries) i blank .cell))
 small-there self i w h = rw (getD-take (self .len) (self .entries) i blank h) at (w i)
 
 module _ (self : Tree) (t : machine.Tree) (is : Is self t) where
@@ -158,7 +159,7 @@ module _ (st : Stores) (ps qs : List machine.Tree) (fs : List Frame) where
 -- put_tree: the first i records are those of the tree
 abbrev pub Writing : List ℕ → Tree → List ℕ → ℕ → Type 0
 Writing b self now i =
-    (c : Config) (h : InHand b self c)
+    (c : Config) (h : Represents b self c)
     → now ≡ bytes (sets (laid (partsIn (c .stores) (h .positions) (framesOf (c .tree)))) (begins Positions) (records (map positionWords (preorder (c .tree))) i))
 
 pub write-none : (b : List ℕ) (self : Tree) → Writing b self b 0
@@ -183,7 +184,7 @@ module _ (b : List ℕ) (self : Tree) (now next : List ℕ) where
       ∙ ap (sets (laid p) (begins Positions)) (sym (records-next rs i))
       ∙ ap (λ (k : ℕ). sets (laid p) (begins Positions) (records rs k)) (sym s))
 
-  pub written : Writing b self now POSITIONS → next ≡ putWord now (countByte Positions) (self .len) → (c : Config) → InHand b self c → next ≡ encode c
+  pub written : Writing b self now POSITIONS → next ≡ putWord now (countByte Positions) (self .len) → (c : Config) → Represents b self c → next ≡ encode c
   written all put c h =
       let n = records-many self (c .tree) (h .tree) in
       put

@@ -22,13 +22,13 @@ use Rattle.tree.specs.Entries.{entryOf, frameSum, blank, used}
 use Rattle.tree.specs.Parts.{FramesWithin}
 use Rattle.tree.proofs.Trees.{size-some, sum-append}
 use Rattle.tree.proofs.Parts.{used-length, part-before, part-inside, part-root, part-entry}
-use Rattle.state.specs.Hand.{partsIn, Else, Seen, Sight}
+use Rattle.state.specs.Represents.{partsIn, Rest, StateAt, SomeState}
 
 -- all frames, where the part has fs, and what lies in the block then
-abbrev pub around : Else → List Frame → List Frame
+abbrev pub around : Rest → List Frame → List Frame
 around x fs = x .outer ++ (fs ++ x .later)
 
-abbrev pub lying : Else → Stores → List Frame → Parts
+abbrev pub lying : Rest → Stores → List Frame → Parts
 lying x st fs = partsIn st (x .positions) (around x fs)
 
 -- a tree's frames: those of its root, outermost first, and then those of the trees beneath
@@ -64,9 +64,9 @@ frames-many (join fs a e l r) =
 waiting-within : (t : machine.Tree) → length (waiting t) ≤ frameCount t
 waiting-within t = omega (arith, frames-many t, ap length (frames-first t), length-append (reverse (waiting t)) (beneath t), length-reverse (waiting t))
 
-module _ {b : List ℕ} {self : Tree} {i : ℕ} {x : Else} {st : Stores} {u : machine.Tree} (s : Seen b self i x st u) where
-  pub sighted : Sight b self i
-  sighted = record { rest = x; stores = st; part = u; seen = s }
+module _ {b : List ℕ} {self : Tree} {i : ℕ} {x : Rest} {st : Stores} {u : machine.Tree} (s : StateAt b self i x st u) where
+  pub some-state : SomeState b self i
+  some-state = record { rest = x; stores = st; part = u; seen = s }
 
   pub seen-length : length b ≡ BLOCK
   seen-length = rw (s .block) (laid-bytes (lying x st (framesOf u)))

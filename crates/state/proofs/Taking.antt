@@ -14,12 +14,12 @@ use Rattle.machine.specs.declared.Value.{Value}
 use Rattle.machine.specs.Config as machine
 use Rattle.machine.specs.Config.{running, returning, failed, join}
 use Rattle.block.specs.declared.Area.the-variants.{Positions}
-use Rattle.block.specs.Layout.{counted, wordIn, width, RUNNING, RETURNING, JOIN}
+use Rattle.block.specs.Rows.{wordOf}
+use Rattle.block.specs.Layout.{counted, wordIn, width, KIND, NODE, ENV, RESULT, WAITING, RUNNING, RETURNING, JOIN}
 use Rattle.block.specs.Block.{preorder, positionWords, Parts, partsOf, laid}
-use Rattle.block.specs.Decode.{valueOf}
 use Rattle.block.proofs.Rows.{row-at}
 use Rattle.block.proofs.Words.{count-is, word-is}
-use Rattle.block.proofs.Trees.{value-back}
+use Rattle.block.proofs.Values.{value-back}
 use Rattle.tree.specs.declared.Cell.the-variants.{Failed, Running, Returning, Join}
 use Rattle.tree.specs.declared.Entry.{Entry}
 use Rattle.tree.specs.declared.Tree.{Tree}
@@ -28,28 +28,28 @@ use Rattle.tree.proofs.Lists.{fill-turn, fill-length, fill-take, fill-drop}
 use Rattle.state.specs.Positions.{cellFrom, entryFrom, Taken}
 
 -- what the words of a position say
-module _ (k a e w : ℕ) where
-  pub running-said : k ≡ RUNNING → Running a e ≡ cellFrom k a e w
+module _ (k a e : ℕ) (v : Value) where
+  pub running-said : k ≡ RUNNING → Running a e ≡ cellFrom k a e v
   running-said h = rw h
 
-  pub returning-said : (v : Value) → v ≡ valueOf w → k ≡ RETURNING → Returning v ≡ cellFrom k a e w
-  returning-said v f h = rw (h, f)
+  pub returning-said : k ≡ RETURNING → Returning v ≡ cellFrom k a e v
+  returning-said h = rw h
 
-  pub join-said : k ≡ JOIN → Join a e ≡ cellFrom k a e w
+  pub join-said : k ≡ JOIN → Join a e ≡ cellFrom k a e v
   join-said h = rw h
 
-  pub failed-said : (k ≡ RUNNING → ⊥) → (k ≡ RETURNING → ⊥) → (k ≡ JOIN → ⊥) → Failed ≡ cellFrom k a e w
+  pub failed-said : (k ≡ RUNNING → ⊥) → (k ≡ RETURNING → ⊥) → (k ≡ JOIN → ⊥) → Failed ≡ cellFrom k a e v
   failed-said f g h = rw (ne-eqb k RUNNING f, ne-eqb k RETURNING g, ne-eqb k JOIN h)
 
 -- the words of a tree's root say its entry
-pub entry-back : (t : machine.Tree) → entryFrom (λ j. getD (positionWords t) j 0) ≡ entryOf t
+pub entry-back : (t : machine.Tree) → entryFrom (wordOf (positionWords t)) ≡ entryOf t
 entry-back (running a e fs) = refl
 entry-back (returning v fs) = rw (value-back v)
 entry-back failed = refl
 entry-back (join fs a e l r) = refl
 
 same-entry : (w x : ℕ → ℕ) → ((j : ℕ) → j < width Positions → w j ≡ x j) → entryFrom w ≡ entryFrom x
-same-entry w x h = rw (h 0 (omega arith), h 1 (omega arith), h 2 (omega arith), h 3 (omega arith), h 4 (omega arith))
+same-entry w x h = rw (h KIND (omega arith), h NODE (omega arith), h ENV (omega arith), h RESULT (omega arith), h WAITING (omega arith))
 
 -- the positions of the bytes b
 module _ (b : List ℕ) where

@@ -1,3 +1,3 @@
-pub mod Hand
+pub mod Represents
 pub mod Positions
 pub mod Holding

@@ -5,7 +5,7 @@ ghost use mathlib.Core.Path.{_≡_};
 ghost use Prim.Native.Nat.{_≤_};
 ghost use lib.ListN.{length};
 ghost use Rattle.limits.specs.Limits.{BLOCK, FRAMES};
-ghost use Rattle.state.specs.Hand.{Sight};
+ghost use Rattle.state.specs.Represents.{SomeState};
 ghost use Rattle.state.specs.Holding.{isLock, LockWithin, Held};
 
 // Is f a lock frame of object o?
@@ -38,7 +38,7 @@ fn lock_within(block: &[u8], from: usize, to: usize, o: u16) -> bool
 // Does the thread at position i hold object o? The frames that it will resume stand together: those of the joins of which it is the leftmost thread, and its
 // own.
 pub fn holds(block: &[u8], tree: Tree, i: usize, o: u16) -> bool
-    requires { ⌜ Sight (now block) tree i ⌝ }
+    requires { ⌜ SomeState (now block) tree i ⌝ }
     ensures { λ r. ⌜ Held (now (block .entry)) tree i o r ⌝ }
 {
     let first = tree.leftmost_from(i);

@@ -9,7 +9,7 @@ pub use part::fork;
 pub use part::pop;
 pub use part::push;
 pub use part::rejoin;
-pub use part::settle;
+pub use part::set_cell;
 pub use part::top_frame;
 pub use whole::put_tree;
 pub use whole::take_tree;

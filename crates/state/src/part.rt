@@ -17,19 +17,19 @@ ghost use Rattle.block.specs.declared.Area.the-variants.{Frames};
 ghost use Rattle.block.specs.Layout.{counted};
 ghost use Rattle.block.specs.Block.{waiting, framesOf};
 ghost use Rattle.tree.specs.Entries.{cellOf, blank, Tidy};
-ghost use Rattle.state.specs.Hand.{Else, Seen, Sight};
+ghost use Rattle.state.specs.Represents.{Rest, StateAt, SomeState};
 
 // The thread at `i` becomes another with the same frames.
-pub fn settle(tree: Tree, i: usize, cell: Cell) -> Tree
+pub fn set_cell(tree: Tree, i: usize, cell: Cell) -> Tree
     requires { ⌜ Tidy tree × (i < tree .len) ⌝ }
     ensures { λ r. ⌜
-        ((b : List ℕ) (x : Else) (st : Stores) (u w : machine.Tree) →
+        ((b : List ℕ) (x : Rest) (st : Stores) (u w : machine.Tree) →
         size u ≡ 1 →
         size w ≡ 1 →
         cellOf w ≡ cell →
         waiting w ≡ waiting u →
-        Seen b tree i x st u →
-        Seen b r i x st w)
+        StateAt b tree i x st u →
+        StateAt b r i x st w)
         ⌝ }
 {
     let old = tree.entries[i];
@@ -44,11 +44,11 @@ pub fn settle(tree: Tree, i: usize, cell: Cell) -> Tree
 
 // The thread at `i` goes on at node a in environment e, with the frame f more.
 pub fn push(block: &mut [u8], tree: Tree, i: usize, f: Frame, a: u16, e: u16) -> Tree
-    requires { ⌜ Sight (now block) tree i × (counted (now block) Frames < FRAMES) ⌝ }
+    requires { ⌜ SomeState (now block) tree i × (counted (now block) Frames < FRAMES) ⌝ }
     ensures { λ r. ⌜
-        ((x : Else) (st : Stores) (a₀ e₀ : ℕ) (fs : List Frame) →
-        Seen (now (block .entry)) tree i x st (running a₀ e₀ fs) →
-        Seen (now (block .exit)) r i x st (running a e (f ∷ fs)))
+        ((x : Rest) (st : Stores) (a₀ e₀ : ℕ) (fs : List Frame) →
+        StateAt (now (block .entry)) tree i x st (running a₀ e₀ fs) →
+        StateAt (now (block .exit)) r i x st (running a e (f ∷ fs)))
         ⌝ }
 {
     let old = tree.entries[i];
@@ -65,14 +65,14 @@ pub fn push(block: &mut [u8], tree: Tree, i: usize, f: Frame, a: u16, e: u16) ->
 
 // The thread at `i` becomes another, without its innermost frame.
 pub fn pop(block: &mut [u8], tree: Tree, i: usize, cell: Cell) -> Tree
-    requires { ⌜ Sight (now block) tree i × (0 < getD (tree .entries) i blank .frames) ⌝ }
+    requires { ⌜ SomeState (now block) tree i × (0 < getD (tree .entries) i blank .frames) ⌝ }
     ensures { λ r. ⌜
-        ((x : Else) (st : Stores) (v : Value) (f : Frame) (fs : List Frame) (w : machine.Tree) →
+        ((x : Rest) (st : Stores) (v : Value) (f : Frame) (fs : List Frame) (w : machine.Tree) →
         size w ≡ 1 →
         cellOf w ≡ cell →
         waiting w ≡ fs →
-        Seen (now (block .entry)) tree i x st (returning v (f ∷ fs)) →
-        Seen (now (block .exit)) r i x st w)
+        StateAt (now (block .entry)) tree i x st (returning v (f ∷ fs)) →
+        StateAt (now (block .exit)) r i x st w)
         ⌝ }
 {
     let old = tree.entries[i];
@@ -89,9 +89,9 @@ pub fn pop(block: &mut [u8], tree: Tree, i: usize, cell: Cell) -> Tree
 
 // The part at `i` becomes failed: all beneath is dropped, and all its frames.
 pub fn fail(block: &mut [u8], tree: Tree, i: usize) -> Tree
-    requires { ⌜ Sight (now block) tree i ⌝ }
+    requires { ⌜ SomeState (now block) tree i ⌝ }
     ensures { λ r. ⌜
-        ((x : Else) (st : Stores) (u : machine.Tree) → Seen (now (block .entry)) tree i x st u → Seen (now (block .exit)) r i x st failed)
+        ((x : Rest) (st : Stores) (u : machine.Tree) → StateAt (now (block .entry)) tree i x st u → StateAt (now (block .exit)) r i x st failed)
         ⌝ }
 {
     let at = tree.frames_before(i);
@@ -104,9 +104,9 @@ pub fn fail(block: &mut [u8], tree: Tree, i: usize) -> Tree
 pub fn fork(tree: Tree, i: usize, a: u16, b: u16, c: u16, e: u16) -> Tree
     requires { ⌜ Tidy tree × (i < tree .len) × (tree .len + 2 ≤ POSITIONS) ⌝ }
     ensures { λ r. ⌜
-        ((bytes : List ℕ) (x : Else) (st : Stores) (a₀ e₀ : ℕ) (fs : List Frame) →
-        Seen bytes tree i x st (running a₀ e₀ fs) →
-        Seen bytes r i x st (join fs c e (running a e []) (running b e [])))
+        ((bytes : List ℕ) (x : Rest) (st : Stores) (a₀ e₀ : ℕ) (fs : List Frame) →
+        StateAt bytes tree i x st (running a₀ e₀ fs) →
+        StateAt bytes r i x st (join fs c e (running a e []) (running b e [])))
         ⌝ }
 {
     tree.forked(i, a, b, c, e)
@@ -116,11 +116,11 @@ pub fn fork(tree: Tree, i: usize, a: u16, b: u16, c: u16, e: u16) -> Tree
 pub fn rejoin(tree: Tree, i: usize) -> Tree
     requires { ⌜ Tidy tree × (i < tree .len) ⌝ }
     ensures { λ r. ⌜
-        ((bytes : List ℕ) (x : Else) (st : Stores) (fs : List Frame) (a e : ℕ) (left right : machine.Tree) →
+        ((bytes : List ℕ) (x : Rest) (st : Stores) (fs : List Frame) (a e : ℕ) (left right : machine.Tree) →
         framesOf left ≡ [] →
         framesOf right ≡ [] →
-        Seen bytes tree i x st (join fs a e left right) →
-        Seen bytes r i x st (running a e fs))
+        StateAt bytes tree i x st (join fs a e left right) →
+        StateAt bytes r i x st (running a e fs))
         ⌝ }
 {
     tree.joined(i)
@@ -128,9 +128,9 @@ pub fn rejoin(tree: Tree, i: usize) -> Tree
 
 // The innermost frame at `i`.
 pub fn top_frame(block: &[u8], tree: Tree, i: usize) -> Frame
-    requires { ⌜ Sight (now block) tree i × (0 < getD (tree .entries) i blank .frames) ⌝ }
+    requires { ⌜ SomeState (now block) tree i × (0 < getD (tree .entries) i blank .frames) ⌝ }
     ensures { λ r. ⌜
-        ((x : Else) (st : Stores) (u : machine.Tree) (f : Frame) (fs : List Frame) → waiting u ≡ f ∷ fs → Seen (now (block .entry)) tree i x st u → r ≡ f)
+        ((x : Rest) (st : Stores) (u : machine.Tree) (f : Frame) (fs : List Frame) → waiting u ≡ f ∷ fs → StateAt (now (block .entry)) tree i x st u → r ≡ f)
         ⌝ }
 {
     let end = tree.frames_before(i + 1);

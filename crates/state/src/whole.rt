@@ -1,6 +1,8 @@
 // The tree by value: taken out of the block, and written back.
 use block::Area;
+use block::Layout;
 use limits::Limits;
+use machine::Value;
 use tree::Cell;
 use tree::Entry;
 use tree::Tree;
@@ -9,28 +11,29 @@ ghost use mathlib.Core.List.{List};
 ghost use Prim.Native.Nat.{ℕ, _+_, _*_, _<_, _≤_};
 ghost use lib.ListN.{length};
 ghost use lib.Seq.{sets};
-ghost use Rattle.words.specs.Word.{WORD, bytes};
+ghost use Rattle.words.specs.Word.{bytes};
 ghost use Rattle.limits.specs.Limits.{BLOCK, POSITIONS};
 ghost use Rattle.machine.specs.Config as machine;
 ghost use Rattle.machine.specs.Config.{Config};
 ghost use Rattle.block.specs.declared.Area.the-variants.{Positions};
 ghost use Rattle.block.specs.Layout.{width, begins, counted, wordIn};
+ghost use Rattle.block.specs.Values.{Storable};
 ghost use Rattle.block.specs.Block.{positionWords, encode};
 ghost use Rattle.tree.specs.Entries.{entryOf, Tidy, Is};
-ghost use Rattle.state.specs.Hand.{InHand};
-ghost use Rattle.state.specs.Positions.{cellFrom, entryFrom, Taken, valueIn, Worded, rowAt};
+ghost use Rattle.state.specs.Represents.{Represents};
+ghost use Rattle.state.specs.Positions.{cellFrom, entryFrom, Taken, resultOf, Worded, rowAt};
 
 // What stands at a position, by its words.
-fn cell_of(kind: u16, node: u16, env: u16, value: u16) -> Cell
+fn cell_of(kind: u16, node: u16, env: u16, value: Value) -> Cell
     ensures { λ r. ⌜ r ≡ cellFrom kind node env value ⌝ }
 {
-    if kind == 1 {
+    if kind == Layout::RUNNING {
         return Cell::Running(node, env);
     }
-    if kind == 2 {
-        return Cell::Returning(areas::value_of(value));
+    if kind == Layout::RETURNING {
+        return Cell::Returning(value);
     }
-    if kind == 4 {
+    if kind == Layout::JOIN {
         return Cell::Join(node, env);
     }
     Cell::Failed
@@ -41,11 +44,11 @@ fn entry_at(block: &[u8], i: usize) -> Entry
     requires { ⌜ (length (now block) ≡ BLOCK) × (i < POSITIONS) ⌝ }
     ensures { λ r. ⌜ r ≡ entryFrom (wordIn (now (block .entry)) Positions i) ⌝ }
 {
-    let kind = areas::word(block, Area::Positions, i, 0);
-    let node = areas::word(block, Area::Positions, i, 1);
-    let env = areas::word(block, Area::Positions, i, 2);
-    let value = areas::word(block, Area::Positions, i, 3);
-    let frames = areas::word(block, Area::Positions, i, 4);
+    let kind = areas::word(block, Area::Positions, i, Layout::KIND);
+    let node = areas::word(block, Area::Positions, i, Layout::NODE);
+    let env = areas::word(block, Area::Positions, i, Layout::ENV);
+    let value = areas::value(block, Area::Positions, i, Layout::RESULT);
+    let frames = areas::word(block, Area::Positions, i, Layout::WAITING);
     Entry {
         cell: cell_of(kind, node, env, value),
         frames: frames,
@@ -76,39 +79,39 @@ pub fn take_tree(block: &[u8]) -> Tree
 }
 
 // The words of a position.
-fn row_of(x: Entry) -> [u16; 5]
-    requires { ⌜ valueIn (x .cell) < WORD ⌝ }
+fn row_of(x: Entry) -> [u16; Layout::POSITION_WIDTH]
+    requires { ⌜ Storable (resultOf (x .cell)) ⌝ }
     ensures { λ r. ⌜ (length r ≡ width Positions) × ((t : machine.Tree) → x ≡ entryOf t → r ≡ positionWords t) ⌝ }
 {
     let c = x.cell;
     match c {
-        Cell::Failed => [3, 0, 0, 0, x.frames],
-        Cell::Running(node, env) => [1, node, env, 0, x.frames],
-        Cell::Returning(v) => [2, 0, 0, areas::word_of(v), x.frames],
-        Cell::Join(node, env) => [4, node, env, 0, x.frames],
+        Cell::Failed => [Layout::FAILED, 0, 0, 0, x.frames],
+        Cell::Running(node, env) => [Layout::RUNNING, node, env, 0, x.frames],
+        Cell::Returning(v) => [Layout::RETURNING, 0, 0, areas::word_of(v), x.frames],
+        Cell::Join(node, env) => [Layout::JOIN, node, env, 0, x.frames],
     }
 }
 
 // The words of record i of the positions of a tree: zeros where the tree has no such position.
-fn row_at(tree: Tree, i: usize) -> [u16; 5]
+fn row_at(tree: Tree, i: usize) -> [u16; Layout::POSITION_WIDTH]
     requires { ⌜ Tidy tree × Worded tree × (i < POSITIONS) ⌝ }
     ensures { λ r. ⌜ (length r ≡ width Positions) × ((t : machine.Tree) → Is tree t → r ≡ rowAt t i) ⌝ }
 {
     if tree.len <= i {
-        return [0; 5];
+        return [0; Layout::POSITION_WIDTH];
     }
     row_of(tree.entries[i])
 }
 
 // Puts the words of record i of the positions.
-fn put_row(block: &mut [u8], i: usize, row: [u16; 5])
+fn put_row(block: &mut [u8], i: usize, row: [u16; Layout::POSITION_WIDTH])
     requires { ⌜ (length (now block) ≡ BLOCK) × (i < POSITIONS) × (length row ≡ width Positions) ⌝ }
     ensures { λ r. ⌜
         ((ws : List ℕ) → now (block .entry) ≡ bytes ws → now (block .exit) ≡ bytes (sets ws (begins Positions + width Positions * i) row))
         ⌝ }
 {
     let mut j = 0;
-    while j < 5 {
+    while j < Layout::POSITION_WIDTH {
         areas::put(block, Area::Positions, i, j, row[j]);
         j += 1;
     }
@@ -117,7 +120,7 @@ fn put_row(block: &mut [u8], i: usize, row: [u16; 5])
 // Writes the tree into the block: every record of the positions, and their count.
 pub fn put_tree(block: &mut [u8], tree: Tree)
     requires { ⌜ (length (now block) ≡ BLOCK) × Tidy tree × Worded tree ⌝ }
-    ensures { λ r. ⌜ ((c : Config) → InHand (now (block .entry)) tree c → now (block .exit) ≡ encode c) ⌝ }
+    ensures { λ r. ⌜ ((c : Config) → Represents (now (block .entry)) tree c → now (block .exit) ≡ encode c) ⌝ }
 {
     let mut i = 0;
     while i < Limits::POSITIONS {

@@ -9,18 +9,17 @@ use native.Mathlib.Omega.{arith}
 use Rattle.script.specs.declared.Question.{Question}
 use Rattle.script.specs.declared.Question.the-variants.{Length, Counts, Places, Interfaces, Owners, Types, Nodes, Names, Joins, Classes}
 use Rattle.script.specs.Lists.{_∈_}
-use Rattle.script.specs.declared.Section.{Section}
-use Rattle.script.specs.declared.Section.the-variants.{Interfaces as interfaces, Signatures as signatures, Classes as classes, Fields as fields, Methods as methods, Nodes as nodes}
-use Rattle.script.specs.Section.{countOf, recordAt}
+use Rattle.script.specs.declared.Section.the-variants.{Interfaces as interfaces, Classes as classes, Nodes as nodes}
+use Rattle.script.specs.Section.{sections, countOf, recordAt}
 use Rattle.script.specs.Syntax.{Point, Method, Interface, lists, extends, Class, declarationAt, an-interface, a-class}
 use Rattle.script.specs.Reading.{interfaceAt, classAt, programOf}
-use Rattle.script.specs.Asking.{numberOf, Refusal, firstNo, lowestOut, Decides, holds, Each, Lowest}
+use Rattle.script.specs.Asking.{rankOf, Refusal, firstNo, lowestIn, Each, Lowest}
 use Rattle.script.specs.Questions.{layoutQuestions}
 use Rattle.script.specs.Statements.{WithinLayout}
 use Rattle.script.specs.Regular.{RegularInterface}
 use Rattle.script.proofs.Lists.{lt-or-le}
 use Rattle.script.proofs.Declarations.{is-interface, interface-at, interface-from, class-at, class-from}
-use Rattle.script.proofs.Lowest.{lowest, lowest-none, ask-records}
+use Rattle.script.proofs.Lowest.{no-more, asked, passed, lowest, lowest-none, ask-records}
 use Rattle.script.proofs.LayoutLaws.{Before, at-first, length-is, counts-are, places-are, interfaces-are, owners-are, types-are, nodes-are, names-are, LayoutSays, all-yes, first-no, layout-says, within-layout, layout-passes}
 use Rattle.script.proofs.Regular.{regular}
 use Rattle.typing.specs.declared.Answer.{Answer}
@@ -30,7 +29,7 @@ use Rattle.typing.specs.Typing.{Body, bodiesOf, walk}
 use Rattle.typing.specs.Check.{joinsTest, classesTest, memberQuestions, refusedOr, walked, checkOf}
 use Rattle.typing.specs.Published.{MsigsFunction, Infer, WfInterface, WF-INTERFACE, WF-INTERFACE-EXTENDS, WF-FIELD, WF-METHOD, WfMethod, WfClass, WF-CLASS, WfProgram, WF-PROGRAM}
 use Rattle.typing.specs.Refusals.{JoinIs, JoinsAre, ClassIs, ClassesAre, of-walk, statementOf, Yes, No, NodeNo, FirstNo}
-use Rattle.typing.proofs.First.{Order, before-walk, on-walk, order, number-same, one-more, before, low, first, walk-no-walk, all-before, yes-no, same-place}
+use Rattle.typing.proofs.First.{Order, before-walk, on-walk, order, rank-same, one-more, before, first, walk-no-walk, walk-last, yes-no, same-place}
 use Rattle.typing.proofs.Types.{type-wf}
 use Rattle.typing.proofs.Joins.{decides-join, joins-function, function-joins, decides-class}
 use Rattle.typing.proofs.Bodies.{body-in, in-bodies}
@@ -38,42 +37,36 @@ use Rattle.typing.proofs.Walk.{BodyChecks, ListNo, Walked, walks, halts
 use Rattle.typing.proofs.MethodOrder.{walk-no-exactly}
 
 module _ (s : List ℕ) (w : WithinLayout s) where
-  join-at : (t i : ℕ) (j : Interface) → t ≡ suc i → j ≡ interfaceAt s i → JoinsAre s interfaces i → JoinIs (programOf s) t j
+  join-at : (t i : ℕ) (j : Interface) → t ≡ suc i → j ≡ interfaceAt s i → JoinIs (programOf s) (suc i) (interfaceAt s i) → JoinIs (programOf s) t j
   join-at t i j e d h = rw (e, d) h
 
   -- Question 9 finds the lowest join with two meanings for a name.
-  pub joins-lowest : Lowest s (JoinsAre s) (lowestOut s (joinsTest s (programOf s)))
-  unfolding joinsTest
-  joins-lowest = lowest s (joinsTest s (programOf s)) (JoinsAre s) (w .places-are) at
-    where
-      at : (k : Section) (i : ℕ) → i < countOf s k → ((j : ℕ) → j < i → JoinsAre s k j) → Decides (JoinsAre s k i) (joinsTest s (programOf s) k i)
-      at interfaces i h f =
-          decides-join (programOf s) (regular s w) (suc i) (interfaceAt s i) (interface-at s i h)
-          (λ u j l d. let x = interface-from s u j d in join-at u (x .0) j (x .2) (x .3) (f (x .0) (omega (arith, x .2))))
-      at signatures i h f = holds tt
-      at classes i h f = holds tt
-      at fields i h f = holds tt
-      at methods i h f = holds tt
-      at nodes i h f = holds tt
+  pub joins-lowest : Lowest s (JoinsAre s) (lowestIn s (joinsTest s (programOf s)))
+  unfolding joinsTest sections
+  joins-lowest =
+      lowest s (w .places-are)
+      (asked
+      (λ i h f.
+      decides-join (programOf s) (regular s w) (suc i) (interfaceAt s i) (interface-at s i h)
+      (λ u j l d. let x = interface-from s u j d in join-at u (x .0) j (x .2) (x .3) (f (x .0) (omega (arith, x .2)))))
+      (passed (passed (passed (passed (passed no-more))))))
 
   -- Question 10 finds the lowest class that lacks a method of its interface.
-  pub classes-lowest : MsigsFunction (programOf s) → Lowest s (ClassesAre s) (lowestOut s (classesTest s (programOf s)))
-  unfolding classesTest
-  classes-lowest one = lowest s (classesTest s (programOf s)) (ClassesAre s) (w .places-are) at
-    where
-      at : (k : Section) (i : ℕ) → i < countOf s k → ((j : ℕ) → j < i → ClassesAre s k j) → Decides (ClassesAre s k i) (classesTest s (programOf s) k i)
-      at interfaces i h f = holds tt
-      at signatures i h f = holds tt
-      at classes i h f = decides-class (programOf s) (regular s w) one (suc (countOf s interfaces + i)) (classAt s i) (class-at s i h)
-      at fields i h f = holds tt
-      at methods i h f = holds tt
-      at nodes i h f = holds tt
+  pub classes-lowest : MsigsFunction (programOf s) → Lowest s (ClassesAre s) (lowestIn s (classesTest s (programOf s)))
+  unfolding classesTest sections
+  classes-lowest one =
+      lowest s (w .places-are)
+      (passed
+      (passed
+      (asked
+      (λ i h f. decides-class (programOf s) (regular s w) one (suc (countOf s interfaces + i)) (classAt s i) (class-at s i h))
+      (passed (passed (passed no-more))))))
 
   -- Each join has one meaning for a name, so every type has.
   pub one-meaning : Each s (JoinsAre s) → MsigsFunction (programOf s)
   one-meaning f =
       joins-function (programOf s) (regular s w)
-      (λ t i d. let x = interface-from s t i d in join-at t (x .0) i (x .2) (x .3) (f interfaces (x .0) (x .1)))
+      (λ t i d. let x = interface-from s t i d in join-at t (x .0) i (x .2) (x .3) (f .0 (x .0) (x .1)))
 
   -- Figure 3 for the interfaces and, with question 10 and the bodies, for the classes.
   wf-interface : (t : ℕ) (i : Interface) → RegularInterface (programOf s) t i → declarationAt (programOf s) t ≡ an-interface i → WfInterface (programOf s) i
@@ -99,28 +92,18 @@ module _ (s : List ℕ) (w : WithinLayout s) where
   wf-program joins covers f h =
       WF-PROGRAM (one-meaning joins)
       (λ u i d. wf-interface u i (regular s w .interfaces u i d) d)
-      (λ u c d. let x = class-from s u c d in wf-class u c d (rw (x .3) (covers classes (x .0) (x .1))) f)
+      (λ u c d. let x = class-from s u c d in wf-class u c d (rw (x .3) (covers .0 (x .0) (x .1))) f)
       h
 
   -- What the rules ask is what questions 9 and 10 and the walk ask.
   joins-pass : MsigsFunction (programOf s) → Each s (JoinsAre s)
-  joins-pass one interfaces i h = function-joins (programOf s) (regular s w) one (suc i) (interfaceAt s i)
-  joins-pass one signatures i h = tt
-  joins-pass one classes i h = tt
-  joins-pass one fields i h = tt
-  joins-pass one methods i h = tt
-  joins-pass one nodes i h = tt
+  joins-pass one = (λ i h. function-joins (programOf s) (regular s w) one (suc i) (interfaceAt s i), tt)
 
   covers-of : {t : ℕ} {c : Class} → WfClass (programOf s) t c → ClassIs (programOf s) c
   covers-of (WF-CLASS h f m) = h
 
   classes-pass : ((u : ℕ) (c : Class) → declarationAt (programOf s) u ≡ a-class c → WfClass (programOf s) u c) → Each s (ClassesAre s)
-  classes-pass f interfaces i h = tt
-  classes-pass f signatures i h = tt
-  classes-pass f classes i h = covers-of (f (suc (countOf s interfaces + i)) (classAt s i) (class-at s i h))
-  classes-pass f fields i h = tt
-  classes-pass f methods i h = tt
-  classes-pass f nodes i h = tt
+  classes-pass f = (λ i h. covers-of (f (suc (countOf s interfaces + i)) (classAt s i) (class-at s i h)), tt)
 
   method-of : {t : ℕ} {c : Class} {m : Method} → WfClass (programOf s) t c → m ∈ c .methods → WfMethod (programOf s) t m
   method-of (WF-CLASS h f g) k = g _ k
@@ -147,7 +130,7 @@ module _ (s : List ℕ) (w : WithinLayout s) (b : Before s Joins) where
   walk-first : (q : Question) (k : Point) → Each s (JoinsAre s) → Each s (ClassesAre s) → ListNo (programOf s) (bodiesOf (programOf s)) q k → FirstNo s q (recordAt s nodes k)
   walk-first q k joins covers n =
       record {
-        before = λ r h. all-before s (one-more s Classes covers (one-more s Joins joins (before s b))) r;
+        before = λ r h. one-more s Classes (omega arith) covers (one-more s Joins (omega arith) joins (before s b)) r (walk-last s q r (walk-no-walk n s) h);
         no = rw (walk-no-walk n s) (record { node = k; no = walk-no-exactly s w q k .0 n; there = refl });
       }
 
@@ -159,9 +142,9 @@ module _ (s : List ℕ) (w : WithinLayout s) (b : Before s Joins) where
   unfolding memberQuestions
   members-say =
       ask-records On Joins _ (joins-lowest s w)
-      (λ place n. refused (record { before = before s b; no = low n })) λ joins.
+      (λ place n. refused (record { before = before s b; no = n })) λ joins.
       ask-records On Classes [] (classes-lowest s w (one-meaning s w joins))
-      (λ place n. refused (record { before = one-more s Joins joins (before s b); no = low n })) λ covers.
+      (λ place n. refused (record { before = one-more s Joins (omega arith) joins (before s b); no = n })) λ covers.
       unfold firstNo in walk-says joins covers (walked-by (programOf s) (regular s w) (bodiesOf (programOf s)) (body-in (programOf s)))
     where
       On : Option Refusal → Type 0
@@ -199,7 +182,7 @@ outside-refused s t e = go (rw e at (check-says s))
 
 module _ (s : List ℕ) where
   -- what comes before a no of the walk
-  layout-before : ((r : Question) → numberOf r < 11 → Yes s r) → WithinLayout s
+  layout-before : ((r : Question) → rankOf r < 10 → Yes s r) → WithinLayout s
   layout-before f =
       record {
         length-is = f Length (omega arith);
@@ -212,7 +195,7 @@ module _ (s : List ℕ) where
         names-are = f Names (omega arith);
       }
 
-  walk-refuses : (q : Question) (place : ℕ) → ((r : Question) → numberOf r < 11 → Yes s r) → NodeNo s q place → checkOf s ≡ Refused q place
+  walk-refuses : (q : Question) (place : ℕ) → ((r : Question) → rankOf r < 10 → Yes s r) → NodeNo s q place → checkOf s ≡ Refused q place
   unfolding checkOf memberQuestions firstNo
   walk-refuses q place f n =
       let w = layout-before f in
@@ -220,26 +203,25 @@ module _ (s : List ℕ) where
       rw (layout-passes s w, lowest-none (joins-lowest s w) (f Joins (omega arith)), lowest-none (classes-lowest s w one) (f Classes (omega arith)), walk-no-complete (programOf s) (regular s w) one (walk-no-exactly s w q (n .node) .1 (n .no)), n .there)
 
   -- an accepted script gets a yes to questions 1 to 10
-  accepted-yes : {t : ℕ} → WithinLayout s → WfProgram (programOf s) t → (q : Question) → Yes s q
+  accepted-yes : {t : ℕ} → WithinLayout s → WfProgram (programOf s) t → (q : Question) → rankOf q < 10 → Yes s q
   accepted-yes w (WF-PROGRAM one wi wc h) =
-      all-before s
-      (one-more s Classes (classes-pass s w wc)
-      (one-more s Joins (joins-pass s w one)
+      one-more s Classes (omega arith) (classes-pass s w wc)
+      (one-more s Joins (omega arith) (joins-pass s w one)
       (before s
-      (names-are (w .names-are) (nodes-are (w .nodes-are) (types-are (w .types-are) (owners-are (w .owners-are) (interfaces-are (w .interfaces-are) (places-are (w .places-are) (counts-are (w .counts-are) (length-is (w .length-is) at-first)))))))))))
+      (names-are (w .names-are) (nodes-are (w .nodes-are) (types-are (w .types-are) (owners-are (w .owners-are) (interfaces-are (w .interfaces-are) (places-are (w .places-are) (counts-are (w .counts-are) (length-is (w .length-is) at-first))))))))))
 
   -- the answer of a script with a first no before the walk
-  early-refuses : (q : Question) (place : ℕ) → FirstNo s q place → numberOf q ≤ 10 → (statementOf s q ≡ of-walk → ⊥) → {v : Verdict} → Says s v → v ≡ Refused q place
-  early-refuses q place n h e (accepted w k) = absurd (yes-no s q place (statementOf s q) e (accepted-yes w k q) (n .no))
+  early-refuses : (q : Question) (place : ℕ) → FirstNo s q place → rankOf q ≤ 9 → (statementOf s q ≡ of-walk → ⊥) → {v : Verdict} → Says s v → v ≡ Refused q place
+  early-refuses q place n h e (accepted w k) = absurd (yes-no s q place (statementOf s q) e (accepted-yes w k q (omega arith)) (n .no))
   early-refuses q place n h e (refused {q = r} {place = other} m) =
       ⊎-elim
-      (λ (l : numberOf q < numberOf r). absurd (yes-no s q place (statementOf s q) e (m .before q l) (n .no)))
+      (λ (l : rankOf q < rankOf r). absurd (yes-no s q place (statementOf s q) e (m .before q l) (n .no)))
       (λ l.
       ⊎-elim
-      (λ (d : numberOf r ≡ numberOf q). same r other (number-same r q d) (m .no))
-      (λ (g : numberOf r < numberOf q). absurd (earlier r other g (n .before r g) (m .no) (order s r)))
+      (λ (d : rankOf r ≡ rankOf q). same r other (rank-same r q h d) (m .no))
+      (λ (g : rankOf r < rankOf q). absurd (earlier r other g (n .before r g) (m .no) (order s r)))
       (eq-or-lt-of-le l))
-      (lt-or-le (numberOf q) (numberOf r))
+      (lt-or-le (rankOf q) (rankOf r))
     where
       same : (r : Question) (other : ℕ) → r ≡ q → No s r other → Refused r other ≡ Refused q place
       same r other d m =
@@ -247,7 +229,7 @@ module _ (s : List ℕ) where
           let c : other ≡ place = same-place s q q other place (statementOf s q) e o (n .no) in
           cc
 
-      earlier : (r : Question) (other : ℕ) → numberOf r < numberOf q → Yes s r → No s r other → Order s r → ⊥
+      earlier : (r : Question) (other : ℕ) → rankOf r < rankOf q → Yes s r → No s r other → Order s r → ⊥
       earlier r other g y m (before-walk k d) = yes-no s r other (statementOf s r) d y m
       earlier r other g y m (on-walk k d) = omega arith
 

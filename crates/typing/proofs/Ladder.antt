@@ -6,15 +6,15 @@ use Rattle.script.specs.Section.{sections, bodyAt, countOf, endOf, recordAt, re
 use Rattle.script.specs.Syntax.{declarationAt}
 use Rattle.script.specs.Reading.{kindOf, viewAt, lastExprs, exprAt, ownSignatures, ownFields, ownMethods, signatureAt, interfaceAt, fieldAt, methodAt, classAt, programOf}
 use Rattle.script.specs.Asking.{firstNo, firstOut, lowestIn}
-use Rattle.script.specs.Questions.{lengthTest, withinTest, countsTest, placedFrom, placesTest, interfaceTest, interfacesTest, ownersTest, typeTest, interfaceTypeTest, classTypeTest, typesTest, unusedAt, allOf, partsFrom, usesIn, nodeTest, nodesTest, runStart, hasName, freshTest, namesTest, layoutQuestions}
+use Rattle.script.specs.Questions.{lengthTest, withinTest, countsTest, placedFrom, placesTest, interfaceTest, interfacesTest, ownersTest, typeTest, interfaceTypeTest, classTypeTest, typesTest, allOf, partsFrom, usesIn, nodeTest, nodesTest, runStart, hasName, freshTest, namesTest, layoutQuestions}
 use Rattle.script.specs.declared.Question.the-variants.{Members}
 use Rattle.typing.specs.declared.Verdict.the-variants.{Refused}
 use Rattle.typing.specs.Members.{valuesTo, valueAt, reach, below, meaning, ownMethod, methodIn, typeIn, fieldIn}
-use Rattle.typing.specs.Typing.{without, fv, isIn, shares, inferred, checked, bodiesFrom, bodiesOf, walk}
+use Rattle.typing.specs.Typing.{without, fv, isIn, shares, answer, bodiesFrom, bodiesOf, walk}
 use Rattle.typing.specs.Check.{namesIn, joinsTest, classesTest, memberQuestions, checkOf}
 use Rattle.typing.specs.Ladder.{joinsOn, ladder}
 
 -- its method look-up fails, at the call
 pub the-ladder : checkOf ladder ≡ Refused Members 452
-unfolding wordAt bytes run sumBelow named countIn sections bodyAt countOf endOf recordAt recordWord declarationAt kindOf viewAt lastExprs exprAt ownSignatures ownFields ownMethods signatureAt interfaceAt fieldAt methodAt classAt programOf firstNo firstOut lowestIn lengthTest withinTest countsTest placedFrom placesTest interfaceTest interfacesTest ownersTest typeTest interfaceTypeTest classTypeTest typesTest unusedAt allOf partsFrom usesIn nodeTest nodesTest runStart hasName freshTest namesTest layoutQuestions valuesTo valueAt reach below meaning ownMethod methodIn typeIn fieldIn without fv isIn shares inferred checked bodiesFrom bodiesOf walk namesIn joinsTest classesTest memberQuestions checkOf joinsOn ladder
+unfolding wordAt bytes run sumBelow named countIn sections bodyAt countOf endOf recordAt recordWord declarationAt kindOf viewAt lastExprs exprAt ownSignatures ownFields ownMethods signatureAt interfaceAt fieldAt methodAt classAt programOf firstNo firstOut lowestIn lengthTest withinTest countsTest placedFrom placesTest interfaceTest interfacesTest ownersTest typeTest interfaceTypeTest classTypeTest typesTest allOf partsFrom usesIn nodeTest nodesTest runStart hasName freshTest namesTest layoutQuestions valuesTo valueAt reach below meaning ownMethod methodIn typeIn fieldIn without fv isIn shares answer bodiesFrom bodiesOf walk namesIn joinsTest classesTest memberQuestions checkOf joinsOn ladder
 the-ladder = refl

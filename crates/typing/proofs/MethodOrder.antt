@@ -15,9 +15,10 @@ use Rattle.script.specs.Reading.{methodAt, ownMethods, classAt, programOf}
 use Rattle.script.specs.Statements.{WithinLayout}
 use Rattle.script.proofs.Lists.{length-run, getD-run, sum-more, owner-of}
 use Rattle.script.proofs.Declarations.{length-interfaces}
+use Rattle.typing.specs.declared.Aim.the-variants.{Infers as infers}
 use Rattle.typing.specs.Environments.{TypeOf, nearest, further, bodyEnv}
 use Rattle.typing.specs.Typing.{Body, bodiesFrom, bodiesOf}
-use Rattle.typing.specs.Refusals.{InferNo, MethodOf, classType, WalkNo, in-method, in-start}
+use Rattle.typing.specs.Refusals.{ExprNo, MethodOf, classType, WalkNo, in-method, in-start}
 use Rattle.typing.specs.MethodOrder.{MethodOrder}
 use Rattle.typing.proofs.Walk.{BodyChecks, BodyNo, ListNo, after-all, in-body, after-body}
 
@@ -124,7 +125,7 @@ module _ (s : List ℕ) where
 module _ (p : Program) (d : Body) where
   data FirstIn (l : List Body) (q : Question) (n : Point) : Type 0 where
     at-body : (k : ℕ) → k < length l → ((j : ℕ) → j < k → BodyChecks p (getD l j d)) → BodyNo p (getD l k d) q n → FirstIn l q n
-    past-all : ((j : ℕ) → j < length l → BodyChecks p (getD l j d)) → InferNo p [] (p .start) q n → FirstIn l q n
+    past-all : ((j : ℕ) → j < length l → BodyChecks p (getD l j d)) → ExprNo p [] (p .start) infers q n → FirstIn l q n
 
   checks-more : (b : Body) (l : List Body) (k : ℕ) → BodyChecks p b → ((j : ℕ) → j < k → BodyChecks p (getD l j d)) → (j : ℕ) → j < suc k → BodyChecks p (getD (b ∷ l) j d)
   checks-more b l k c f zero h = c

@@ -13,11 +13,12 @@ use Rattle.script.specs.Statements.{WithinLayout}
 use Rattle.script.proofs.Lists.{in-run, sum-more}
 use Rattle.script.proofs.Declarations.{class-from}
 use Rattle.script.proofs.Regular.{regular}
-use Rattle.script.proofs.Reading.{first, second, third, expr-at, every-node}
+use Rattle.script.proofs.Reading.{first, second, third, expr-at, in-order, every-node}
+use Rattle.typing.specs.declared.Aim.{Aim}
 use Rattle.typing.specs.declared.Answer.{Answer}
 use Rattle.typing.specs.declared.Answer.the-variants.{Faulty}
 use Rattle.typing.specs.Typing.{Body, bodiesOf, walk}
-use Rattle.typing.specs.Refusals.{InferNo, null-inferred, var-unbound, select-unbound, update-unbound, call-unbound, lock-unbound, select-missing, update-missing, call-missing, fork-shares, update-part, call-part, cast-part, lock-part, let-first, let-last, fork-left, fork-right, fork-last, CheckNo, not-inferred, not-below}
+use Rattle.typing.specs.Refusals.{ExprNo, null-inferred, var-unbound, select-unbound, update-unbound, call-unbound, lock-unbound, select-missing, update-missing, call-missing, fork-shares, update-part, call-part, cast-part, lock-part, let-first, let-last, fork-left, fork-right, fork-last, not-below}
 use Rattle.typing.proofs.Bodies.{body-in}
 use Rattle.typing.proofs.Walk.{ListNo, after-all, in-body, after-body, Walked, walks, halts, walked-by}
 
@@ -49,8 +50,8 @@ below-build m n f (n-lock x p) h e = (h, e p first)
 -- The expression at a node has nodes of the script only.
 pub below-at : (s : List ℕ) → WithinLayout s → (n : Point) → n < countOf s nodes → Below (countOf s nodes) (exprAt s n)
 below-at s w =
-    every-node s (λ n. Below (countOf s nodes) (exprAt s n)) (λ n h. w .nodes-are nodes n h .in-order)
-    (λ n h e. rw (expr-at s n h (w .nodes-are nodes n h .in-order)) (below-build (countOf s nodes) n (exprAt s) (viewAt s n) h e))
+    every-node s (λ n. Below (countOf s nodes) (exprAt s n)) (in-order s w)
+    (λ n h e. rw (expr-at s n h (in-order s w n h)) (below-build (countOf s nodes) n (exprAt s) (viewAt s n) h e))
 
 own-node : (m : ℕ) (e : Expr) → Below m e → pointOf e < m
 own-node m (null n) b = b
@@ -64,36 +65,32 @@ own-node m (cast n t e) b = b .0
 own-node m (fork n e₁ e₂ e₃) b = b .0
 own-node m (lock n x e) b = b .0
 
-mutual
-  no-below : {p : Program} {Γ : List Slot} {e : Expr} {q : Question} {k : Point} → InferNo p Γ e q k → (m : ℕ) → Below m e → k < m
-  no-below null-inferred m b = b
-  no-below (var-unbound h) m b = b
-  no-below (select-unbound h) m b = b
-  no-below (update-unbound h) m b = b .0
-  no-below (call-unbound h) m b = b .0
-  no-below (lock-unbound h) m b = b .0
-  no-below (select-missing h g) m b = b
-  no-below (update-missing h g) m b = b .0
-  no-below (call-missing h g) m b = b .0
-  no-below (fork-shares l r) m b = b .0
-  no-below (update-part h g c) m b = check-below c m (b .1)
-  no-below (call-part h g d c) m b = check-below c m (b .1)
-  no-below (cast-part c) m b = check-below c m (b .1)
-  no-below (lock-part h c) m b = no-below c m (b .1)
-  no-below (let-first c) m b = no-below c m (b .1)
-  no-below (let-last h c) m b = no-below c m (b .2)
-  no-below (fork-left d c) m b = no-below c m (b .1)
-  no-below (fork-right d h c) m b = no-below c m (b .2)
-  no-below (fork-last d h g c) m b = no-below c m (b .3)
-
-  check-below : {p : Program} {Γ : List Slot} {e : Expr} {t : ℕ} {q : Question} {k : Point} → CheckNo p Γ e t q k → (m : ℕ) → Below m e → k < m
-  check-below (not-inferred n c) m b = no-below c m b
-  check-below (not-below {e = e} n h s at) m b = rw (← at) (own-node m e b)
+no-below : {p : Program} {Γ : List Slot} {e : Expr} {a : Aim} {q : Question} {k : Point} → ExprNo p Γ e a q k → (m : ℕ) → Below m e → k < m
+no-below null-inferred m b = b
+no-below (var-unbound h) m b = b
+no-below (select-unbound h) m b = b
+no-below (update-unbound h) m b = b .0
+no-below (call-unbound h) m b = b .0
+no-below (lock-unbound h) m b = b .0
+no-below (select-missing h g) m b = b
+no-below (update-missing h g) m b = b .0
+no-below (call-missing h g) m b = b .0
+no-below (fork-shares l r) m b = b .0
+no-below (update-part h g c) m b = no-below c m (b .1)
+no-below (call-part h g d c) m b = no-below c m (b .1)
+no-below (cast-part c) m b = no-below c m (b .1)
+no-below (lock-part h c) m b = no-below c m (b .1)
+no-below (let-first c) m b = no-below c m (b .1)
+no-below (let-last h c) m b = no-below c m (b .2)
+no-below (fork-left d c) m b = no-below c m (b .1)
+no-below (fork-right d h c) m b = no-below c m (b .2)
+no-below (fork-last d h g c) m b = no-below c m (b .3)
+no-below (not-below {e = e} n h s at) m b = rw (← at) (own-node m e b)
 
 -- So is that of the walk's refusal, where bodies and start are such expressions.
 pub walk-below : {p : Program} {l : List Body} {q : Question} {k : Point} → ListNo p l q k → (m : ℕ) → ((b : Body) → b ∈ l → Below m (b .method .body)) → Below m (p .start) → k < m
 walk-below (after-all c) m f g = no-below c m g
-walk-below (in-body {b = b} c) m f g = check-below c m (f b (List·Memᴰ·head refl))
+walk-below (in-body {b = b} c) m f g = no-below c m (f b (List·Memᴰ·head refl))
 walk-below (after-body h c) m f g = walk-below c m (λ d i. f d (List·Memᴰ·tail i)) g
 
 module _ (s : List ℕ) (w : WithinLayout s) where
@@ -104,7 +101,7 @@ module _ (s : List ℕ) (w : WithinLayout s) where
       let c = class-from s (b .class) (i .class) (i .declared) in
       let r = in-run (methodAt s) (sumBelow (ownMethods s) (c .0)) (ownMethods s (c .0)) (b .method) (rw (c .3) at (i .there)) in
       let h : r .index < countOf s methods = omega (arith, r .upto, sum-more (ownMethods s) (c .0) (countOf s classes) (c .1), w .owners-are .of-methods) in
-      rw (r .is) (below-at s w (recordWord s methods (r .index) 3) (w .nodes-are methods (r .index) h))
+      rw (r .is) (below-at s w (recordWord s methods (r .index) 3) (w .nodes-are .0 (r .index) h))
 
   start-below : Below (countOf s nodes) ((programOf s) .start)
   unfolding programOf

@@ -6,12 +6,11 @@ use mathlib.Core.Option.{Option, none, some}
 use lib.Dec.{eqb}
 use Rattle.script.specs.declared.Question.the-variants.{Joins, Classes}
 use Rattle.script.specs.declared.Section.{Section}
-use Rattle.script.specs.declared.Section.the-variants.{Interfaces as interfaces, Signatures as signatures, Classes as classes, Fields as fields}
-use Rattle.script.specs.declared.Section.the-variants.{Methods as methods, Nodes as nodes}
+use Rattle.script.specs.declared.Section.the-variants.{Interfaces as interfaces, Classes as classes, Nodes as nodes}
 use Rattle.script.specs.Section.{recordAt}
 use Rattle.script.specs.Syntax.{Signature, Interface, lists, extends, Class, Program}
 use Rattle.script.specs.Reading.{interfaceAt, classAt, programOf}
-use Rattle.script.specs.Asking.{numberOf, Asked, Refusal, firstNo, lowestOut}
+use Rattle.script.specs.Asking.{numberOf, Asked, Refusal, firstNo, lowestIn}
 use Rattle.script.specs.Questions.{allOf, layoutQuestions}
 use Rattle.typing.specs.declared.Answer.{Answer}
 use Rattle.typing.specs.declared.Answer.the-variants.{Typed, Faulty}
@@ -39,13 +38,8 @@ abbrev pub joinTest : Program → Interface → Bool
 joinTest p (lists gs) = true
 joinTest p (extends a b) = allOf (λ m. agreeTest (meaning p m a) (meaning p m b)) (namesIn (p .interfaces))
 
-unfoldable pub joinsTest : List ℕ → Program → Section → ℕ → Bool
-joinsTest s p interfaces i = joinTest p (interfaceAt s i)
-joinsTest s p signatures i = true
-joinsTest s p classes i = true
-joinsTest s p fields i = true
-joinsTest s p methods i = true
-joinsTest s p nodes i = true
+unfoldable pub joinsTest : List ℕ → Program → List (Section × (ℕ → Bool))
+joinsTest s p = (interfaces, λ i. joinTest p (interfaceAt s i)) ∷ []
 
 -- 10. "Has each class every method of its interface, with the same types?"
 abbrev pub coversTest : Option Signature → Option Signature → Bool
@@ -56,18 +50,13 @@ coversTest (some g) (some h) = sameTypes g h
 abbrev pub classTest : Program → Class → Bool
 classTest p c = allOf (λ m. coversTest (meaning p m (c .implements)) (ownMethod c m)) (namesIn (p .interfaces))
 
-unfoldable pub classesTest : List ℕ → Program → Section → ℕ → Bool
-classesTest s p interfaces i = true
-classesTest s p signatures i = true
-classesTest s p classes i = classTest p (classAt s i)
-classesTest s p fields i = true
-classesTest s p methods i = true
-classesTest s p nodes i = true
+unfoldable pub classesTest : List ℕ → Program → List (Section × (ℕ → Bool))
+classesTest s p = (classes, λ i. classTest p (classAt s i)) ∷ []
 
 unfoldable pub memberQuestions : List ℕ → Program → List Asked
 memberQuestions s p =
-    record { question = Joins; no-at = lowestOut s (joinsTest s p) } ∷
-    record { question = Classes; no-at = lowestOut s (classesTest s p) } ∷
+    record { question = Joins; no-at = lowestIn s (joinsTest s p) } ∷
+    record { question = Classes; no-at = lowestIn s (classesTest s p) } ∷
     []
 
 abbrev pub refusedOr : Option Refusal → Verdict → Verdict

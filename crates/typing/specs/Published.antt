@@ -6,9 +6,9 @@ use mathlib.Core.Path.{_≡_}
 use mathlib.Core.Bool.{false}
 use mathlib.Core.List.{List, [], _∷_}
 use Rattle.script.specs.Lists.{_∈_}
-use Rattle.script.specs.Syntax.{Expr, null, var, select, update, call, bind, new, cast, fork, lock, isNull, Slot, Signature, Method, Interface}
+use Rattle.script.specs.Syntax.{Point, Expr, null, var, select, update, call, bind, new, cast, fork, lock, isNull, Slot, Signature, Method, Interface}
 use Rattle.script.specs.Syntax.{lists, extends, Class, Program, an-interface, a-class, declarationAt}
-use Rattle.typing.specs.Environments.{TypeOf, bodyEnv}
+use Rattle.typing.specs.Environments.{TypeOf, Use, of-field, of-method, of-lock, bodyEnv}
 
 -- ⊢ t, Figure 4
 pub data WfType (p : Program) : ℕ → Type 0 where
@@ -61,6 +61,15 @@ pub data Free (x : ℕ) : Expr → Type 0 where
 abbrev pub Disjoint : Expr → Expr → Type 0
 Disjoint e₁ e₂ = (x : ℕ) → Free x e₁ → Free x e₂ → ⊥
 
+-- No premise of the paper: null has type t. "A null is checked against any type"; a later rule may except a type.
+pub data NullFits (p : Program) (t : ℕ) : Type 0 where
+  any-type : NullFits p t
+
+-- No premise of the paper: node n may use its target so. Figure 11 asks only that the target's type has the field or method, and "A lock target may have any
+-- type"; a later rule may ask more of a use.
+pub data UseOk (p : Program) (n : Point) (u : Use) : Type 0 where
+  any-use : UseOk p n u
+
 -- Γ ⊢ e ⇒ t and Γ ⊢ e ⇐ t, Figure 11. A target x is a variable, inferred by BD-INFER-VAR; it stands at the node that names it. The premise ⊢ C of BD-INFER-NEW
 -- is that of T-WF-CLASS.
 mutual
@@ -69,17 +78,20 @@ mutual
     BD-INFER-LET : {Γ : List Slot} {n x t₁ t : ℕ} {e₁ e₂ : Expr} → Infer p Γ e₁ t₁ → Infer p (record { name = x; type = t₁ } ∷ Γ) e₂ t
         → Infer p Γ (bind n x e₁ e₂) t
     BD-INFER-CALL : {Γ : List Slot} {n x m t₁ t₂ t : ℕ} {e : Expr} → Infer p Γ (var n x) t₁ → Check p Γ e t₂
-        → MsigIn p t₁ (record { name = m; param = t₂; result = t }) → Infer p Γ (call n x m e) t
+        → MsigIn p t₁ (record { name = m; param = t₂; result = t }) → UseOk p n (of-method t₁ m) → Infer p Γ (call n x m e) t
     BD-INFER-CAST : {Γ : List Slot} {n t : ℕ} {e : Expr} → Check p Γ e t → Infer p Γ (cast n t e) t
-    BD-INFER-SELECT : {Γ : List Slot} {n x f c t : ℕ} → Infer p Γ (var n x) c → FieldIn p c f t → Infer p Γ (select n x f) t
-    BD-INFER-UPDATE : {Γ : List Slot} {n x f c t : ℕ} {e : Expr} → Infer p Γ (var n x) c → Check p Γ e t → FieldIn p c f t → Infer p Γ (update n x f e) 0
+    BD-INFER-SELECT : {Γ : List Slot} {n x f c t : ℕ} → Infer p Γ (var n x) c → FieldIn p c f t → UseOk p n (of-field c f)
+        → Infer p Γ (select n x f) t
+    BD-INFER-UPDATE : {Γ : List Slot} {n x f c t : ℕ} {e : Expr} → Infer p Γ (var n x) c → Check p Γ e t → FieldIn p c f t
+        → UseOk p n (of-field c f) → Infer p Γ (update n x f e) 0
     BD-INFER-NEW : {Γ : List Slot} {n t : ℕ} {c : Class} → WfEnv p Γ → declarationAt p t ≡ a-class c → Infer p Γ (new n t) t
-    BD-INFER-LOCK : {Γ : List Slot} {n x t₂ t : ℕ} {e : Expr} → Infer p Γ (var n x) t₂ → Infer p Γ e t → Infer p Γ (lock n x e) t
+    BD-INFER-LOCK : {Γ : List Slot} {n x t₂ t : ℕ} {e : Expr} → Infer p Γ (var n x) t₂ → UseOk p n (of-lock t₂) → Infer p Γ e t
+        → Infer p Γ (lock n x e) t
     BD-INFER-FJ : {Γ : List Slot} {n t₁ t₂ t : ℕ} {e₁ e₂ e : Expr} → Disjoint e₁ e₂ → Infer p Γ e₁ t₁ → Infer p Γ e₂ t₂ → Infer p Γ e t
         → Infer p Γ (fork n e₁ e₂ e) t
 
   pub data Check (p : Program) : List Slot → Expr → ℕ → Type 0 where
-    BD-CHECK-NULL : {Γ : List Slot} {n t : ℕ} → WfEnv p Γ → WfType p t → Check p Γ (null n) t
+    BD-CHECK-NULL : {Γ : List Slot} {n t : ℕ} → WfEnv p Γ → WfType p t → NullFits p t → Check p Γ (null n) t
     BD-CHECK-SUB : {Γ : List Slot} {e : Expr} {t′ t : ℕ} → Infer p Γ e t′ → Sub p t′ t → isNull e ≡ false → Check p Γ e t
 
 -- ⊢ Id, Figure 3. That the parents of a join are interfaces is question 4.

@@ -8,10 +8,12 @@ use lib.Dec.{eqb}
 use lib.ListN.{length}
 use Rattle.script.specs.declared.Question.{Question}
 use Rattle.script.specs.declared.Question.the-variants.{Variables, Nulls, Members, Fits, Sharing}
-use Rattle.script.specs.Syntax.{Point, Expr, null, var, select, update, call, bind, new, cast, fork, lock, pointOf, isNull, Slot, Method, Class, Program}
+use Rattle.script.specs.Syntax.{Point, Expr, null, var, select, update, call, bind, new, cast, fork, lock, Slot, Method, Class, Program}
+use Rattle.typing.specs.declared.Aim.{Aim}
+use Rattle.typing.specs.declared.Aim.the-variants.{Infers as infers, Checks as checks}
 use Rattle.typing.specs.declared.Answer.{Answer}
 use Rattle.typing.specs.declared.Answer.the-variants.{Typed, Faulty}
-use Rattle.typing.specs.Environments.{bodyEnv}
+use Rattle.typing.specs.Environments.{Use, of-field, of-method, of-lock, bodyEnv}
 use Rattle.typing.specs.Members.{below, typeIn, fieldIn, methodIn}
 
 -- fv(e): the free variables, those that are `Free` by `free-exactly`.
@@ -59,34 +61,57 @@ abbrev pub fits : Bool → Point → ℕ → Answer
 fits true n t = Typed t
 fits false n t = Faulty Fits n
 
--- "A null is checked against any type and inferred never. Every other node is checked by inferring and asking whether the result is below the wanted type."
--- An expression checked against the type t: is it null; its node; what is inferred for it.
-abbrev pub judge : Program → Bool → Point → Answer → ℕ → Answer
-judge p true n r t = Typed t
-judge p false n r t = andThen r (λ u. fits (below p u t) n t)
+-- "A null is checked against any type": does it fit t? A later rule may except a type.
+abbrev pub nullTest : Program → ℕ → Bool
+nullTest p t = true
 
--- "A write has type Unit. A cast infers its type after checking its operand. Let, lock and fork infer the type of their last part."
-unfoldable pub inferred : Program → List Slot → Expr → Answer
-inferred p Γ (null n) = Faulty Nulls n
-inferred p Γ (var n x) = orFaulty Variables n (typeIn Γ x) (λ t. Typed t)
-inferred p Γ (select n x f) = orFaulty Variables n (typeIn Γ x) (λ t. orFaulty Members n (fieldIn p t f) (λ u. Typed u))
-inferred p Γ (update n x f e) =
-    let r = inferred p Γ e in
-    orFaulty Variables n (typeIn Γ x) (λ t. orFaulty Members n (fieldIn p t f) (λ u. andThen (judge p (isNull e) (pointOf e) r u) (λ v. Typed 0)))
-inferred p Γ (call n x m e) =
-    let r = inferred p Γ e in
-    orFaulty Variables n (typeIn Γ x)
-    (λ t. orFaulty Members n (methodIn p t m) (λ g. andThen (judge p (isNull e) (pointOf e) r (g .param)) (λ v. Typed (g .result))))
-inferred p Γ (bind n x e₁ e₂) = andThen (inferred p Γ e₁) (λ t. inferred p (record { name = x; type = t } ∷ Γ) e₂)
-inferred p Γ (new n c) = Typed c
-inferred p Γ (cast n t e) = let r = inferred p Γ e in judge p (isNull e) (pointOf e) r t
-inferred p Γ (fork n e₁ e₂ e₃) =
-    let r = andThen (inferred p Γ e₁) (λ t. andThen (inferred p Γ e₂) (λ u. inferred p Γ e₃)) in
-    unlessShared (shares (fv e₁) (fv e₂)) n r
-inferred p Γ (lock n x e) = let r = inferred p Γ e in orFaulty Variables n (typeIn Γ x) (λ t. r)
+-- The question that gets a no where node n uses its target so, once the target's type has the field or method. There is none: "A lock target may have any
+-- type." A later rule may ask more of a use.
+abbrev pub useNo : Program → Point → Use → Option Question
+useNo p n u = none
 
-unfoldable pub checked : Program → List Slot → Expr → ℕ → Answer
-checked p Γ e t = let r = inferred p Γ e in judge p (isNull e) (pointOf e) r t
+abbrev pub unlessNo : Option Question → Point → Answer → Answer
+unlessNo none n r = r
+unlessNo (some q) n r = Faulty q n
+
+-- What is inferred for node n, asked with this aim: "Every other node is checked by inferring and asking whether the result is below the wanted type."
+abbrev pub aimed : Program → Point → Aim → Answer → Answer
+aimed p n infers r = r
+aimed p n (checks t) r = andThen r (λ u. fits (below p u t) n t)
+
+-- "A null is checked against any type and inferred never." "A write has type Unit. A cast infers its type after checking its operand. Let, lock and fork infer
+-- the type of their last part."
+unfoldable pub answer : Program → List Slot → Expr → Aim → Answer
+answer p Γ (null n) infers = Faulty Nulls n
+answer p Γ (null n) (checks t) = fits (nullTest p t) n t
+answer p Γ (var n x) a = aimed p n a (orFaulty Variables n (typeIn Γ x) (λ t. Typed t))
+answer p Γ (select n x f) a =
+    aimed p n a
+    (orFaulty Variables n (typeIn Γ x) (λ t. orFaulty Members n (fieldIn p t f) (λ u. unlessNo (useNo p n (of-field t f)) n (Typed u))))
+answer p Γ (update n x f e) a =
+    aimed p n a
+    (orFaulty Variables n (typeIn Γ x)
+    (λ t. orFaulty Members n (fieldIn p t f) (λ u. unlessNo (useNo p n (of-field t f)) n (andThen (answer p Γ e (checks u)) (λ v. Typed 0)))))
+answer p Γ (call n x m e) a =
+    aimed p n a
+    (orFaulty Variables n (typeIn Γ x)
+    (λ t. orFaulty Members n (methodIn p t m)
+    (λ g. unlessNo (useNo p n (of-method t m)) n (andThen (answer p Γ e (checks (g .param))) (λ v. Typed (g .result))))))
+answer p Γ (bind n x e₁ e₂) a = aimed p n a (andThen (answer p Γ e₁ infers) (λ t. answer p (record { name = x; type = t } ∷ Γ) e₂ infers))
+answer p Γ (new n c) a = aimed p n a (Typed c)
+answer p Γ (cast n t e) a = aimed p n a (answer p Γ e (checks t))
+answer p Γ (fork n e₁ e₂ e₃) a =
+    let r = andThen (answer p Γ e₁ infers) (λ t. andThen (answer p Γ e₂ infers) (λ u. answer p Γ e₃ infers)) in
+    aimed p n a (unlessShared (shares (fv e₁) (fv e₂)) n r)
+answer p Γ (lock n x e) a =
+    let r = answer p Γ e infers in
+    aimed p n a (orFaulty Variables n (typeIn Γ x) (λ t. unlessNo (useNo p n (of-lock t)) n r))
+
+abbrev pub inferred : Program → List Slot → Expr → Answer
+inferred p Γ e = answer p Γ e infers
+
+abbrev pub checked : Program → List Slot → Expr → ℕ → Answer
+checked p Γ e t = answer p Γ e (checks t)
 
 -- A method with the type of its class.
 pub record Body : Type 0 where

@@ -13,13 +13,15 @@ use Rattle.script.specs.Section.{countOf}
 use Rattle.script.specs.Reading.{programOf}
 use Rattle.script.specs.Questions.{allOf}
 use Rattle.script.proofs.Declarations.{length-interfaces, length-classes}
+use Rattle.machine.specs.declared.Value.{Value}
 use Rattle.machine.specs.declared.Want.the-variants.{Upto as upto}
 use Rattle.machine.specs.Config.{codeOf}
 use Rattle.machine.specs.Machine.{fieldCount}
 use Rattle.machine.specs.Decide.{valueFitsTest, isClassTest, bindingTest, bindingsTest, storesTest}
 use Rattle.block.specs.declared.Area.the-variants.{Bindings}
-use Rattle.block.specs.Layout.{counted, wordIn, wordByte}
-use Rattle.block.specs.Decode.{valueOf, configIn}
+use Rattle.block.specs.Layout.{counted, wordIn, wordByte, NAME, TYPE, BOUND, LINK}
+use Rattle.block.specs.Values.{valueIn}
+use Rattle.block.specs.Decode.{configIn}
 use Rattle.environments.specs.Chains.{bindingAt, newest, bindingsIn}
 use Rattle.environments.proofs.ChainLaws.{length-newest}
 use Rattle.values.specs.Objects.{Asked, objectsIn, objectsTest}
@@ -32,37 +34,37 @@ unfolding wordAt
 word-small b small at = omega (arith, small at, small (at + 1))
 
 -- one binding
-module _ {s b : List ℕ} (a : Asked s b) (i t n m : ℕ) (et : t ≡ wordIn b Bindings i 1) (en : n ≡ countOf s interfaces) (em : m ≡ countOf s classes) where
+module _ {s b : List ℕ} (a : Asked s b) (i t n m : ℕ) (et : t ≡ wordIn b Bindings i TYPE) (en : n ≡ countOf s interfaces) (em : m ≡ countOf s classes) where
   abbrev typeFits : Bool
-  typeFits = leb (wordIn b Bindings i 1) (length (programOf s .interfaces) + length (programOf s .classes))
+  typeFits = leb (wordIn b Bindings i TYPE) (length (programOf s .interfaces) + length (programOf s .classes))
 
   abbrev rest : Bool
-  rest = leb (wordIn b Bindings i 3) i && valueFitsTest (codeOf s) (objectsIn s b) (valueOf (wordIn b Bindings i 2)) (upto (wordIn b Bindings i 1))
+  rest = leb (wordIn b Bindings i LINK) i && valueFitsTest (codeOf s) (objectsIn s b) (valueIn (wordIn b Bindings i) BOUND) (upto (wordIn b Bindings i TYPE))
 
   whole : bindingTest (codeOf s) (objectsIn s b) i (bindingAt b i) ≡ typeFits && rest
-  whole = rw (lt-ltb (wordIn b Bindings i 0) 65536 (word-small b (a .block .small) (wordByte Bindings i 0))) refl
+  whole = rw (lt-ltb (wordIn b Bindings i NAME) 65536 (word-small b (a .small) (wordByte Bindings i NAME))) refl
 
   pub binding-no-type : n + m < t → false ≡ bindingTest (codeOf s) (objectsIn s b) i (bindingAt b i)
   binding-no-type h =
-      let no : typeFits ≡ false = lt-leb (wordIn b Bindings i 1) (length (programOf s .interfaces) + length (programOf s .classes)) (omega (arith, length-interfaces s, length-classes s)) in
+      let no : typeFits ≡ false = lt-leb (wordIn b Bindings i TYPE) (length (programOf s .interfaces) + length (programOf s .classes)) (omega (arith, length-interfaces s, length-classes s)) in
       sym (whole ∙ rw no refl)
 
-  module _ (link : ℕ) (el : link ≡ wordIn b Bindings i 3) (h : t ≤ n + m) where
+  module _ (link : ℕ) (el : link ≡ wordIn b Bindings i LINK) (h : t ≤ n + m) where
     typed : bindingTest (codeOf s) (objectsIn s b) i (bindingAt b i) ≡ rest
     typed =
-        let yes : typeFits ≡ true = le-leb (wordIn b Bindings i 1) (length (programOf s .interfaces) + length (programOf s .classes)) (omega (arith, length-interfaces s, length-classes s)) in
+        let yes : typeFits ≡ true = le-leb (wordIn b Bindings i TYPE) (length (programOf s .interfaces) + length (programOf s .classes)) (omega (arith, length-interfaces s, length-classes s)) in
         whole ∙ rw yes refl
 
     pub binding-no-link : i < link → false ≡ bindingTest (codeOf s) (objectsIn s b) i (bindingAt b i)
-    binding-no-link l = let no : leb (wordIn b Bindings i 3) i ≡ false = lt-leb (wordIn b Bindings i 3) i (omega arith) in sym (typed ∙ rw no refl)
+    binding-no-link l = let no : leb (wordIn b Bindings i LINK) i ≡ false = lt-leb (wordIn b Bindings i LINK) i (omega arith) in sym (typed ∙ rw no refl)
 
     pub binding-is :
-        (word : ℕ) (r : Bool) → link ≤ i → word ≡ wordIn b Bindings i 2
-        → r ≡ valueFitsTest (codeOf s) (objectsIn s b) (valueOf word) (upto t)
+        (v : Value) (r : Bool) → link ≤ i → v ≡ valueIn (wordIn b Bindings i) BOUND
+        → r ≡ valueFitsTest (codeOf s) (objectsIn s b) v (upto t)
         → r ≡ bindingTest (codeOf s) (objectsIn s b) i (bindingAt b i)
-    binding-is word r l ew e =
-        let yes : leb (wordIn b Bindings i 3) i ≡ true = le-leb (wordIn b Bindings i 3) i (omega arith) in
-        e ∙ rw (et, ew) (sym (typed ∙ rw yes refl))
+    binding-is v r l ev e =
+        let yes : leb (wordIn b Bindings i LINK) i ≡ true = le-leb (wordIn b Bindings i LINK) i (omega arith) in
+        e ∙ rw (et, ev) (sym (typed ∙ rw yes refl))
 
 -- a walk over the bindings, newest first, that has those before number n left
 abbrev pub BindingsLeft : List ℕ → List ℕ → ℕ → Type 0

@@ -4,14 +4,17 @@ use mathlib.Core.List.{List, [], _∷_, _++_, map, reverse, reverse-append}
 use mathlib.Core.Option.{none, some}
 use Prim.Native.Nat.{ℕ, zero, suc, _+_, _<_, _≤_}
 use native.Mathlib.Omega.{arith}
-use lib.ListN.{take}
 use Rattle.script.specs.Lists.{run}
+use Rattle.script.proofs.Lists.{getD-run}
 use Rattle.machine.specs.Config.{Object}
 use Rattle.machine.specs.Machine.{object}
 use Rattle.block.specs.declared.Area.the-variants.{Objects, Bindings}
-use Rattle.block.specs.Layout.{width, counted, wordIn, rowsIn}
-use Rattle.block.specs.Decode.{valueOf, objectOf, bindingOf, configIn}
-use Rattle.representation.specs.InOrder.{InOrder}
+use Rattle.block.specs.Rows.{wordOf}
+use Rattle.block.specs.Layout.{width, counted, wordIn, rowsIn, CLASS, fieldWord}
+use Rattle.block.specs.Values.{valueIn}
+use Rattle.block.specs.Decode.{objectOf, bindingOf, configIn}
+use Rattle.block.proofs.Values.{value-same}
+use Rattle.representation.specs.InOrder.{AreaOk}
 use Rattle.environments.specs.Chains.{bindingAt, newest, bindingsIn}
 use Rattle.values.specs.Objects.{valueAt, objectAt}
 
@@ -25,12 +28,6 @@ pub map-run : {A B : Type 0} (f : ℕ → A) (g : A → B) (i n : ℕ) → map g
 unfolding run
 map-run f g i zero = refl
 map-run f g i (suc n) = ap (λ l. g (f i) ∷ l) (map-run f g (i + 1) n)
-
-take-run : {A : Type 0} (f : ℕ → A) (i n k : ℕ) → k ≤ n → take k (run f i n) ≡ run f i k
-unfolding run
-take-run f i n zero h = refl
-take-run f i zero (suc k) h = absurd (omega arith)
-take-run f i (suc n) (suc k) h = ap (λ l. f i ∷ l) (take-run f (i + 1) n k (omega arith))
 
 run-end : {A : Type 0} (f : ℕ → A) (i n : ℕ) → run f i (suc n) ≡ run f i n ++ f (i + n) ∷ []
 unfolding run
@@ -64,14 +61,26 @@ bindings-read fieldCount b =
     ap reverse (map-run (λ i. run (wordIn b Bindings i) 0 (width Bindings)) bindingOf 0 (counted b Bindings)) ∙ run-newest (bindingAt b) (counted b Bindings)
 
 -- the objects of the configuration
-pub objects-read : (fieldCount : ℕ → ℕ) (b : List ℕ) → InOrder fieldCount b → configIn fieldCount b .stores .objects ≡ run (objectAt fieldCount b) 0 (counted b Objects)
+pub objects-read :
+    (fieldCount : ℕ → ℕ) (b : List ℕ) → AreaOk fieldCount b Objects → configIn fieldCount b .stores .objects ≡ run (objectAt fieldCount b) 0 (counted b Objects)
 unfolding configIn rowsIn run
 objects-read fieldCount b o =
-    map-run (λ i. run (wordIn b Objects i) 0 (width Objects)) (objectOf fieldCount) 0 (counted b Objects)
-    ∙ run-same (λ i. objectOf fieldCount (run (wordIn b Objects i) 0 (width Objects))) (objectAt fieldCount b) 0 (counted b Objects) (λ i l u. same i (omega arith))
+    map-run row (objectOf fieldCount) 0 (counted b Objects)
+    ∙ run-same (λ i. objectOf fieldCount (row i)) (objectAt fieldCount b) 0 (counted b Objects) (λ i l u. same i (omega arith))
   where
-    same : (i : ℕ) → i < counted b Objects → objectOf fieldCount (run (wordIn b Objects i) 0 (width Objects)) ≡ objectAt fieldCount b i
+    row : ℕ → List ℕ
+    row i = run (wordIn b Objects i) 0 (width Objects)
+
+    same : (i : ℕ) → i < counted b Objects → objectOf fieldCount (row i) ≡ objectAt fieldCount b i
     same i h =
-        let n = fieldCount (wordIn b Objects i 0) in
-        let e : map valueOf (take n (run (wordIn b Objects i) 2 8)) ≡ run (valueAt b i) 2 n = ap (map valueOf) (take-run (wordIn b Objects i) 2 8 n (o .objects i h .few)) ∙ map-run (wordIn b Objects i) valueOf 2 n in
-        λ t. record { class = wordIn b Objects i 0; shut = objectAt fieldCount b i .shut; fields = e t }
+        let n = fieldCount (wordIn b Objects i CLASS) in
+        let few = o .records .each i h .few in
+        let e : run (λ k. valueIn (wordOf (row i)) (fieldWord k)) 0 n ≡ run (valueAt b i) 0 n =
+        run-same (λ k. valueIn (wordOf (row i)) (fieldWord k)) (valueAt b i) 0 n
+        (λ k l u.
+        value-same (wordOf (row i)) (wordIn b Objects i) (fieldWord k)
+        (λ m v.
+        let z : 0 + (fieldWord k + m) ≡ fieldWord k + m = omega arith in
+        getD-run (wordIn b Objects i) 0 (width Objects) (fieldWord k + m) 0 (omega arith) ∙ ap (wordIn b Objects i) z))
+        in
+        λ t. record { class = wordIn b Objects i CLASS; shut = objectAt fieldCount b i .shut; fields = e t }

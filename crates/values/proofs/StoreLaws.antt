@@ -15,6 +15,7 @@ use Rattle.script.specs.Syntax.{Class, a-class, declarationAt}
 use Rattle.script.specs.Reading.{ownFields, fieldAt, classAt, programOf}
 use Rattle.script.specs.Asking.{Decides}
 use Rattle.script.specs.Questions.{allOf}
+use Rattle.script.specs.Statements.{WithinLayout}
 use Rattle.script.proofs.Lists.{length-run}
 use Rattle.script.proofs.Tests.{yes-said, no-said, decides-and, decides-lt, decides-le}
 use Rattle.script.proofs.Declarations.{a-class-at, length-interfaces, length-classes}
@@ -24,6 +25,8 @@ use Rattle.members.specs.Tables.{Starts}
 use Rattle.members.specs.Lookup.{DeclaredAs, RunAt}
 use Rattle.members.proofs.LookupLaws.{fields-run}
 use Rattle.members.proofs.SubtypeLaws.{class-there, type-neither, type-interface, type-class}
+use Rattle.machine.specs.declared.Value.{Value}
+use Rattle.machine.specs.declared.Value.the-variants.{Ref as ref}
 use Rattle.machine.specs.declared.Want.{Want}
 use Rattle.machine.specs.declared.Want.the-variants.{Upto as upto}
 use Rattle.machine.specs.Config.{Object, codeOf}
@@ -31,34 +34,37 @@ use Rattle.typing.specs.Members.{fieldsOf}
 use Rattle.machine.specs.Machine.{fieldCount, object}
 use Rattle.machine.specs.Decide.{meetsTest, objectTest, valueFitsTest, isClassTest, fieldsTest}
 use Rattle.block.specs.declared.Area.the-variants.{Objects}
-use Rattle.block.specs.Layout.{counted, wordIn}
-use Rattle.block.specs.Decode.{valueOf}
-use Rattle.areas.proofs.Laws.{word-value}
+use Rattle.block.specs.Layout.{counted, wordIn, CLASS}
+use Rattle.representation.specs.InOrder.{InOrder}
 use Rattle.values.specs.Objects.{Asked, valueAt, objectAt, objectsIn, objectFits, objectsTest}
 use Rattle.values.proofs.ReadLaws.{objects-read, object-run, object-past}
+
+-- a block that is in order is asked
+pub ordered-asked : {s b : List ℕ} → WithinLayout s → InOrder (fieldCount s) b → Asked s b
+ordered-asked w o = record { script = w; long = o .long; small = o .small; objects = o .areas Objects }
 
 module _ {s b : List ℕ} (a : Asked s b) where
   -- an object that is there, and one that is not
   pub object-there : (o : ℕ) → o < counted b Objects → object (objectsIn s b) o ≡ some (objectAt (fieldCount s) b o)
   object-there o h =
       let z : 0 + o ≡ o = omega arith in
-      rw (objects-read (fieldCount s) b (a .block)) (object-run (objectAt (fieldCount s) b) 0 (counted b Objects) o h ∙ rw z)
+      rw (objects-read (fieldCount s) b (a .objects)) (object-run (objectAt (fieldCount s) b) 0 (counted b Objects) o h ∙ rw z)
 
   pub object-absent : (o : ℕ) → counted b Objects ≤ o → object (objectsIn s b) o ≡ none
-  object-absent o h = rw (objects-read (fieldCount s) b (a .block)) (object-past (objectAt (fieldCount s) b) 0 (counted b Objects) o h)
+  object-absent o h = rw (objects-read (fieldCount s) b (a .objects)) (object-past (objectAt (fieldCount s) b) 0 (counted b Objects) o h)
 
   -- what a value is asked
-  module _ (word : ℕ) (want : Want) (some-word : word ≡ 0 → ⊥) where
-    asks : (x : Option Object) → object (objectsIn s b) (word - 1) ≡ x → valueFitsTest (codeOf s) (objectsIn s b) (valueOf word) want ≡ objectTest (codeOf s) want x
-    asks x e = rw (← word-value word some-word) (ap (objectTest (codeOf s) want) e)
+  module _ (v : Value) (want : Want) (o : ℕ) (e : v ≡ ref o) where
+    asks : (x : Option Object) → object (objectsIn s b) o ≡ x → valueFitsTest (codeOf s) (objectsIn s b) v want ≡ objectTest (codeOf s) want x
+    asks x q = rw e (ap (objectTest (codeOf s) want) q)
 
-    pub value-absent : counted b Objects ≤ word - 1 → false ≡ valueFitsTest (codeOf s) (objectsIn s b) (valueOf word) want
-    value-absent h = sym (asks none (object-absent (word - 1) h))
+    pub value-absent : counted b Objects ≤ o → false ≡ valueFitsTest (codeOf s) (objectsIn s b) v want
+    value-absent h = sym (asks none (object-absent o h))
 
     pub value-object :
-        (class : ℕ) (r : Bool) → word - 1 < counted b Objects → class ≡ wordIn b Objects (word - 1) 0 → r ≡ meetsTest (codeOf s) class want
-        → r ≡ valueFitsTest (codeOf s) (objectsIn s b) (valueOf word) want
-    value-object class r there e q = q ∙ rw e (sym (asks (some (objectAt (fieldCount s) b (word - 1))) (object-there (word - 1) there)))
+        (class : ℕ) (r : Bool) → o < counted b Objects → class ≡ wordIn b Objects o CLASS → r ≡ meetsTest (codeOf s) class want
+        → r ≡ valueFitsTest (codeOf s) (objectsIn s b) v want
+    value-object class r there k q = q ∙ rw k (sym (asks (some (objectAt (fieldCount s) b o)) (object-there o there)))
 
 -- a test of more than one thing, of which the first is asked first
 pub and-no : (p q r : Bool) → r ≡ p → not r ≡ true → false ≡ p && q
@@ -105,36 +111,35 @@ and-all p q (x ∷ l) = swap (p x) (q x) (allOf p l) (allOf q l) ∙ ap (λ (t :
 module _ (s b : List ℕ) (i from count : ℕ) where
   abbrev pub FieldsLeft : ℕ → Type 0
   FieldsLeft j =
-      fieldsTest (codeOf s) (objectsIn s b) (run (fieldAt s) from count) (run (valueAt b i) 2 count)
-      ≡ fieldsTest (codeOf s) (objectsIn s b) (run (fieldAt s) (from + j) (count - j)) (run (valueAt b i) (2 + j) (count - j))
+      fieldsTest (codeOf s) (objectsIn s b) (run (fieldAt s) from count) (run (valueAt b i) 0 count)
+      ≡ fieldsTest (codeOf s) (objectsIn s b) (run (fieldAt s) (from + j) (count - j)) (run (valueAt b i) j (count - j))
 
   pub fields-begun : FieldsLeft 0
   fields-begun = let y : from + 0 ≡ from = omega arith in let z : count - 0 ≡ count = omega arith in rw (y, z) refl
 
   module _ (j : ℕ) (left : FieldsLeft j) where
-    pub fields-done : count ≤ j → true ≡ fieldsTest (codeOf s) (objectsIn s b) (run (fieldAt s) from count) (run (valueAt b i) 2 count)
+    pub fields-done : count ≤ j → true ≡ fieldsTest (codeOf s) (objectsIn s b) (run (fieldAt s) from count) (run (valueAt b i) 0 count)
     unfolding run
     fields-done h = let z : count - j ≡ 0 = omega arith in sym (rw z at left)
 
-    module _ (t word : ℕ) (r : Bool) (h : j < count) (et : t ≡ recordWord s fields (from + j) 1) (ew : word ≡ wordIn b Objects i (2 + j))
-        (e : r ≡ valueFitsTest (codeOf s) (objectsIn s b) (valueOf word) (upto t)) where
+    module _ (t : ℕ) (v : Value) (r : Bool) (h : j < count) (et : t ≡ recordWord s fields (from + j) 1) (ev : v ≡ valueAt b i j)
+        (e : r ≡ valueFitsTest (codeOf s) (objectsIn s b) v (upto t)) where
       later : Bool
-      later = fieldsTest (codeOf s) (objectsIn s b) (run (fieldAt s) (from + (j + 1)) (count - (j + 1))) (run (valueAt b i) (2 + (j + 1)) (count - (j + 1)))
+      later = fieldsTest (codeOf s) (objectsIn s b) (run (fieldAt s) (from + (j + 1)) (count - (j + 1))) (run (valueAt b i) (j + 1) (count - (j + 1)))
 
-      next-field : fieldsTest (codeOf s) (objectsIn s b) (run (fieldAt s) from count) (run (valueAt b i) 2 count) ≡ valueFitsTest (codeOf s) (objectsIn s b) (valueOf word) (upto t) && later
+      next-field : fieldsTest (codeOf s) (objectsIn s b) (run (fieldAt s) from count) (run (valueAt b i) 0 count) ≡ valueFitsTest (codeOf s) (objectsIn s b) v (upto t) && later
       unfolding run fieldAt later
       next-field =
           let x : count - j ≡ suc (count - (j + 1)) = omega arith in
           let y : from + (j + 1) ≡ from + j + 1 = omega arith in
-          let z : 2 + (j + 1) ≡ 2 + j + 1 = omega arith in
-          rw (et, ew, y, z) (rw x at left)
+          rw (et, ev, y) (rw x at left)
 
-      pub fields-no : not r ≡ true → false ≡ fieldsTest (codeOf s) (objectsIn s b) (run (fieldAt s) from count) (run (valueAt b i) 2 count)
-      fields-no q = and-no (valueFitsTest (codeOf s) (objectsIn s b) (valueOf word) (upto t)) later r e q ∙ sym next-field
+      pub fields-no : not r ≡ true → false ≡ fieldsTest (codeOf s) (objectsIn s b) (run (fieldAt s) from count) (run (valueAt b i) 0 count)
+      fields-no q = and-no (valueFitsTest (codeOf s) (objectsIn s b) v (upto t)) later r e q ∙ sym next-field
 
       pub fields-more : not r ≡ false → FieldsLeft (j + 1)
       unfolding later
-      fields-more q = next-field ∙ and-yes (valueFitsTest (codeOf s) (objectsIn s b) (valueOf word) (upto t)) later r e q
+      fields-more q = next-field ∙ and-yes (valueFitsTest (codeOf s) (objectsIn s b) v (upto t)) later r e q
 
 -- a walk over the objects that has come to object i
 abbrev pub ObjectsLeft : List ℕ → List ℕ → ℕ → ℕ → Type 0
@@ -145,15 +150,15 @@ module _ {s b : List ℕ} (a : Asked s b) where
   objects-begun count e =
       all-begun (objectFits (codeOf s) (objectsIn s b)) (objectAt (fieldCount s) b) count (objectsTest (codeOf s) (objectsIn s b))
       (and-all (isClassTest (codeOf s)) (λ x. fieldsTest (codeOf s) (objectsIn s b) (fieldsOf (programOf s) (x .class)) (x .fields)) (objectsIn s b)
-      ∙ rw e (ap (allOf (objectFits (codeOf s) (objectsIn s b))) (objects-read (fieldCount s) b (a .block))))
+      ∙ rw e (ap (allOf (objectFits (codeOf s) (objectsIn s b))) (objects-read (fieldCount s) b (a .objects))))
 
   -- one object, by what its class is declared as
-  module _ (i class : ℕ) (e : class ≡ wordIn b Objects i 0) {d : Declared} (h : DeclaredAs s class d) where
+  module _ (i class : ℕ) (e : class ≡ wordIn b Objects i CLASS) {d : Declared} (h : DeclaredAs s class d) where
     class-test :
-        Decides ((length (programOf s .interfaces) < wordIn b Objects i 0) × (wordIn b Objects i 0 ≤ length (programOf s .interfaces) + length (programOf s .classes)))
+        Decides ((length (programOf s .interfaces) < wordIn b Objects i CLASS) × (wordIn b Objects i CLASS ≤ length (programOf s .interfaces) + length (programOf s .classes)))
         (isClassTest (codeOf s) (objectAt (fieldCount s) b i))
     class-test =
-        decides-and (decides-lt (length (programOf s .interfaces)) (wordIn b Objects i 0)) (decides-le (wordIn b Objects i 0) (length (programOf s .interfaces) + length (programOf s .classes)))
+        decides-and (decides-lt (length (programOf s .interfaces)) (wordIn b Objects i CLASS)) (decides-le (wordIn b Objects i CLASS) (length (programOf s .interfaces) + length (programOf s .classes)))
 
     no-class : ((c : Class) → declarationAt (programOf s) class ≡ a-class c → ⊥) → false ≡ objectFits (codeOf s) (objectsIn s b) (objectAt (fieldCount s) b i)
     no-class n =
@@ -177,7 +182,7 @@ module _ {s b : List ℕ} (a : Asked s b) where
       own-many = rw own (length-run (fieldAt s) (sumBelow (ownFields s) k) (ownFields s k))
 
       pub own-few : i < counted b Objects → ownFields s k ≤ CLASS-FIELDS
-      own-few l = omega (arith, own-many, ap (fieldCount s) e, a .block .objects i l .few)
+      own-few l = omega (arith, own-many, ap (fieldCount s) e, a .objects .records .each i l .few)
 
       pub own-run : {starts : List ℕ} → Starts s starts → RunAt s fields k starts (INTERFACES + k)
       own-run st = fields-run (a .script) st k (class-there h q .0)
@@ -186,11 +191,11 @@ module _ {s b : List ℕ} (a : Asked s b) where
           {starts : List ℕ} → Starts s starts → (from count : ℕ) (r : Bool)
           → from ≡ getD starts (INTERFACES + k) 0
           → count ≡ ownFields s k
-          → r ≡ fieldsTest (codeOf s) (objectsIn s b) (run (fieldAt s) from count) (run (valueAt b i) 2 count)
+          → r ≡ fieldsTest (codeOf s) (objectsIn s b) (run (fieldAt s) from count) (run (valueAt b i) 0 count)
           → r ≡ objectFits (codeOf s) (objectsIn s b) (objectAt (fieldCount s) b i)
       object-class st from count r p g f =
           let c = class-there h q in
-          let w : wordIn b Objects i 0 ≡ class = sym e in
+          let w : wordIn b Objects i CLASS ≡ class = sym e in
           let at : from ≡ sumBelow (ownFields s) k = p ∙ own-run st .start in
           let yes : isClassTest (codeOf s) (objectAt (fieldCount s) b i) ≡ true =
           yes-said class-test (omega (arith, c, length-interfaces s, length-classes s), omega (arith, c, length-interfaces s, length-classes s))

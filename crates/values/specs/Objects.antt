@@ -1,9 +1,10 @@
 -- The objects of a block, and what question 21 asks of them.
-use Prim.Native.Nat.{ℕ}
+use Prim.Native.Nat.{ℕ, _<_}
+use mathlib.Core.Path.{_≡_}
 use mathlib.Core.Bool.{Bool, _&&_}
 use mathlib.Core.List.{List}
-use lib.Dec.{eqb}
-use Rattle.script.specs.Lists.{run}
+use lib.ListN.{length, getD}
+use Rattle.limits.specs.Limits.{BLOCK}
 use Rattle.script.specs.Questions.{allOf}
 use Rattle.script.specs.Statements.{WithinLayout}
 use Rattle.machine.specs.declared.Value.{Value}
@@ -12,27 +13,25 @@ use Rattle.typing.specs.Members.{fieldsOf}
 use Rattle.machine.specs.Machine.{fieldCount}
 use Rattle.machine.specs.Decide.{isClassTest, fieldsTest}
 use Rattle.block.specs.declared.Area.the-variants.{Objects}
-use Rattle.block.specs.Layout.{wordIn}
-use Rattle.block.specs.Decode.{valueOf, configIn}
-use Rattle.representation.specs.InOrder.{InOrder}
+use Rattle.block.specs.Layout.{wordIn, fieldWord}
+use Rattle.block.specs.Values.{valueIn}
+use Rattle.block.specs.Decode.{objectIn, configIn}
+use Rattle.representation.specs.InOrder.{AreaOk}
 
--- What the code of the question relies on: questions 1 to 8 got a yes, and the block is in order.
+-- What the code of the question relies on: questions 1 to 8 got a yes, the block has the bytes of a block, and its objects are in order.
 pub record Asked (s b : List ℕ) : Type 0 where
   pub script : WithinLayout s
-  pub block : InOrder (fieldCount s) b
+  pub long : length b ≡ BLOCK
+  pub small : (i : ℕ) → getD b i 0 < 256
+  pub objects : AreaOk (fieldCount s) b Objects
 
--- The value that word j of the object with number i stands for.
+-- The value of field k of the object with number i.
 abbrev pub valueAt : List ℕ → ℕ → ℕ → Value
-valueAt b i j = valueOf (wordIn b Objects i j)
+valueAt b i k = valueIn (wordIn b Objects i) (fieldWord k)
 
 -- The object with number i: "(class, open or shut, fields)".
 abbrev pub objectAt : (ℕ → ℕ) → List ℕ → ℕ → Object
-objectAt fieldCount b i =
-    record {
-      class = wordIn b Objects i 0;
-      shut = eqb (wordIn b Objects i 1) 1;
-      fields = run (valueAt b i) 2 (fieldCount (wordIn b Objects i 0));
-    }
+objectAt fieldCount b i = objectIn fieldCount (wordIn b Objects i)
 
 -- The objects of the configuration that is read from a block.
 abbrev pub objectsIn : List ℕ → List ℕ → List Object

@@ -1,7 +1,9 @@
 // The stores of a block: do its objects and bindings fit?
 use crate::wants::meets;
 use block::Area;
+use block::Layout;
 use limits::Limits;
+use machine::Value;
 use machine::Want;
 use members::Declared;
 use members::declared_as;
@@ -11,7 +13,7 @@ use sections::own_count;
 use sections::record_word;
 ghost use mathlib.Core.Path.{_≡_};
 ghost use Prim.Native.Nat.{_+_, _<_, _≤_};
-ghost use Rattle.limits.specs.Limits.{CLASS-FIELDS};
+ghost use Rattle.limits.specs.Limits.{BINDINGS, CLASS-FIELDS};
 ghost use Rattle.script.specs.declared.Section.the-variants.{Fields};
 ghost use Rattle.script.specs.Lists.{run};
 ghost use Rattle.script.specs.Section.{countOf};
@@ -22,24 +24,23 @@ ghost use Rattle.machine.specs.Machine.{fieldCount};
 ghost use Rattle.machine.specs.Decide.{valueFitsTest, fieldsTest, bindingTest, bindingsTest, storesTest};
 ghost use Rattle.block.specs.declared.Area.the-variants.{Objects, Bindings};
 ghost use Rattle.block.specs.Layout.{counted};
-ghost use Rattle.block.specs.Decode.{valueOf, configIn};
+ghost use Rattle.block.specs.Decode.{configIn};
 ghost use Rattle.environments.specs.Chains.{bindingAt};
 ghost use Rattle.values.specs.Objects.{Asked, valueAt, objectAt, objectsIn, objectFits, objectsTest};
 
-// Does the value that a word stands for fit what is wanted? It is null, or an object that is there and whose class is the type wanted or below it: "value types
-// fit".
-pub fn value_fits(s: &[u8], block: &[u8], word: u16, want: Want) -> bool
+// Does a value fit what is wanted? It is null, or an object that is there and whose class is the type wanted or below it: "value types fit".
+pub fn value_fits(s: &[u8], block: &[u8], v: Value, want: Want) -> bool
     requires { ⌜ Asked (now s) (now block) ⌝ }
-    ensures { λ r. ⌜ r ≡ valueFitsTest (codeOf (now (s .entry))) (objectsIn (now (s .entry)) (now (block .entry))) (valueOf word) want ⌝ }
+    ensures { λ r. ⌜ r ≡ valueFitsTest (codeOf (now (s .entry))) (objectsIn (now (s .entry)) (now (block .entry))) v want ⌝ }
 {
-    if word == 0 {
+    let Value::Ref(n) = v else {
         return true;
-    }
-    let o = word as usize - 1;
+    };
+    let o = n as usize;
     if areas::count(block, Area::Objects) <= o {
         return false;
     }
-    let class = areas::word(block, Area::Objects, o, 0);
+    let class = areas::word(block, Area::Objects, o, Layout::CLASS);
     meets(s, class, want)
 }
 
@@ -48,14 +49,14 @@ fn fields_fit(s: &[u8], block: &[u8], i: usize, from: usize, count: usize) -> bo
     requires { ⌜ Asked (now s) (now block) × (i < counted (now block) Objects) × (from + count ≤ countOf (now s) Fields) × (count ≤ CLASS-FIELDS) ⌝ }
     ensures { λ r. ⌜
         r ≡ fieldsTest (codeOf (now (s .entry))) (objectsIn (now (s .entry)) (now (block .entry))) (run (fieldAt (now (s .entry))) from count)
-        (run (valueAt (now (block .entry)) i) 2 count)
+        (run (valueAt (now (block .entry)) i) 0 count)
         ⌝ }
 {
     let mut j = 0;
     while j < count {
         let t = record_word(s, Section::Fields, from + j, 1);
-        let word = areas::word(block, Area::Objects, i, 2 + j);
-        if !value_fits(s, block, word, Want::Upto(t)) {
+        let v = areas::field(block, i, j);
+        if !value_fits(s, block, v, Want::Upto(t)) {
             return false;
         }
         j += 1;
@@ -71,7 +72,7 @@ fn object_fits(s: &[u8], starts: &[u16], block: &[u8], i: usize) -> bool
         (objectAt (fieldCount (now (s .entry))) (now (block .entry)) i)
         ⌝ }
 {
-    let class = areas::word(block, Area::Objects, i, 0);
+    let class = areas::word(block, Area::Objects, i, Layout::CLASS);
     let d = declared_as(s, class);
     match d {
         Declared::Interface(_) => false,
@@ -103,25 +104,25 @@ fn objects_fit(s: &[u8], starts: &[u16], block: &[u8]) -> bool
 // Is the type of binding i a type (WF-ENV), does its value fit it (WF-VARS), and has it a link to an earlier binding or to none? "links run to earlier
 // bindings"
 fn binding_fits(s: &[u8], block: &[u8], i: usize) -> bool
-    requires { ⌜ Asked (now s) (now block) × (i < counted (now block) Bindings) ⌝ }
+    requires { ⌜ Asked (now s) (now block) × (counted (now block) Bindings ≤ BINDINGS) × (i < counted (now block) Bindings) ⌝ }
     ensures { λ r. ⌜ r ≡ bindingTest (codeOf (now (s .entry))) (objectsIn (now (s .entry)) (now (block .entry))) i (bindingAt (now (block .entry)) i) ⌝ }
 {
-    let t = areas::word(block, Area::Bindings, i, 1);
+    let t = areas::word(block, Area::Bindings, i, Layout::TYPE);
     let types = count_of(s, Section::Interfaces) + count_of(s, Section::Classes);
     if types < t as usize {
         return false;
     }
-    let link = areas::word(block, Area::Bindings, i, 3);
+    let link = areas::word(block, Area::Bindings, i, Layout::LINK);
     if i < link as usize {
         return false;
     }
-    let word = areas::word(block, Area::Bindings, i, 2);
-    value_fits(s, block, word, Want::Upto(t))
+    let v = areas::value(block, Area::Bindings, i, Layout::BOUND);
+    value_fits(s, block, v, Want::Upto(t))
 }
 
 // Do all bindings fit? The newest is asked first.
 fn bindings_fit(s: &[u8], block: &[u8]) -> bool
-    requires { ⌜ Asked (now s) (now block) ⌝ }
+    requires { ⌜ Asked (now s) (now block) × (counted (now block) Bindings ≤ BINDINGS) ⌝ }
     ensures { λ r. ⌜
         r ≡ bindingsTest (codeOf (now (s .entry))) (objectsIn (now (s .entry)) (now (block .entry)))
         (configIn (fieldCount (now (s .entry))) (now (block .entry)) .stores .bindings)
@@ -139,7 +140,7 @@ fn bindings_fit(s: &[u8], block: &[u8]) -> bool
 
 // Do the stores fit? Γ ⊢ H and Γ ⊢ V of Figure 7: "value types fit" and "links run to earlier bindings".
 pub fn stores_fit(s: &[u8], starts: &[u16], block: &[u8]) -> bool
-    requires { ⌜ Asked (now s) (now block) × Starts (now s) (now starts) ⌝ }
+    requires { ⌜ Asked (now s) (now block) × (counted (now block) Bindings ≤ BINDINGS) × Starts (now s) (now starts) ⌝ }
     ensures { λ r. ⌜ r ≡ storesTest (codeOf (now (s .entry))) (configIn (fieldCount (now (s .entry))) (now (block .entry)) .stores) ⌝ }
 {
     if !objects_fit(s, starts, block) {

@@ -2,7 +2,7 @@
 use mathlib.Core.Path.{_≡_, refl, ap, _∙_}
 use mathlib.Core.Bool.{Bool, false}
 use mathlib.Core.List.{List, [], _∷_, _++_}
-use mathlib.Core.Option.{Option, none, some}
+use mathlib.Core.Option.{none, some}
 use Prim.Native.Nat.{ℕ, zero, suc, _+_, _-_, _<_, _≤_}
 use native.Mathlib.Omega.{arith}
 use lib.ListN.{length, getD, set, length-append, length-set}
@@ -18,16 +18,15 @@ use Rattle.script.specs.Statements.{WithinLayout}
 use Rattle.sections.specs.Laid.{foundOf}
 use Rattle.members.proofs.LookupLaws.{found-at, found-nothing}
 use Rattle.machine.specs.declared.Value.{Value}
-use Rattle.machine.specs.declared.Value.the-variants.{Null as nil, Ref as ref}
+use Rattle.machine.specs.declared.Value.the-variants.{Ref as ref}
 use Rattle.machine.specs.declared.Frame.{Frame}
 use Rattle.machine.specs.declared.Store.the-variants.{Bindings as bindings}
 use Rattle.machine.specs.Config as machine
-use Rattle.machine.specs.Config.{Code, codeOf, Object, Binding, Stores, running, returning, failed}
+use Rattle.machine.specs.Config.{codeOf, Object, Binding, Stores, running}
 use Rattle.typing.specs.Members.{fieldsOf, definedIn}
-use Rattle.machine.specs.Machine.{scope, find, object, setShut, setFields, setField, Outcome, full, withShut, updateTarget, callBindings, callMethod, callObject, callTarget}
+use Rattle.machine.specs.Machine.{object, setShut, setFields, setField, Outcome, still, full, moved, withShut, callBindings, callMethod, callObject}
 use Rattle.block.specs.declared.Area.the-variants.{Objects, Bindings}
 use Rattle.block.specs.Layout.{counted, wordIn}
-use Rattle.representation.specs.Changed as altered
 use Rattle.block.specs.Block.{framesOf, Parts, laid}
 use Rattle.representation.specs.Changed.{withObjects, withBindings, withField}
 use Rattle.members.specs.Defined.{fieldNumber, MethodIs}
@@ -35,36 +34,21 @@ use Rattle.members.proofs.FieldLaws.{number-below}
 use Rattle.moves.proofs.FieldValues.{set-at, set-none}
 use Rattle.members.proofs.MethodLaws.{defined-none, defined-at, param-word, body-word}
 use Rattle.tree.specs.declared.Tree.{Tree}
-use Rattle.environments.specs.declared.Lookup.{Lookup}
-use Rattle.environments.specs.declared.Lookup.the-variants.{Unbound, Bound}
-use Rattle.environments.specs.Chains.{bindingsIn, lookupOf}
 use Rattle.environments.proofs.LaidLaws as laid-laws
-use Rattle.environments.proofs.LaidLaws.{object-cell, object-there, object-absent, shut-set, field-set}
-use Rattle.state.specs.Hand.{Else, Seen}
+use Rattle.environments.proofs.LaidLaws.{object-there, field-set}
+use Rattle.state.specs.Represents.{Rest, StateAt}
 use Rattle.state.proofs.Seeing.{lying, seen-few, objects-counted, bindings-counted}
 use Rattle.state.proofs.Moves.{seen-objects, seen-bindings}
-use Rattle.moves.specs.declared.Effect.the-variants.{Still, Moved, Full}
-use Rattle.moves.specs.declared.Step.{Step}
-use Rattle.moves.specs.Came.{Came, came-still, came-full, came-moved}
-use Rattle.moves.proofs.Laws.{BoundTo, bound, not-bound, looked}
+use Rattle.moves.proofs.TargetLaws.{blank-object, object-is, object-word}
+use Rattle.waiting.proofs.LetLaws.{Adds}
 
--- what set_shut ensures, of the bytes b before and c after
-abbrev pub Shuts : List ℕ → List ℕ → ℕ → Bool → Type 0
-Shuts b c o h =
-    (p : Parts) (d : Object) → b ≡ bytes (laid p) → o < length (p .objects)
-    → c ≡ bytes (laid (withObjects p (set (p .objects) o (altered.withShut (getD (p .objects) o d) h))))
-
--- what put_field ensures
+-- what put_field ensures, of the bytes b before and c after
 abbrev pub Stored : List ℕ → List ℕ → ℕ → ℕ → Value → Type 0
 Stored b c o k v =
     (p : Parts) (d : Object) → b ≡ bytes (laid p) → o < length (p .objects) → k < length (getD (p .objects) o d .fields)
     → c ≡ bytes (laid (withObjects p (set (p .objects) o (withField (getD (p .objects) o d) k v))))
 
--- what add_binding ensures
-abbrev pub Added : List ℕ → List ℕ → Binding → Type 0
-Added b c y = (p : Parts) → b ≡ bytes (laid p) → c ≡ bytes (laid (withBindings p (p .bindings ++ y ∷ [])))
-
-pub one-more : {b c : List ℕ} (p : Parts) (y : Binding) → b ≡ bytes (laid p) → Added b c y → counted c Bindings ≡ suc (counted b Bindings)
+pub one-more : {b c : List ℕ} (p : Parts) (y : Binding) → b ≡ bytes (laid p) → Adds b c y → counted c Bindings ≡ suc (counted b Bindings)
 one-more p y is adds =
     laid-laws.bindings-counted (withBindings p (p .bindings ++ y ∷ [])) (adds p is)
     ∙ omega (arith, length-append (p .bindings) (y ∷ []), laid-laws.bindings-counted p is)
@@ -75,66 +59,50 @@ shut-absent h [] o l = refl
 shut-absent h (x ∷ xs) zero l = absurd (omega arith)
 shut-absent h (x ∷ xs) (suc o) l = ap (λ (ys : List Object). x ∷ ys) (shut-absent h xs o (omega arith))
 
-none-there : Object
-none-there = record { class = 0; shut = false; fields = [] }
-
--- an object that is there
-object-is : (xs : List Object) (o : ℕ) (y d : Object) → object xs o ≡ some y → (o < length xs) × (getD xs o d ≡ y)
-object-is [] o y d e = absurd (let z : _≡_ {A = ℕ} 0 1 = cc in omega arith)
-object-is (x ∷ xs) zero y d e = (omega arith, cc)
-object-is (x ∷ xs) (suc o) y d e = let r = object-is xs o y d e in (omega (arith, r .0), r .1)
-
 fields-same : (xs : List Object) (o : ℕ) (y : Object) → object xs o ≡ some y → setFields (y .fields) xs o ≡ xs
 fields-same [] o y e = refl
 fields-same (x ∷ xs) zero y e = let z : x ≡ y = cc in rw (← z)
 fields-same (x ∷ xs) (suc o) y e = ap (λ (ys : List Object). x ∷ ys) (fields-same xs o y e)
 
-module _ {b : List ℕ} {self : Tree} {i : ℕ} {x : Else} {st : Stores} {u : machine.Tree} (s : Seen b self i x st u) where
+module _ {b : List ℕ} {self : Tree} {i : ℕ} {x : Rest} {st : Stores} {u : machine.Tree} (s : StateAt b self i x st u) where
   -- one object changed
   changed : {c : List ℕ} (o : ℕ) (y : Object) → c ≡ bytes (laid (withObjects (lying x st (framesOf u)) (set (st .objects) o y)))
-      → Seen c self i x (record { objects = set (st .objects) o y; bindings = st .bindings }) u
+      → StateAt c self i x (record { objects = set (st .objects) o y; bindings = st .bindings }) u
   changed o y e = seen-objects s (set (st .objects) o y) (omega (arith, length-set (st .objects) o y, objects-counted s, seen-few s Objects)) e
 
   -- the object of a lock opened, if there is one
-  pub opens-none : (o n : ℕ) → n ≡ counted b Objects → n ≤ o → Seen b self i x (withShut false st o) u
+  pub opens-none : (o n : ℕ) → n ≡ counted b Objects → n ≤ o → StateAt b self i x (withShut false st o) u
   opens-none o n e l = rw (shut-absent false (st .objects) o (omega (arith, objects-counted s))) s
-
-  pub opens : {c : List ℕ} (o n : ℕ) → n ≡ counted b Objects → o < n → Shuts b c o false → Seen c self i x (withShut false st o) u
-  opens o n e l shuts =
-      rw (shut-set false (st .objects) o none-there)
-      (changed o (altered.withShut (getD (st .objects) o none-there) false) (shuts (lying x st (framesOf u)) none-there (s .block) (omega (arith, objects-counted s))))
 
   -- the class of an object
   pub class-read : (o class : ℕ) (y : Object) → object (st .objects) o ≡ some y → class ≡ wordIn b Objects o 0 → class ≡ y .class
-  class-read o class y h e =
-      let r = object-is (st .objects) o y none-there h in
-      e ∙ object-cell (lying x st (framesOf u)) (s .block) (s .few) o 0 none-there (r .0) (omega arith) ∙ ap (λ (z : Object). z .class) (r .1)
+  class-read o class y h e = object-word (lying x st (framesOf u)) y o 0 class (s .block) (s .few) h (omega arith) e
 
   -- a field that the object's class does not have, and one that it has
   module _ (p : Program) (o class f : ℕ) (v : Value) (y : Object) (h : object (st .objects) o ≡ some y) (e : class ≡ wordIn b Objects o 0) (found : Found)
       (q : found ≡ foundOf (fieldNumber (fieldsOf p class) f)) where
     pub writes-none : found ≡ Nothing
-        → Seen b self i x (record { objects = setFields (setField v (fieldsOf p (y .class)) (y .fields) f) (st .objects) o; bindings = st .bindings }) u
+        → StateAt b self i x (record { objects = setFields (setField v (fieldsOf p (y .class)) (y .fields) f) (st .objects) o; bindings = st .bindings }) u
     writes-none k =
         let n : fieldNumber (fieldsOf p (y .class)) f ≡ none = found-nothing (fieldNumber (fieldsOf p (y .class)) f) found (rw (class-read o class y h e) at q) k in
         rw (set-none (fieldsOf p (y .class)) (y .fields) f v n, fields-same (st .objects) o y h) s
 
     pub writes : {c : List ℕ} (k : ℕ) → length (y .fields) ≡ length (fieldsOf p (y .class)) → found ≡ At k → Stored b c o k v
-        → Seen c self i x (record { objects = setFields (setField v (fieldsOf p (y .class)) (y .fields) f) (st .objects) o; bindings = st .bindings }) u
+        → StateAt c self i x (record { objects = setFields (setField v (fieldsOf p (y .class)) (y .fields) f) (st .objects) o; bindings = st .bindings }) u
     writes {c} k own a stored =
         let ds = fieldsOf p (y .class) in
         let n : fieldNumber ds f ≡ some k = found-at (fieldNumber ds f) found (rw (class-read o class y h e) at q) k a in
-        let r = object-is (st .objects) o y none-there h in
-        let there : k < length (getD (st .objects) o none-there .fields) = rw (r .1) (omega (arith, own, number-below ds f k n)) in
-        let now : setFields (setField v ds (y .fields) f) (st .objects) o ≡ set (st .objects) o (withField (getD (st .objects) o none-there) k v) =
-        rw (set-at ds (y .fields) f v k n, ← r .1) (field-set (st .objects) o k v none-there)
+        let r = object-is (st .objects) o y blank-object h in
+        let there : k < length (getD (st .objects) o blank-object .fields) = rw (r .1) (omega (arith, own, number-below ds f k n)) in
+        let now : setFields (setField v ds (y .fields) f) (st .objects) o ≡ set (st .objects) o (withField (getD (st .objects) o blank-object) k v) =
+        rw (set-at ds (y .fields) f v k n, ← r .1) (field-set (st .objects) o k v blank-object)
         in
-        rw now (changed o (withField (getD (st .objects) o none-there) k v) (stored (lying x st (framesOf u)) none-there (s .block) (r .0) there))
+        rw now (changed o (withField (getD (st .objects) o blank-object) k v) (stored (lying x st (framesOf u)) blank-object (s .block) (r .0) there))
 
   -- the two bindings of a call
   pub adds-call : {b₁ c : List ℕ} (n class o param : ℕ) (v : Value) → n ≡ counted b Bindings → n + 2 ≤ BINDINGS
-      → Added b b₁ (record { name = 0; type = class; value = ref o; link = 0 }) → Added b₁ c (record { name = 1; type = param; value = v; link = n + 1 })
-      → Seen c self i x (record { objects = st .objects; bindings = callBindings class o param v (st .bindings) }) u
+      → Adds b b₁ (record { name = 0; type = class; value = ref o; link = 0 }) → Adds b₁ c (record { name = 1; type = param; value = v; link = n + 1 })
+      → StateAt c self i x (record { objects = st .objects; bindings = callBindings class o param v (st .bindings) }) u
   adds-call n class o param v e l adds adds₁ =
       let this : Binding = record { name = 0; type = class; value = ref o; link = 0 } in
       let p = lying x st (framesOf u) in
@@ -145,64 +113,6 @@ module _ {b : List ℕ} {self : Tree} {i : ℕ} {x : Else} {st : Stores} {u : ma
       (adds₁ (lying x (record { objects = st .objects; bindings = this ∷ st .bindings }) (framesOf u)) (first .block)) in
       rw k at second
 
--- the object of a number below the count
-there : {b : List ℕ} {self : Tree} {i : ℕ} {x : Else} {st : Stores} {u : machine.Tree} (o n : ℕ) → Seen b self i x st u → n ≡ counted b Objects → o < n
-    → object (st .objects) o ≡ some (getD (st .objects) o none-there)
-there {st = st} o n s e l = object-there (st .objects) o none-there (omega (arith, objects-counted s))
-
-absent : {b : List ℕ} {self : Tree} {i : ℕ} {x : Else} {st : Stores} {u : machine.Tree} (o n : ℕ) → Seen b self i x st u → n ≡ counted b Objects → n ≤ o → object (st .objects) o ≡ none
-absent {st = st} o n s e l = object-absent (st .objects) o (omega (arith, objects-counted s))
-
-module _ {b : List ℕ} {self : Tree} {i : ℕ} {x : Else} {st : Stores} {u : machine.Tree} (seen : Seen b self i x st u) (env name : ℕ) (found : Lookup)
-    (looks : found ≡ lookupOf (find (scope (bindingsIn b) env) name)) where
-  abbrev target : Option Binding
-  target = find (scope (st .bindings) env) name
-
-  target-none : found ≡ Unbound → target ≡ none
-  target-none h = not-bound target found (looked env name found seen looks) h
-
-  target-is : (w : Value) → found ≡ Bound w → BoundTo target w
-  target-is w h = bound target found w (looked env name found seen looks) h
-
-  -- a waiting write
-  module _ (s : Code) (fs : List Frame) (f : ℕ) (v : Value) where
-    pub stores-unbound : found ≡ Unbound → Came b self i x (updateTarget s st fs f v target) b (record { effect = Still; tree = self })
-    stores-unbound h = rw (target-none h) came-still
-
-    pub stores-null : {c : List ℕ} {r : Tree} (w : Value) → found ≡ Bound w → w ≡ nil → Seen c r i x st failed
-        → Came b self i x (updateTarget s st fs f v target) c (record { effect = Moved; tree = r })
-    stores-null w h k after = let y = target-is w h in rw (y .there, y .is, k) (came-moved after)
-
-    pub stores-absent : (w : Value) (o n : ℕ) → found ≡ Bound w → w ≡ ref o → n ≡ counted b Objects → n ≤ o
-        → Came b self i x (updateTarget s st fs f v target) b (record { effect = Still; tree = self })
-    stores-absent w o n h k e l = let y = target-is w h in rw (y .there, y .is, k, absent o n seen e l) came-still
-
-    pub stores : {c : List ℕ} {r : Tree} (w : Value) (o n : ℕ) → found ≡ Bound w → w ≡ ref o → n ≡ counted b Objects → o < n
-        → ((y : Object) → object (st .objects) o ≡ some y
-        → Seen c r i x (record { objects = setFields (setField v (fieldsOf (s .program) (y .class)) (y .fields) f) (st .objects) o; bindings = st .bindings }) (returning nil fs))
-        → Came b self i x (updateTarget s st fs f v target) c (record { effect = Moved; tree = r })
-    stores w o n h k e l after =
-        let y = target-is w h in
-        let z = there o n seen e l in
-        rw (y .there, y .is, k, z) (came-moved (after (getD (st .objects) o none-there) z))
-
-  -- a waiting call
-  module _ (s : Code) (fs : List Frame) (m : ℕ) (v : Value) (room : ℕ) where
-    pub calls-unbound : found ≡ Unbound → Came b self i x (callTarget s st fs m v room target) b (record { effect = Still; tree = self })
-    calls-unbound h = rw (target-none h) came-still
-
-    pub calls-null : {c : List ℕ} {r : Tree} (w : Value) → found ≡ Bound w → w ≡ nil → Seen c r i x st failed
-        → Came b self i x (callTarget s st fs m v room target) c (record { effect = Moved; tree = r })
-    calls-null w h k after = let y = target-is w h in rw (y .there, y .is, k) (came-moved after)
-
-    pub calls-absent : (w : Value) (o n : ℕ) → found ≡ Bound w → w ≡ ref o → n ≡ counted b Objects → n ≤ o
-        → Came b self i x (callTarget s st fs m v room target) b (record { effect = Still; tree = self })
-    calls-absent w o n h k e l = let y = target-is w h in rw (y .there, y .is, k, absent o n seen e l) came-still
-
-    pub calls-there : {c : List ℕ} {r : Step} (w : Value) (o : ℕ) → found ≡ Bound w → w ≡ ref o
-        → Came b self i x (callObject s st fs m v room o (object (st .objects) o)) c r → Came b self i x (callTarget s st fs m v room target) c r
-    calls-there w o h k after = let y = target-is w h in rw (y .there, y .is, k) after
-
 -- a call with too few places left
 call-full : (st : Stores) (fs : List Frame) (v : Value) (o class : ℕ) (d : Method) (room : ℕ) → room < 2 → callMethod st fs v o class (some d) room ≡ full bindings
 call-full st fs v o class d zero l = refl
@@ -210,28 +120,27 @@ call-full st fs v o class d (suc zero) l = refl
 call-full st fs v o class d (suc (suc k)) l = absurd (omega arith)
 
 -- the method of the object's class, entered
-module _ {b : List ℕ} {self : Tree} {i : ℕ} {x : Else} {st : Stores} {u : machine.Tree} (seen : Seen b self i x st u) (s : List ℕ) (fs : List Frame) (m : ℕ) (v : Value) (o class : ℕ)
+module _ {b : List ℕ} {self : Tree} {i : ℕ} {x : Rest} {st : Stores} {u : machine.Tree} (seen : StateAt b self i x st u) (s : List ℕ) (fs : List Frame) (m : ℕ) (v : Value) (o class : ℕ)
     (l : o < counted b Objects) (e : class ≡ wordIn b Objects o 0) (found : Found) (is : MethodIs s class m found) where
   abbrev due : Outcome
   due = callObject (codeOf s) st fs m v (BINDINGS - counted b Bindings) o (object (st .objects) o)
 
   met : due ≡ callMethod st fs v o class (definedIn (programOf s) class m) (BINDINGS - counted b Bindings)
   met =
-      let z = there o (counted b Objects) seen refl l in
-      rw (z, ← class-read seen o class (getD (st .objects) o none-there) z e)
+      let z = object-there (st .objects) o blank-object (omega (arith, objects-counted seen)) in
+      rw (z, ← class-read seen o class (getD (st .objects) o blank-object) z e)
 
-  pub enters-none : found ≡ Nothing → Came b self i x due b (record { effect = Still; tree = self })
-  enters-none k = rw (met, defined-none is k) came-still
+  pub enters-none : found ≡ Nothing → due ≡ still
+  enters-none k = rw (met, defined-none is k)
 
   module _ (j n : ℕ) (k : found ≡ At j) (many : n ≡ counted b Bindings) where
-    pub enters-full : BINDINGS < n + 2 → Came b self i x due b (record { effect = Full bindings; tree = self })
-    enters-full h = rw (met, defined-at is k .1, call-full st fs v o class (methodAt s j) (BINDINGS - counted b Bindings) (omega arith)) came-full
+    pub enters-full : BINDINGS < n + 2 → due ≡ full bindings
+    enters-full h = rw (met, defined-at is k .1, call-full st fs v o class (methodAt s j) (BINDINGS - counted b Bindings) (omega arith))
 
-    pub enters : {c : List ℕ} {r : Tree} (param body : ℕ) → WithinLayout s → n + 2 ≤ BINDINGS → param ≡ recordWord s methods j 1 → body ≡ recordWord s methods j 3
-        → Seen c r i x (record { objects = st .objects; bindings = callBindings class o param v (st .bindings) }) (running body (n + 2) fs)
-        → Came b self i x due c (record { effect = Moved; tree = r })
-    enters param body w h p q after =
+    pub enters : (param body : ℕ) → WithinLayout s → n + 2 ≤ BINDINGS → param ≡ recordWord s methods j 1 → body ≡ recordWord s methods j 3
+        → due ≡ moved (record { objects = st .objects; bindings = callBindings class o param v (st .bindings) }) (running body (n + 2) fs)
+    enters param body w h p q =
         let d = defined-at is k in
         let room : BINDINGS - counted b Bindings ≡ suc (suc (BINDINGS - n - 2)) = omega arith in
         let env : suc (suc (length (st .bindings))) ≡ n + 2 = omega (arith, bindings-counted seen) in
-        rw (met, d .1, room, env, ← param-word s j, ← body-word s j w (d .0), ← p, ← q) (came-moved after)
+        rw (met, d .1, room, env, ← param-word s j, ← body-word s j w (d .0), ← p, ← q)

@@ -1,11 +1,17 @@
 // Moves of a thread with a value at its innermost frame: a cast, a lock, a write, a call.
+use crate::WaitingMember;
 use block::Area;
+use block::Layout;
 use environments::Lookup;
 use limits::Limits;
 use machine::Store;
 use machine::Value;
-use moves::Effect;
 use moves::Step;
+use moves::fails;
+use moves::full;
+use moves::moved;
+use moves::stays;
+use moves::target_of;
 use script::Found;
 use script::Section;
 use tree::Cell;
@@ -16,7 +22,7 @@ ghost use mathlib.Core.List.{List, _∷_};
 ghost use mathlib.Core.Option.{some};
 ghost use Prim.Native.Nat.{ℕ, _+_, _-_, _<_, _≤_};
 ghost use lib.ListN.{length, getD};
-ghost use Rattle.words.specs.Word.{WORD, bytes};
+ghost use Rattle.words.specs.Word.{bytes};
 ghost use Rattle.limits.specs.Limits.{BLOCK, OBJECTS, BINDINGS};
 ghost use Rattle.script.specs.Reading.{programOf};
 ghost use Rattle.script.specs.Statements.{WithinLayout};
@@ -29,36 +35,40 @@ ghost use Rattle.machine.specs.Machine.{scope, find, object, moved, withShut, s
 ghost use Rattle.typing.specs.Members.{fieldsOf};
 ghost use Rattle.block.specs.declared.Area.the-variants.{Objects, Bindings};
 ghost use Rattle.block.specs.Layout.{counted};
-ghost use Rattle.block.specs.Block.{valueWord, Parts, laid};
+ghost use Rattle.block.specs.Values.{Storable};
+ghost use Rattle.block.specs.Block.{Parts, laid};
 ghost use Rattle.tree.specs.declared.Tree as threads;
 ghost use Rattle.tree.specs.Entries.{blank};
 ghost use Rattle.environments.specs.Chains.{Chain};
-ghost use Rattle.state.specs.Hand.{Else, Seen, Sight};
-ghost use Rattle.moves.specs.Came.{Came, OwnFields};
+ghost use Rattle.state.specs.Represents.{Rest, StateAt, SomeState};
+ghost use Rattle.moves.specs.Performs.{Performs, OwnFields};
+
+// A call of the method of an object that is there, with its argument.
+struct Call {
+    value: Value,
+    object: u16,
+    method: u16,
+}
 
 // "a waiting cast vanishes"
 pub fn drop_cast(block: &mut [u8], tree: Tree, i: usize, v: Value) -> Step
-    requires { ⌜ Sight (now block) tree i × (0 < getD (tree .entries) i blank .frames) ⌝ }
+    requires { ⌜ SomeState (now block) tree i × (0 < getD (tree .entries) i blank .frames) ⌝ }
     ensures { λ r. ⌜
-        ((rest : Else) (st : Stores) (n : ℕ) (fs : List Frame) →
-        Seen (now (block .entry)) tree i rest st (returning v (casts n ∷ fs)) →
-        Came (now (block .entry)) tree i rest (moved st (returning v fs)) (now (block .exit)) r)
+        ((rest : Rest) (st : Stores) (n : ℕ) (fs : List Frame) →
+        StateAt (now (block .entry)) tree i rest st (returning v (casts n ∷ fs)) →
+        Performs (now (block .entry)) tree i rest (moved st (returning v fs)) (now (block .exit)) r)
         ⌝ }
 {
-    let after = state::pop(block, tree, i, Cell::Returning(v));
-    Step {
-        effect: Effect::Moved,
-        tree: after,
-    }
+    moved(state::pop(block, tree, i, Cell::Returning(v)))
 }
 
 // The object o opened, if there is one.
 fn open_object(block: &mut [u8], o: u16)
     requires { ⌜ (length (now block) ≡ BLOCK) × (counted (now block) Objects ≤ OBJECTS) ⌝ }
     ensures { λ r. ⌜
-        ((tree : threads.Tree) (i : ℕ) (rest : Else) (st : Stores) (u : machine.Tree) →
-        Seen (now (block .entry)) tree i rest st u →
-        Seen (now (block .exit)) tree i rest (withShut false st o) u)
+        ((tree : threads.Tree) (i : ℕ) (rest : Rest) (st : Stores) (u : machine.Tree) →
+        StateAt (now (block .entry)) tree i rest st u →
+        StateAt (now (block .exit)) tree i rest (withShut false st o) u)
         ⌝ }
 {
     let n = o as usize;
@@ -70,30 +80,26 @@ fn open_object(block: &mut [u8], o: u16)
 
 // "A value at a lock frame opens the object."
 pub fn open_lock(block: &mut [u8], tree: Tree, i: usize, v: Value, o: u16) -> Step
-    requires { ⌜ Sight (now block) tree i × (0 < getD (tree .entries) i blank .frames) ⌝ }
+    requires { ⌜ SomeState (now block) tree i × (0 < getD (tree .entries) i blank .frames) ⌝ }
     ensures { λ r. ⌜
-        ((rest : Else) (st : Stores) (fs : List Frame) →
-        Seen (now (block .entry)) tree i rest st (returning v (locks o ∷ fs)) →
-        Came (now (block .entry)) tree i rest (moved (withShut false st o) (returning v fs)) (now (block .exit)) r)
+        ((rest : Rest) (st : Stores) (fs : List Frame) →
+        StateAt (now (block .entry)) tree i rest st (returning v (locks o ∷ fs)) →
+        Performs (now (block .entry)) tree i rest (moved (withShut false st o) (returning v fs)) (now (block .exit)) r)
         ⌝ }
 {
     open_object(block, o);
-    let after = state::pop(block, tree, i, Cell::Returning(v));
-    Step {
-        effect: Effect::Moved,
-        tree: after,
-    }
+    moved(state::pop(block, tree, i, Cell::Returning(v)))
 }
 
 // v stored in the field f of the object o, if its class has one.
 fn write_field(s: &[u8], starts: &[u16], block: &mut [u8], o: usize, f: u16, v: Value)
-    requires { ⌜ WithinLayout (now s) × Starts (now s) (now starts) × (length (now block) ≡ BLOCK) × (o < OBJECTS) × (valueWord v < WORD) ⌝ }
+    requires { ⌜ WithinLayout (now s) × Starts (now s) (now starts) × (length (now block) ≡ BLOCK) × (o < OBJECTS) × Storable v ⌝ }
     ensures { λ r. ⌜
-        ((tree : threads.Tree) (i : ℕ) (rest : Else) (st : Stores) (u : machine.Tree) (y : Object) →
-        Seen (now (block .entry)) tree i rest st u →
+        ((tree : threads.Tree) (i : ℕ) (rest : Rest) (st : Stores) (u : machine.Tree) (y : Object) →
+        StateAt (now (block .entry)) tree i rest st u →
         OwnFields (codeOf (now (s .entry))) (st .objects) →
         object (st .objects) o ≡ some y →
-        Seen (now (block .exit)) tree i rest
+        StateAt (now (block .exit)) tree i rest
         (record {
           objects = setFields (setField v (fieldsOf (programOf (now (s .entry))) (y .class)) (y .fields) f) (st .objects) o;
           bindings = st .bindings;
@@ -101,7 +107,7 @@ fn write_field(s: &[u8], starts: &[u16], block: &mut [u8], o: usize, f: u16, v: 
         u)
         ⌝ }
 {
-    let class = areas::word(block, Area::Objects, o, 0);
+    let class = areas::word(block, Area::Objects, o, Layout::CLASS);
     let Found::At(k) = members::field_place(s, starts, class, f) else {
         return;
     };
@@ -115,59 +121,43 @@ pub fn store_value(
     block: &mut [u8],
     tree: Tree,
     i: usize,
-    v: Value,
-    env: u16,
-    x: u16,
-    f: u16,
+    w: WaitingMember,
 ) -> Step
     requires { ⌜
-        WithinLayout (now s) × Starts (now s) (now starts) × Sight (now block) tree i × (0 < getD (tree .entries) i blank .frames) ×
-        Chain (now block) env × (valueWord v < WORD)
+        WithinLayout (now s) × Starts (now s) (now starts) × SomeState (now block) tree i × (0 < getD (tree .entries) i blank .frames) ×
+        Chain (now block) (w .env) × Storable (w .value)
         ⌝ }
     ensures { λ r. ⌜
-        ((rest : Else) (st : Stores) (g : Frame) (fs : List Frame) →
-        Seen (now (block .entry)) tree i rest st (returning v (g ∷ fs)) →
+        ((rest : Rest) (st : Stores) (g : Frame) (fs : List Frame) →
+        StateAt (now (block .entry)) tree i rest st (returning (w .value) (g ∷ fs)) →
         OwnFields (codeOf (now (s .entry))) (st .objects) →
-        Came (now (block .entry)) tree i rest (updateTarget (codeOf (now (s .entry))) st fs f v (find (scope (st .bindings) env) x)) (now (block .exit)) r)
+        Performs (now (block .entry)) tree i rest
+        (updateTarget (codeOf (now (s .entry))) st fs (w .member) (w .value) (find (scope (st .bindings) (w .env)) (w .target)))
+        (now (block .exit)) r)
         ⌝ }
 {
-    let found = environments::variable(block, env, x);
-    let Lookup::Bound(target) = found else {
-        return Step {
-            effect: Effect::Still,
-            tree: tree,
-        };
+    let found = target_of(block, w.env, w.target);
+    let Lookup::Bound(value) = found else {
+        return stays(tree);
     };
-    let Value::Ref(o) = target else {
-        let after = state::fail(block, tree, i);
-        return Step {
-            effect: Effect::Moved,
-            tree: after,
-        };
+    let Value::Ref(o) = value else {
+        return fails(block, tree, i);
     };
-    if areas::count(block, Area::Objects) <= o as usize {
-        return Step {
-            effect: Effect::Still,
-            tree: tree,
-        };
-    }
     let after = state::pop(block, tree, i, Cell::Returning(Value::Null));
-    write_field(s, starts, block, o as usize, f, v);
-    Step {
-        effect: Effect::Moved,
-        tree: after,
-    }
+    let v = w.value;
+    write_field(s, starts, block, o as usize, w.member, v);
+    moved(after)
 }
 
 // The two bindings of a call, after n others: `this` with the object's class, and the parameter with its declared type.
 fn add_call(block: &mut [u8], n: usize, class: u16, o: u16, param: u16, v: Value)
     requires { ⌜
-        (n ≡ counted (now block) Bindings) × (n + 2 ≤ BINDINGS) × (o < OBJECTS) × (valueWord v < WORD) × ((p : Parts) × (now block ≡ bytes (laid p)))
+        (n ≡ counted (now block) Bindings) × (n + 2 ≤ BINDINGS) × (o < OBJECTS) × Storable v × ((p : Parts) × (now block ≡ bytes (laid p)))
         ⌝ }
     ensures { λ r. ⌜
-        ((tree : threads.Tree) (i : ℕ) (rest : Else) (st : Stores) (u : machine.Tree) →
-        Seen (now (block .entry)) tree i rest st u →
-        Seen (now (block .exit)) tree i rest (record { objects = st .objects; bindings = callBindings class o param v (st .bindings) }) u)
+        ((tree : threads.Tree) (i : ℕ) (rest : Rest) (st : Stores) (u : machine.Tree) →
+        StateAt (now (block .entry)) tree i rest st u →
+        StateAt (now (block .exit)) tree i rest (record { objects = st .objects; bindings = callBindings class o param v (st .bindings) }) u)
         ⌝ }
 {
     areas::add_binding(block, 0, class, Value::Ref(o), 0);
@@ -175,48 +165,31 @@ fn add_call(block: &mut [u8], n: usize, class: u16, o: u16, param: u16, v: Value
 }
 
 // "a waiting call adds two .. and enters the body with no others", where the object o is there.
-fn call_object(
-    s: &[u8],
-    starts: &[u16],
-    block: &mut [u8],
-    tree: Tree,
-    i: usize,
-    v: Value,
-    o: u16,
-    m: u16,
-) -> Step
+fn call_object(s: &[u8], starts: &[u16], block: &mut [u8], tree: Tree, i: usize, call: Call) -> Step
     requires { ⌜ WithinLayout (now s) × Starts (now s) (now starts) ×
-        Sight (now block) tree i × (0 < getD (tree .entries) i blank .frames) × (o < counted (now block) Objects) × (valueWord v < WORD) ⌝ }
+        SomeState (now block) tree i × (0 < getD (tree .entries) i blank .frames) × (call .object < counted (now block) Objects) × Storable (call .value) ⌝ }
     ensures { λ r. ⌜
-        ((rest : Else) (st : Stores) (g : Frame) (fs : List Frame) →
-        Seen (now (block .entry)) tree i rest st (returning v (g ∷ fs)) →
-        Came (now (block .entry)) tree i rest
-        (callObject (codeOf (now (s .entry))) st fs m v (BINDINGS - counted (now (block .entry)) Bindings) o (object (st .objects) o))
+        ((rest : Rest) (st : Stores) (g : Frame) (fs : List Frame) →
+        StateAt (now (block .entry)) tree i rest st (returning (call .value) (g ∷ fs)) →
+        Performs (now (block .entry)) tree i rest
+        (callObject (codeOf (now (s .entry))) st fs (call .method) (call .value) (BINDINGS - counted (now (block .entry)) Bindings)
+        (call .object) (object (st .objects) (call .object)))
         (now (block .exit)) r)
         ⌝ }
 {
-    let class = areas::word(block, Area::Objects, o as usize, 0);
-    let Found::At(j) = members::method_record(s, starts, class, m) else {
-        return Step {
-            effect: Effect::Still,
-            tree: tree,
-        };
+    let class = areas::word(block, Area::Objects, call.object as usize, Layout::CLASS);
+    let Found::At(j) = members::method_record(s, starts, class, call.method) else {
+        return stays(tree);
     };
     let n = areas::count(block, Area::Bindings);
     if Limits::BINDINGS < n + 2 {
-        return Step {
-            effect: Effect::Full(Store::Bindings),
-            tree: tree,
-        };
+        return full(tree, Store::Bindings);
     }
     let param = sections::record_word(s, Section::Methods, j, 1);
     let body = sections::record_word(s, Section::Methods, j, 3);
-    add_call(block, n, class, o, param, v);
-    let after = state::pop(block, tree, i, Cell::Running(body, (n + 2) as u16));
-    Step {
-        effect: Effect::Moved,
-        tree: after,
-    }
+    let v = call.value;
+    add_call(block, n, class, call.object, param, v);
+    moved(state::pop(block, tree, i, Cell::Running(body, (n + 2) as u16)))
 }
 
 // "a waiting call adds two, this with the object's class and the parameter with its declared type, and enters the body with no others"
@@ -226,42 +199,33 @@ pub fn enter_method(
     block: &mut [u8],
     tree: Tree,
     i: usize,
-    v: Value,
-    env: u16,
-    x: u16,
-    m: u16,
+    w: WaitingMember,
 ) -> Step
     requires { ⌜
-        WithinLayout (now s) × Starts (now s) (now starts) × Sight (now block) tree i × (0 < getD (tree .entries) i blank .frames) ×
-        Chain (now block) env × (valueWord v < WORD)
+        WithinLayout (now s) × Starts (now s) (now starts) × SomeState (now block) tree i × (0 < getD (tree .entries) i blank .frames) ×
+        Chain (now block) (w .env) × Storable (w .value)
         ⌝ }
     ensures { λ r. ⌜
-        ((rest : Else) (st : Stores) (g : Frame) (fs : List Frame) →
-        Seen (now (block .entry)) tree i rest st (returning v (g ∷ fs)) →
-        Came (now (block .entry)) tree i rest
-        (callTarget (codeOf (now (s .entry))) st fs m v (BINDINGS - counted (now (block .entry)) Bindings) (find (scope (st .bindings) env) x))
+        ((rest : Rest) (st : Stores) (g : Frame) (fs : List Frame) →
+        StateAt (now (block .entry)) tree i rest st (returning (w .value) (g ∷ fs)) →
+        Performs (now (block .entry)) tree i rest
+        (callTarget (codeOf (now (s .entry))) st fs (w .member) (w .value) (BINDINGS - counted (now (block .entry)) Bindings)
+        (find (scope (st .bindings) (w .env)) (w .target)))
         (now (block .exit)) r)
         ⌝ }
 {
-    let found = environments::variable(block, env, x);
-    let Lookup::Bound(target) = found else {
-        return Step {
-            effect: Effect::Still,
-            tree: tree,
-        };
+    let found = target_of(block, w.env, w.target);
+    let Lookup::Bound(value) = found else {
+        return stays(tree);
     };
-    let Value::Ref(o) = target else {
-        let after = state::fail(block, tree, i);
-        return Step {
-            effect: Effect::Moved,
-            tree: after,
-        };
+    let Value::Ref(o) = value else {
+        return fails(block, tree, i);
     };
-    if areas::count(block, Area::Objects) <= o as usize {
-        return Step {
-            effect: Effect::Still,
-            tree: tree,
-        };
-    }
-    call_object(s, starts, block, tree, i, v, o, m)
+    let v = w.value;
+    let call = Call {
+        value: v,
+        object: o,
+        method: w.member,
+    };
+    call_object(s, starts, block, tree, i, call)
 }

@@ -3,21 +3,19 @@ use mathlib.Core.Path.{_≡_, refl, sym, _∙_}
 use mathlib.Core.Bool.{Bool, true, false, not, _&&_}
 use mathlib.Core.List.{List, reverse}
 use mathlib.Core.Option.{Option, none, some}
-use Prim.Native.Nat.{ℕ}
+use Prim.Native.Nat.{ℕ, _≤_}
 use native.Mathlib.Omega.{arith}
-use native.Mathlib.Decide.{decLt}
 use borrow.Author.Tests.{not-true, not-false, le-leb}
-use lib.ListN.{length, length-map, length-reverse, List·getD-eq-default}
+use lib.ListN.{length, length-map, length-reverse}
 use Rattle.limits.specs.Limits.{OBJECTS, BINDINGS, FRAMES, THREADS}
-use Rattle.script.specs.Lists.{named}
 use Rattle.script.specs.Asking.{Decides}
-use Rattle.typing.specs.Members.{typeIn}
 use Rattle.inference.specs.At.{Blank}
 use Rattle.machine.specs.declared.Want.the-variants.{Upto as upto}
 use Rattle.machine.specs.Config.{Config, codeOf}
 use Rattle.machine.specs.Machine.{fieldCount, limits, frameCount, threadCount}
 use Rattle.machine.specs.Decide.{only, storesTest, treeTest, coveredTest, withinLimitsTest, wellFormedTest}
 use Rattle.block.specs.declared.Area.the-variants.{Objects, Bindings, Positions, Frames}
+use Rattle.block.specs.Layout.{counted}
 use Rattle.block.specs.Block.{objectWords, bindingWords, positionWords, frameWords, preorder, framesOf, partsOf}
 use Rattle.block.specs.Fits.{Few}
 use Rattle.block.specs.Decode.{configIn, decode}
@@ -26,9 +24,9 @@ use Rattle.block.proofs.Trees.{positions-threads}
 use Rattle.block.proofs.Decode.{encode-decode}
 use Rattle.representation.proofs.InOrder.{in-order-decodes}
 use Rattle.representation.proofs.Ordered.{decoded-in-order}
-use Rattle.environments.specs.Chains.{Zeros}
 use Rattle.canonical.proofs.Answers.{after-yes, after-no}
 use Rattle.values.specs.Objects.{Asked}
+use Rattle.values.proofs.StoreLaws.{ordered-asked}
 use Rattle.locks.specs.Locking.{Sized, locksTest}
 use Rattle.frames.specs.Expecting.{Ready}
 use Rattle.frames.proofs.StoresPassed.{stores-passed}
@@ -47,15 +45,6 @@ few-within c few =
 and-true : (u : Bool) → u && true ≡ u
 and-true true = refl
 and-true false = refl
-
--- a table of no variable is zeros
-empty-zeros : {s starts forks table : List ℕ} → Blank s starts forks table → Zeros table
-unfolding typeIn named
-empty-zeros {table = table} k x =
-    elim (decLt x (length table)) [
-      | yes l ↦ k .empty .holds x l
-      | no l ↦ List·getD-eq-default table 0 {n = x} (omega arith)
-    ]
 
 module _ (s : List ℕ) (t : ℕ) (b : List ℕ) where
   abbrev c : Config
@@ -92,10 +81,13 @@ module _ (s : List ℕ) (t : ℕ) (b : List ℕ) where
           rw (d, few-within c (encode-decode (fieldCount s) b c d .1 .few), and-true (coveredTest (c .stores .objects) (c .tree))) refl
 
       pub asked : {starts forks table : List ℕ} → Blank s starts forks table → Asked s b
-      asked k = record { script = k .within; block = order }
+      asked k = ordered-asked (k .within) order
+
+      pub few-bindings : counted b Bindings ≤ BINDINGS
+      few-bindings = order .areas Bindings .few
 
       pub sized : Sized b
-      sized = record { long = order .long; few = order .few }
+      sized = record { long = order .long; few = λ a. order .areas a .few }
 
       module _ {p : Bool} (fit : p ≡ stores) where
         pub bad-stores : not p ≡ true → Formed false
@@ -109,11 +101,7 @@ module _ (s : List ℕ) (t : ℕ) (b : List ℕ) where
           ready k =
               let passed = stores-passed s b fits in
               record {
-                within = k .within;
-                runs = k .runs;
-                sharing = k .sharing;
-                names = k .names;
-                zeros = empty-zeros k;
+                blank = k;
                 in-order = order;
                 links = λ i l. passed i l .0;
                 types = λ i l. passed i l .1;

@@ -20,8 +20,8 @@ binding-word-requires c κs = (c .before .before .before .before .pre .0 .long, 
 binding-word-requires-2 : tie.Need-binding-word-requires-2 Inv-loop μ-loop
 binding-word-requires-2 c κs = (c .before .before .before .before .before .pre .0 .long, laws.reached (c .before .before .before .before .before .pre .0) (c .before .before .loop .inv .within) (omega arith), omega arith)
 
-note-requires : tie.Need-note-requires Inv-loop μ-loop
-note-requires c κs = laws.typed (c .before .before .before .before .before .before .before .pre .0) (c .before .before .before .before .before .before .before .pre .1) (c .before .before .before .before .loop .inv .within) (omega arith) _ (c .before .binding-word2 .ensures .0)
+store-type-requires : tie.Need-store-type-requires Inv-loop μ-loop
+store-type-requires c κs = laws.typed (c .before .before .before .before .before .before .before .pre .0) (c .before .before .before .before .before .before .before .pre .1) (c .before .before .before .before .loop .inv .within) (omega arith) _ (c .before .binding-word2 .ensures .0)
 
 binding-word-requires-3 : tie.Need-binding-word-requires-3 Inv-loop μ-loop
 binding-word-requires-3 c κs = (c .before .before .before .before .before .before .before .before .before .before .pre .0 .long, laws.reached (c .before .before .before .before .before .before .before .before .before .before .pre .0) (c .before .before .before .before .before .before .before .loop .inv .within) (omega arith), omega arith)
@@ -30,7 +30,7 @@ loop-less : tie.Need-loop-less Inv-loop μ-loop
 loop-less c = laws.nearer (c .before .before .before .before .before .before .before .before .before .before .before .pre .0) (c .before .before .before .before .before .before .before .before .loop .inv .within) (omega arith) _ (c .binding-word3 .ensures .0)
 
 loop-again : tie.Need-loop-again Inv-loop μ-loop
-loop-again c = laws.fill-more (c .before .before .before .before .before .before .before .before .before .before .before .pre .0) _ _ _ (c .before .before .before .before .before .before .before .before .loop .inv) (omega arith) (c .before .before .before .before .before .before .binding-word .ensures .0) (c .before .before .before .before .before .binding-word2 .ensures .0) (c .before .before .before .note .ensures) (c .binding-word3 .ensures .0)
+loop-again c = laws.fill-more (c .before .before .before .before .before .before .before .before .before .before .before .pre .0) _ _ _ (c .before .before .before .before .before .before .before .before .loop .inv) (omega arith) (c .before .before .before .before .before .before .binding-word .ensures .0) (c .before .before .before .before .before .binding-word2 .ensures .0) (c .before .before .before .store-type .ensures) (c .binding-word3 .ensures .0)
 
 same-length : tie.Need-same-length Inv-loop μ-loop
 same-length c = c .before .loop .inv .size
@@ -49,7 +49,7 @@ fill-spec =
     binding-word-requires
     (λ c. search needs)
     binding-word-requires-2
-    note-requires
+    store-type-requires
     (λ c. search needs)
     binding-word-requires-3
     (λ c. search needs)

@@ -17,20 +17,20 @@ loop-holds c = laws.begun (c .before .pre)
 binding-word-requires : tie.Need-binding-word-requires Inv-loop μ-loop
 binding-word-requires c κs = (c .before .before .before .pre .long, laws.reached (c .before .before .before .pre) (c .before .loop .inv) (omega arith), omega arith)
 
+value-requires : tie.Need-value-requires Inv-loop μ-loop
+value-requires c κs = (c .before .before .before .before .before .pre .long, laws.reached (c .before .before .before .before .before .pre) (c .before .before .before .loop .inv) (omega arith), omega arith)
+
+returns : tie.Need-returns Inv-loop μ-loop
+returns c = laws.found (c .before .before .before .before .before .before .pre) (c .before .before .before .before .loop .inv) (omega arith) _ _ (c .before .before .binding-word .ensures .0) (c .before .if1 .taken) (c .value .ensures)
+
 binding-word-requires-2 : tie.Need-binding-word-requires-2 Inv-loop μ-loop
 binding-word-requires-2 c κs = (c .before .before .before .before .before .pre .long, laws.reached (c .before .before .before .before .before .pre) (c .before .before .before .loop .inv) (omega arith), omega arith)
 
-returns : tie.Need-returns Inv-loop μ-loop
-returns c = laws.found (c .before .before .before .before .before .before .before .pre) (c .before .before .before .before .before .loop .inv) (omega arith) _ _ _ (c .before .before .before .binding-word .ensures .0) (c .before .before .if1 .taken) (c .before .binding-word2 .ensures .0) (c .value-of .ensures)
-
-binding-word-requires-3 : tie.Need-binding-word-requires-3 Inv-loop μ-loop
-binding-word-requires-3 c κs = (c .before .before .before .before .before .pre .long, laws.reached (c .before .before .before .before .before .pre) (c .before .before .before .loop .inv) (omega arith), omega arith)
-
 loop-less : tie.Need-loop-less Inv-loop μ-loop
-loop-less c = laws.nearer (c .before .before .before .before .before .before .pre) (c .before .before .before .before .loop .inv) (omega arith) _ (c .binding-word3 .ensures .0)
+loop-less c = laws.nearer (c .before .before .before .before .before .before .pre) (c .before .before .before .before .loop .inv) (omega arith) _ (c .binding-word2 .ensures .0)
 
 loop-again : tie.Need-loop-again Inv-loop μ-loop
-loop-again c = laws.onward (c .before .before .before .before .before .before .pre) (c .before .before .before .before .loop .inv) (omega arith) _ _ (c .before .before .binding-word .ensures .0) (c .before .if1 .left) (c .binding-word3 .ensures .0)
+loop-again c = laws.onward (c .before .before .before .before .before .before .pre) (c .before .before .before .before .loop .inv) (omega arith) _ _ (c .before .before .binding-word .ensures .0) (c .before .if1 .left) (c .binding-word2 .ensures .0)
 
 returns-2 : tie.Need-returns-2 Inv-loop μ-loop
 returns-2 c = laws.not-found (c .before .before .before .pre) (c .before .loop .inv) (omega arith)
@@ -45,11 +45,10 @@ variable-spec =
     (λ c. search needs)
     binding-word-requires
     (λ c. search needs)
-    binding-word-requires-2
-    (λ c κs. search needs)
+    value-requires
     returns
     (λ c. search needs)
-    binding-word-requires-3
+    binding-word-requires-2
     (λ c. search needs)
     loop-less
     loop-again

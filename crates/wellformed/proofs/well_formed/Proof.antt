@@ -11,8 +11,11 @@ returns c =
 
 stores-fit-requires : tie.Need-stores-fit-requires
 stores-fit-requires c κs =
-    let back = c .before .before .before .before .before .before .before in
-    (laws.asked (back .args .s .now) (back .args .t) (back .args .block .now) (c .before .in-order .ensures) (c .if1 .left) (back .pre .0), back .pre .0 .runs)
+    let back = c .before .before .before .before .before .before .before in (
+      laws.asked (back .args .s .now) (back .args .t) (back .args .block .now) (c .before .in-order .ensures) (c .if1 .left) (back .pre .0),
+      laws.few-bindings (back .args .s .now) (back .args .t) (back .args .block .now) (c .before .in-order .ensures) (c .if1 .left),
+      back .pre .0 .runs,
+    )
 
 returns-2 : tie.Need-returns-2
 returns-2 c =

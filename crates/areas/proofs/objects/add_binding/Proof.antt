@@ -6,14 +6,10 @@ use Rattle.areas.proofs.objects.add_binding.Tie as tie
 
 returns : tie.Need-returns
 returns c p is =
-    let count = c .before .before .before .before .before .before .before .before .before .before .before .before .before .count in
-    let word-of = c .before .before .before .before .before .before .before .before .before .before .before .before .word-of in
-    let s = c .before .before .before .before .before .before .before .before .before .before .before .before .before .before .before .before in
-    let put-pair = c .before .before .before .before .before .before .before .before .before .before .put-pair in
-    let put-pair2 = c .before .before .before .before .before .before .put-pair2 in
-    let put-count = c .before .before .put-count in
-    binding-added _ p is _ _ _ (count .result) (word-of .result) (record { name = s .args .name; type = s .args .t; value = s .args .value; link = s .args .link }) (count .ensures .0)
-    (omega (arith, count .ensures .0, s .pre .1)) (word-of .ensures .0) (put-pair .ensures) (put-pair2 .ensures) (put-count .ensures)
+    let count = c .before .before .before .before .before .before .before .before .before .before .before .before .before .before .before .before .count in
+    let s = c .before .before .before .before .before .before .before .before .before .before .before .before .before .before .before .before .before .before .before in
+    binding-added _ p is _ _ _ _ (count .result) (record { name = s .args .name; type = s .args .t; value = s .args .value; link = s .args .link }) (count .ensures .0)
+    (omega (arith, count .ensures .0, s .pre .1)) (c .before .before .before .before .before .before .before .before .before .before .before .before .before .before .put-pair .ensures) (c .before .before .before .before .before .before .before .before .before .before .put-value .ensures) (c .before .before .before .before .before .before .put .ensures) (c .before .before .put-count .ensures)
 
 pub add-binding-spec : {M : Type 1} → statement M
 add-binding-spec =

@@ -5,10 +5,9 @@ use Rattle.areas.proofs.objects.put_field.Tie as tie
 
 returns : tie.Need-returns
 returns c p d is h l =
-    let s = c .before .before .before .before .before .before in
-    let word-of = c .before .before .before .before .word-of in
-    let put = c .before .before .put in
-    object-field _ p is _ _ d (s .pre .1) h _ _ (s .args .v) (word-of .ensures .0) (s .pre .2) l (put .ensures)
+    let s = c .before .before .before .before .before in
+    let put = c .before .before .put-value in
+    object-field _ p is _ _ d (s .pre .1) h _ (s .args .v) (s .pre .2) l (put .ensures)
 
 pub put-field-spec : {M : Type 1} → statement M
-put-field-spec = tie.close (tie.spec (λ c κs. search needs) (λ c. search needs) (λ c κs. search needs) (λ c. search needs) returns)
+put-field-spec = tie.close (tie.spec (λ c. search needs) (λ c. search needs) (λ c κs. search needs) (λ c. search needs) returns)

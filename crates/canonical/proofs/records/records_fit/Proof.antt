@@ -2,7 +2,7 @@ use native.Mathlib.Omega.{arith}
 use borrow.Author.Needs.{needs}
 use Prim.Native.Nat.{_-_}
 use Rattle.machine.specs.Machine.{fieldCount}
-use Rattle.canonical.specs.Parts.{RecordsOk}
+use Rattle.representation.specs.InOrder.{RecordsOk}
 use Rattle.canonical.proofs.EachLaws as laws
 use Rattle.canonical.proofs.records.records_fit.Statement.{statement}
 use Rattle.canonical.proofs.records.records_fit.Tie as tie

@@ -4,14 +4,14 @@ use Prim.Native.Nat.{_-_, _*_, _≤_}
 use mathlib.Core.Path.{_≡_}
 use Rattle.script.specs.Lists.{sumBelow}
 use Rattle.block.specs.declared.Area.the-variants.{Positions}
-use Rattle.block.specs.Layout.{wordIn}
+use Rattle.block.specs.Layout.{wordIn, WAITING}
 use Rattle.sections.proofs.CodeLaws.{sum-none}
 use Rattle.canonical.proofs.TreeLaws as laws
 use Rattle.canonical.proofs.trees.frames_add_up.Statement.{statement}
 use Rattle.canonical.proofs.trees.frames_add_up.Tie as tie
 
 abbrev Inv-loop : tie.InvT-loop
-Inv-loop block n sum₀ i₀ sum i = (i ≤ n) × (sum ≡ sumBelow (λ k. wordIn block Positions k 4) i) × (sum ≤ 65536 * i)
+Inv-loop block n sum₀ i₀ sum i = (i ≤ n) × (sum ≡ sumBelow (λ k. wordIn block Positions k WAITING) i) × (sum ≤ 65536 * i)
 
 abbrev μ-loop : tie.MeasureT-loop
 μ-loop block n sum₀ i₀ sum i = n - i
@@ -29,7 +29,7 @@ add-i : tie.Need-add-i Inv-loop μ-loop
 add-i c = omega (arith, c .before .before .before .count .ensures .1)
 
 loop-again : tie.Need-loop-again Inv-loop μ-loop
-loop-again c = (omega arith, laws.sum-next (λ k. wordIn (c .before .before .before .before .before .args .block .now) Positions k 4) (c .before .before .loop .i) _ _ (c .before .before .loop .inv .1) (c .word .ensures .0), omega (arith, c .word .ensures .1, c .before .before .loop .inv .2))
+loop-again c = (omega arith, laws.sum-next (λ k. wordIn (c .before .before .before .before .before .args .block .now) Positions k WAITING) (c .before .before .loop .i) _ _ (c .before .before .loop .inv .1) (c .word .ensures .0), omega (arith, c .word .ensures .1, c .before .before .loop .inv .2))
 
 returns : tie.Need-returns Inv-loop μ-loop
 returns c = laws.sum-all _ (c .before .before .loop .i) _ _ _ (c .before .before .loop .inv .1) (omega arith) (c .before .before .before .count .ensures .0) (c .count2 .ensures .0)

@@ -1,12 +1,12 @@
 use native.Mathlib.Omega.{arith}
 use Prim.Native.Nat.{_-_, _≤_}
-use Rattle.canonical.specs.Parts.{Zeros}
+use Rattle.representation.specs.InOrder.{Unused, wordsOf}
 use Rattle.canonical.proofs.ZeroLaws as laws
 use Rattle.canonical.proofs.zeros.zeros.Statement.{statement}
 use Rattle.canonical.proofs.zeros.zeros.Tie as tie
 
 abbrev Inv-loop : tie.InvT-loop
-Inv-loop block from to n₀ n = (from ≤ n) × Zeros block from n
+Inv-loop block from to n₀ n = (from ≤ n) × Unused (wordsOf block) from n
 
 abbrev μ-loop : tie.MeasureT-loop
 μ-loop block from to n₀ n = to - n

@@ -1,7 +1,8 @@
-use native.Mathlib.Omega.{arith}
 use borrow.Author.Needs.{needs}
+use native.Mathlib.Omega.{arith}
 use mathlib.Core.Path.{refl}
-use Rattle.state.proofs.Seeing.{seen-inside, sighted}
+use Rattle.state.proofs.Seeing.{seen-inside, some-state}
+use Rattle.moves.proofs.Laws.{performs-as}
 use Rattle.moves.proofs.Ready.{seen-chain, seen-typed, seen-env}
 use Rattle.choices.proofs.WakeLaws as laws
 use Rattle.choices.proofs.nodes.resume.Statement.{statement}
@@ -14,15 +15,14 @@ element-copy-out-entry : tie.Need-element-copy-out-entry
 element-copy-out-entry c = omega (arith, seen-inside (c .before .before .before .before .before .pre .1 .here .seen), c .before .before .before .before .before .pre .1 .here .seen .tidy .small)
 
 returns : tie.Need-returns
-returns c = (λ c₀ p rest fs own h. laws.finished-stays _ c₀ p _ fs h (c .if1 .taken), refl)
+returns c = (λ c₀ p rest fs own h. performs-as (laws.finished-stays _ c₀ p _ fs h (c .before .if1 .taken)) (c .stays .ensures _ _ rest), refl)
 
 wake-requires : tie.Need-wake-requires
-wake-requires c κs = ((c .before .before .before .before .before .before .before .before .before .before .before .before .before .before .before .pre .0, laws.resumes-there (c .before .before .before .before .before .before .before .before .before .before .before .before .before .before .before .pre .1) _ _ _ (c .before .before .before .before .before .before .before .if1 .left) (c .before .before .before .before .before .top-frame .ensures) (c .before .before .before .f .given .1) .node), ((seen-chain (c .before .before .before .before .before .before .before .before .before .before .before .before .before .before .before .pre .1 .here .seen) (c .before .before .before .before .before .before .before .before .before .before .before .before .before .before .before .pre .0 .within) (c .before .before .before .before .before .before .before .before .before .before .before .before .before .before .before .pre .1 .stores .bindings) _ (laws.resumes-there (c .before .before .before .before .before .before .before .before .before .before .before .before .before .before .before .pre .1) _ _ _ (c .before .before .before .before .before .before .before .if1 .left) (c .before .before .before .before .before .top-frame .ensures) (c .before .before .before .f .given .1) .env), seen-typed (c .before .before .before .before .before .before .before .before .before .before .before .before .before .before .before .pre .1 .here .seen) (c .before .before .before .before .before .before .before .before .before .before .before .before .before .before .before .pre .0 .within) (c .before .before .before .before .before .before .before .before .before .before .before .before .before .before .before .pre .1 .stores .bindings), seen-env (c .before .before .before .before .before .before .before .before .before .before .before .before .before .before .before .pre .1 .here .seen) (c .before .before .before .before .before .before .before .before .before .before .before .before .before .before .before .pre .0 .within) (c .before .before .before .before .before .before .before .before .before .before .before .before .before .before .before .pre .1 .stores .bindings) _), (sighted (c .before .before .before .before .before .before .before .before .before .before .before .before .before .before .before .pre .1 .here .seen), omega arith, laws.resumes-word (c .before .before .before .before .before .before .before .before .before .before .before .before .before .before .before .pre .1))))
+wake-requires c κs = ((c .before .before .before .before .before .before .before .before .before .before .before .before .before .before .before .pre .0, laws.resumes-there (c .before .before .before .before .before .before .before .before .before .before .before .before .before .before .before .pre .1) _ _ _ (c .before .before .before .before .before .before .before .if1 .left) (c .before .before .before .before .before .top-frame .ensures) (c .before .before .before .f .given .1) .node), ((seen-chain (c .before .before .before .before .before .before .before .before .before .before .before .before .before .before .before .pre .1 .here .seen) (c .before .before .before .before .before .before .before .before .before .before .before .before .before .before .before .pre .0 .within) (c .before .before .before .before .before .before .before .before .before .before .before .before .before .before .before .pre .1 .stores .bindings) _ (laws.resumes-there (c .before .before .before .before .before .before .before .before .before .before .before .before .before .before .before .pre .1) _ _ _ (c .before .before .before .before .before .before .before .if1 .left) (c .before .before .before .before .before .top-frame .ensures) (c .before .before .before .f .given .1) .env), seen-typed (c .before .before .before .before .before .before .before .before .before .before .before .before .before .before .before .pre .1 .here .seen) (c .before .before .before .before .before .before .before .before .before .before .before .before .before .before .before .pre .0 .within) (c .before .before .before .before .before .before .before .before .before .before .before .before .before .before .before .pre .1 .stores .bindings), seen-env (c .before .before .before .before .before .before .before .before .before .before .before .before .before .before .before .pre .1 .here .seen) (c .before .before .before .before .before .before .before .before .before .before .before .before .before .before .before .pre .0 .within) (c .before .before .before .before .before .before .before .before .before .before .before .before .before .before .before .pre .1 .stores .bindings) _), (some-state (c .before .before .before .before .before .before .before .before .before .before .before .before .before .before .before .pre .1 .here .seen), omega arith, laws.resumes-word (c .before .before .before .before .before .before .before .before .before .before .before .before .before .before .before .pre .1))))
 
 returns-2 : tie.Need-returns-2
 returns-2 c =
-    let back = c .before .before .before .before .before .before .before .before in
-    (λ c₀ p rest fs own h. laws.resumes-node _ c₀ p _ _ (back .before .before .before .before .if1 .left) (back .before .before .top-frame .ensures) _ _ (back .f .given .1) fs h (λ g gs k. c .before .before .before .before .wake .ensures .0 c₀ p rest g gs own k), c .before .before .before .before .wake .ensures .1)
+    (λ c₀ p rest fs own h. laws.resumes-node _ c₀ p _ _ (c .before .before .before .before .before .before .before .before .before .before .before .before .if1 .left) (c .before .before .before .before .before .before .before .before .before .before .top-frame .ensures) _ _ (c .before .before .before .before .before .before .before .before .f .given .1) fs h (λ g gs k. c .before .before .before .before .wake .ensures .0 c₀ p rest g gs own k), c .before .before .before .before .wake .ensures .1)
 
 returns-3 : tie.Need-returns-3
 returns-3 c = (λ c₀ p rest fs own h. laws.resumes-cast _ c₀ p _ _ (c .before .before .before .before .before .before .before .before .if1 .left) (c .before .before .before .before .before .before .top-frame .ensures) _ (c .before .before .before .before .enum-told .given .1) fs h (λ gs k. c .before .before .drop-cast .ensures rest (c₀ .stores) _ gs (k .seen)), refl)
@@ -36,6 +36,7 @@ resume-spec =
     (tie.spec
     mul-entry
     element-copy-out-entry
+    (λ c κs. search needs)
     returns
     (λ c κs. search needs)
     (λ c. search needs)

@@ -6,8 +6,7 @@ use Rattle.choices.proofs.nodes.run_node.Tie as tie
 
 give-value-requires : tie.Need-give-value-requires
 give-value-requires c κs =
-    let pre = c .before .before .before .before .before .before .before .before .before .pre in
-    (pre .3 .seen .tidy, inside (pre .3), pre .4)
+    (c .before .before .before .before .before .before .before .before .before .pre .3 .seen .tidy, inside (c .before .before .before .before .before .before .before .before .before .pre .3), c .before .before .before .before .before .before .before .before .before .pre .4)
 
 become-join-requires : tie.Need-become-join-requires
 become-join-requires c κs = (c .before .before .before .before .before .before .before .before .pre .3 .seen .tidy, inside (c .before .before .before .before .before .before .before .before .pre .3))
@@ -16,50 +15,42 @@ become-null-requires : tie.Need-become-null-requires
 become-null-requires c κs = (c .before .before .before .before .before .before .before .before .pre .3 .seen .tidy, inside (c .before .before .before .before .before .before .before .before .pre .3))
 
 returns : tie.Need-returns
-returns c = λ c₀ p rest fs own h. laws.at-var _ c₀ p fs _ _ (record { kind-is = c .before .before .before .before .before .before .node-word .ensures; first = c .before .before .before .before .before .node-word2 .ensures; second = c .before .before .before .before .node-word3 .ensures; third = c .before .before .before .node-word4 .ensures }) (c .before .before .match .keys1) (c .give-value .ensures rest (c₀ .stores) _ fs (h .seen))
+returns c = λ c₀ p rest fs own h. laws.at-var _ c₀ p fs _ _ (record { kind-is = c .before .before .before .before .before .before .node-word .ensures .0; first = c .before .before .before .before .before .node-word2 .ensures .0; second = c .before .before .before .before .node-word3 .ensures .0; third = c .before .before .before .node-word4 .ensures .0 }) (c .before .before .match .keys1) (c .give-value .ensures rest (c₀ .stores) _ fs (h .seen))
 
 returns-2 : tie.Need-returns-2
 returns-2 c =
-    let back = c .before .before .before .before in
-    λ c₀ p rest fs own h. laws.at-select _ c₀ p fs _ _ (record { kind-is = back .before .before .before .before .node-word .ensures; first = back .before .before .before .node-word2 .ensures; second = back .before .before .node-word3 .ensures; third = back .before .node-word4 .ensures }) (back .match .keys2) (c .before .before .read-field .ensures rest (c₀ .stores) _ fs own (h .seen))
+    λ c₀ p rest fs own h. laws.at-select _ c₀ p fs _ _ (record { kind-is = c .before .before .before .before .before .before .before .before .node-word .ensures .0; first = c .before .before .before .before .before .before .before .node-word2 .ensures .0; second = c .before .before .before .before .before .before .node-word3 .ensures .0; third = c .before .before .before .before .before .node-word4 .ensures .0 }) (c .before .before .before .before .match .keys2) (c .before .before .read-field .ensures rest (c₀ .stores) _ fs own (h .seen))
 
 returns-3 : tie.Need-returns-3
 returns-3 c =
-    let back = c .before .before .before .before in
-    λ c₀ p rest fs own h. laws.at-update _ c₀ p fs _ _ (record { kind-is = back .before .before .before .before .node-word .ensures; first = back .before .before .before .node-word2 .ensures; second = back .before .before .node-word3 .ensures; third = back .before .node-word4 .ensures }) (h .hand) (back .match .keys3) (c .before .before .leave-frame .ensures rest (c₀ .stores) _ fs (h .seen))
+    λ c₀ p rest fs own h. laws.at-update _ c₀ p fs _ _ (record { kind-is = c .before .before .before .before .before .before .before .before .node-word .ensures .0; first = c .before .before .before .before .before .before .before .node-word2 .ensures .0; second = c .before .before .before .before .before .before .node-word3 .ensures .0; third = c .before .before .before .before .before .node-word4 .ensures .0 }) (h .represents) (c .before .before .before .before .match .keys3) (c .before .before .leave-frame .ensures rest (c₀ .stores) _ fs (h .seen))
 
 returns-4 : tie.Need-returns-4
 returns-4 c =
-    let back = c .before .before .before .before in
-    λ c₀ p rest fs own h. laws.at-call _ c₀ p fs _ _ (record { kind-is = back .before .before .before .before .node-word .ensures; first = back .before .before .before .node-word2 .ensures; second = back .before .before .node-word3 .ensures; third = back .before .node-word4 .ensures }) (h .hand) (back .match .keys4) (c .before .before .leave-frame2 .ensures rest (c₀ .stores) _ fs (h .seen))
+    λ c₀ p rest fs own h. laws.at-call _ c₀ p fs _ _ (record { kind-is = c .before .before .before .before .before .before .before .before .node-word .ensures .0; first = c .before .before .before .before .before .before .before .node-word2 .ensures .0; second = c .before .before .before .before .before .before .node-word3 .ensures .0; third = c .before .before .before .before .before .node-word4 .ensures .0 }) (h .represents) (c .before .before .before .before .match .keys4) (c .before .before .leave-frame2 .ensures rest (c₀ .stores) _ fs (h .seen))
 
 returns-5 : tie.Need-returns-5
 returns-5 c =
-    let back = c .before .before .before .before in
-    λ c₀ p rest fs own h. laws.at-let _ c₀ p fs _ _ (record { kind-is = back .before .before .before .before .node-word .ensures; first = back .before .before .before .node-word2 .ensures; second = back .before .before .node-word3 .ensures; third = back .before .node-word4 .ensures }) (h .hand) (back .match .keys5) (c .before .before .leave-frame3 .ensures rest (c₀ .stores) _ fs (h .seen))
+    λ c₀ p rest fs own h. laws.at-let _ c₀ p fs _ _ (record { kind-is = c .before .before .before .before .before .before .before .before .node-word .ensures .0; first = c .before .before .before .before .before .before .before .node-word2 .ensures .0; second = c .before .before .before .before .before .before .node-word3 .ensures .0; third = c .before .before .before .before .before .node-word4 .ensures .0 }) (h .represents) (c .before .before .before .before .match .keys5) (c .before .before .leave-frame3 .ensures rest (c₀ .stores) _ fs (h .seen))
 
 returns-6 : tie.Need-returns-6
 returns-6 c =
-    let back = c .before .before .before .before in
-    λ c₀ p rest fs own h. laws.at-new _ c₀ p fs _ _ (record { kind-is = back .before .before .before .before .node-word .ensures; first = back .before .before .before .node-word2 .ensures; second = back .before .before .node-word3 .ensures; third = back .before .node-word4 .ensures }) (h .hand) (back .match .keys6) (c .before .before .make-object .ensures _ rest (c₀ .stores) _ _ fs (h .seen))
+    λ c₀ p rest fs own h. laws.at-new _ c₀ p fs _ _ (record { kind-is = c .before .before .before .before .before .before .before .before .node-word .ensures .0; first = c .before .before .before .before .before .before .before .node-word2 .ensures .0; second = c .before .before .before .before .before .before .node-word3 .ensures .0; third = c .before .before .before .before .before .node-word4 .ensures .0 }) (h .represents) (c .before .before .before .before .match .keys6) (c .before .before .make-object .ensures _ rest (c₀ .stores) _ _ fs (h .seen))
 
 returns-7 : tie.Need-returns-7
 returns-7 c =
-    let back = c .before .before .before .before in
-    λ c₀ p rest fs own h. laws.at-cast _ c₀ p fs _ _ (record { kind-is = back .before .before .before .before .node-word .ensures; first = back .before .before .before .node-word2 .ensures; second = back .before .before .node-word3 .ensures; third = back .before .node-word4 .ensures }) (h .hand) (back .match .keys7) (c .before .before .leave-frame4 .ensures rest (c₀ .stores) _ fs (h .seen))
+    λ c₀ p rest fs own h. laws.at-cast _ c₀ p fs _ _ (record { kind-is = c .before .before .before .before .before .before .before .before .node-word .ensures .0; first = c .before .before .before .before .before .before .before .node-word2 .ensures .0; second = c .before .before .before .before .before .before .node-word3 .ensures .0; third = c .before .before .before .before .before .node-word4 .ensures .0 }) (h .represents) (c .before .before .before .before .match .keys7) (c .before .before .leave-frame4 .ensures rest (c₀ .stores) _ fs (h .seen))
 
 returns-8 : tie.Need-returns-8
-returns-8 c = λ c₀ p rest fs own h. laws.at-fork _ c₀ p fs _ _ (record { kind-is = c .before .before .before .before .before .node-word .ensures; first = c .before .before .before .before .node-word2 .ensures; second = c .before .before .before .node-word3 .ensures; third = c .before .before .node-word4 .ensures }) (c .before .match .keys8) (c .become-join .ensures _ (c₀ .tree) rest (c₀ .stores) _ fs (h .hand .tree) (h .seen))
+returns-8 c = λ c₀ p rest fs own h. laws.at-fork _ c₀ p fs _ _ (record { kind-is = c .before .before .before .before .before .node-word .ensures .0; first = c .before .before .before .before .node-word2 .ensures .0; second = c .before .before .before .node-word3 .ensures .0; third = c .before .before .node-word4 .ensures .0 }) (c .before .match .keys8) (c .become-join .ensures _ (c₀ .tree) rest (c₀ .stores) _ fs (h .represents .tree) (h .seen))
 
 returns-9 : tie.Need-returns-9
 returns-9 c =
-    let back = c .before .before .before .before in
-    λ c₀ p rest fs own h. laws.at-lock _ c₀ p fs _ _ (record { kind-is = back .before .before .before .before .node-word .ensures; first = back .before .before .before .node-word2 .ensures; second = back .before .before .node-word3 .ensures; third = back .before .node-word4 .ensures }) (h .hand) (back .match .keys9) (c .before .before .enter-lock .ensures c₀ p rest _ fs h)
+    λ c₀ p rest fs own h. laws.at-lock _ c₀ p fs _ _ (record { kind-is = c .before .before .before .before .before .before .before .before .node-word .ensures .0; first = c .before .before .before .before .before .before .before .node-word2 .ensures .0; second = c .before .before .before .before .before .before .node-word3 .ensures .0; third = c .before .before .before .before .before .node-word4 .ensures .0 }) (h .represents) (c .before .before .before .before .match .keys9) (c .before .before .enter-lock .ensures c₀ p rest _ fs h)
 
 returns-10 : tie.Need-returns-10
 returns-10 c =
-    let fact = c .before .match .rest .0 in
-    λ c₀ p rest fs own h. laws.at-null _ c₀ p fs _ _ (record { kind-is = c .before .before .before .before .before .node-word .ensures; first = c .before .before .before .before .node-word2 .ensures; second = c .before .before .before .node-word3 .ensures; third = c .before .before .node-word4 .ensures }) (fact .0 .0 .0 .0 .0 .0 .0 .1) (fact .0 .0 .0 .0 .0 .0 .1) (fact .0 .0 .0 .0 .0 .1) (fact .0 .0 .0 .0 .1) (fact .0 .0 .0 .1) (fact .0 .0 .1) (fact .0 .1) (fact .1) (c .before .match .rest .1) (c .become-null .ensures _ rest (c₀ .stores) _ _ fs (h .seen))
+    λ c₀ p rest fs own h. laws.at-null _ c₀ p fs _ _ (record { kind-is = c .before .before .before .before .before .node-word .ensures .0; first = c .before .before .before .before .node-word2 .ensures .0; second = c .before .before .before .node-word3 .ensures .0; third = c .before .before .node-word4 .ensures .0 }) (c .before .match .rest .0 .0 .0 .0 .0 .0 .0 .0 .1) (c .before .match .rest .0 .0 .0 .0 .0 .0 .0 .1) (c .before .match .rest .0 .0 .0 .0 .0 .0 .1) (c .before .match .rest .0 .0 .0 .0 .0 .1) (c .before .match .rest .0 .0 .0 .0 .1) (c .before .match .rest .0 .0 .0 .1) (c .before .match .rest .0 .0 .1) (c .before .match .rest .0 .1) (c .before .match .rest .1) (c .become-null .ensures _ rest (c₀ .stores) _ _ fs (h .seen))
 
 pub run-node-spec : {M : Type 1} → statement M
 run-node-spec =

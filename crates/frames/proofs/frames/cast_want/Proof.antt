@@ -1,7 +1,6 @@
-use borrow.Author.Tests.{not-true, not-false}
 use native.Mathlib.Omega.{arith}
-use borrow.Author.Needs.{needs}
 use Rattle.frames.proofs.StepLaws as laws
+use borrow.Author.Needs.{needs}
 use Rattle.frames.proofs.frames.cast_want.Statement.{statement}
 use Rattle.frames.proofs.frames.cast_want.Tie as tie
 
@@ -12,10 +11,7 @@ returns-2 : tie.Need-returns-2
 returns-2 c = laws.casts-other _ _ (c .before .before .before .before .before .args .want) (omega arith) _ (c .before .node-word .ensures .0) (c .if2 .taken)
 
 returns-3 : tie.Need-returns-3
-returns-3 c = laws.casts-unmet _ _ (c .before .before .before .before .before .before .before .before .args .want) (omega arith) _ (c .before .before .before .before .node-word .ensures .0) (omega arith) _ (c .before .before .node-word2 .ensures .0) _ (c .before .meets .ensures) (not-true _ (c .if3 .taken))
-
-returns-4 : tie.Need-returns-4
-returns-4 c = laws.casts-met _ _ (c .before .before .before .before .before .before .before .before .args .want) (omega arith) _ (c .before .before .before .before .node-word .ensures .0) (omega arith) _ (c .before .before .node-word2 .ensures .0) _ (c .before .meets .ensures) (not-false _ (c .if3 .left))
+returns-3 c = laws.casts-waits _ _ (c .before .before .before .before .before .before .before .args .want) (omega arith) _ (c .before .before .before .node-word .ensures .0) (omega arith) _ (c .before .node-word2 .ensures .0) _ (c .expected .ensures)
 
 pub cast-want-spec : {M : Type 1} → statement M
 cast-want-spec =
@@ -27,5 +23,4 @@ cast-want-spec =
     returns-2
     (λ c κs. search needs)
     (λ c κs. search needs)
-    returns-3
-    returns-4)
+    returns-3)

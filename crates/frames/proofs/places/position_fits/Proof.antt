@@ -3,6 +3,7 @@ use native.Mathlib.Omega.{arith}
 use borrow.Author.Needs.{needs}
 use Rattle.frames.proofs.PositionLaws as laws
 use Rattle.frames.proofs.ReadyLaws.{still-ready}
+use Rattle.values.proofs.StoreLaws.{ordered-asked}
 use Rattle.frames.proofs.places.position_fits.Statement.{statement}
 use Rattle.frames.proofs.places.position_fits.Tie as tie
 
@@ -28,24 +29,24 @@ returns-2 c =
     let back2 = c .before .before .before .before in
     (laws.place-misfit (back .pre .0) _ (back .pre .1) (back .args .want) _ (back2 .before .before .before .before .word .ensures .0) (back2 .before .before .before .if1 .left) _ _ (back .pre .2) (back2 .before .before .word2 .ensures .0) _ (back2 .frames-want .ensures .0) (c .enum-told .given .1), back2 .frames-want .ensures .1)
 
-word-requires-3 : tie.Need-word-requires-3
-word-requires-3 c κs = (c .before .before .before .before .before .before .before .before .before .before .before .before .before .before .before .before .pre .0 .in-order .long, laws.place-there (c .before .before .before .before .before .before .before .before .before .before .before .before .before .before .before .before .pre .0) _ (c .before .before .before .before .before .before .before .before .before .before .before .before .before .before .before .before .pre .1), omega arith)
+value-requires : tie.Need-value-requires
+value-requires c κs = (c .before .before .before .before .before .before .before .before .before .before .before .before .before .before .before .before .pre .0 .in-order .long, laws.place-there (c .before .before .before .before .before .before .before .before .before .before .before .before .before .before .before .before .pre .0) _ (c .before .before .before .before .before .before .before .before .before .before .before .before .before .before .before .before .pre .1), omega arith)
 
 value-fits-requires : tie.Need-value-fits-requires
 value-fits-requires c κs =
     let pre = c .before .before .before .before .before .before .before .before .before .before .before .before .before .before .before .before .before .pre in
-    record { script = pre .0 .within; block = pre .0 .in-order }
+    ordered-asked (pre .0 .blank .within) (pre .0 .in-order)
 
 returns-3 : tie.Need-returns-3
 returns-3 c =
     let back = c .before .before .before .before .before .before .before .before in
-    (laws.place-value (back .before .before .before .before .before .before .before .before .before .before .pre .0) _ (back .before .before .before .before .before .before .before .before .before .before .pre .1) (back .before .before .before .before .before .before .before .before .before .before .args .want) _ (back .before .before .before .before .word .ensures .0) (back .before .before .before .if1 .left) _ _ (back .before .before .before .before .before .before .before .before .before .before .pre .2) (back .before .before .word2 .ensures .0) _ (back .frames-want .ensures .0) _ (c .before .before .before .before .v .given .1) (c .before .before .if2 .taken) _ _ (c .before .word3 .ensures .0) (c .value-fits .ensures), back .frames-want .ensures .1)
+    (laws.place-value (back .before .before .before .before .before .before .before .before .before .before .pre .0) _ (back .before .before .before .before .before .before .before .before .before .before .pre .1) (back .before .before .before .before .before .before .before .before .before .before .args .want) _ (back .before .before .before .before .word .ensures .0) (back .before .before .before .if1 .left) _ _ (back .before .before .before .before .before .before .before .before .before .before .pre .2) (back .before .before .word2 .ensures .0) _ (back .frames-want .ensures .0) _ (c .before .before .before .before .v .given .1) (c .before .before .if2 .taken) _ _ (c .before .value .ensures) (c .value-fits .ensures), back .frames-want .ensures .1)
+
+word-requires-3 : tie.Need-word-requires-3
+word-requires-3 c κs = (c .before .before .before .before .before .before .before .before .before .before .before .before .before .before .before .before .pre .0 .in-order .long, laws.place-there (c .before .before .before .before .before .before .before .before .before .before .before .before .before .before .before .before .pre .0) _ (c .before .before .before .before .before .before .before .before .before .before .before .before .before .before .before .before .pre .1), omega arith)
 
 word-requires-4 : tie.Need-word-requires-4
-word-requires-4 c κs = (c .before .before .before .before .before .before .before .before .before .before .before .before .before .before .before .before .pre .0 .in-order .long, laws.place-there (c .before .before .before .before .before .before .before .before .before .before .before .before .before .before .before .before .pre .0) _ (c .before .before .before .before .before .before .before .before .before .before .before .before .before .before .before .before .pre .1), omega arith)
-
-word-requires-5 : tie.Need-word-requires-5
-word-requires-5 c κs = (c .before .before .before .before .before .before .before .before .before .before .before .before .before .before .before .before .before .pre .0 .in-order .long, laws.place-there (c .before .before .before .before .before .before .before .before .before .before .before .before .before .before .before .before .before .pre .0) _ (c .before .before .before .before .before .before .before .before .before .before .before .before .before .before .before .before .before .pre .1), omega arith)
+word-requires-4 c κs = (c .before .before .before .before .before .before .before .before .before .before .before .before .before .before .before .before .before .pre .0 .in-order .long, laws.place-there (c .before .before .before .before .before .before .before .before .before .before .before .before .before .before .before .before .before .pre .0) _ (c .before .before .before .before .before .before .before .before .before .before .before .before .before .before .before .before .before .pre .1), omega arith)
 
 node-fits-requires : tie.Need-node-fits-requires
 node-fits-requires c κs = still-ready (c .before .before .before .before .before .before .before .before .before .before .before .before .before .before .before .before .before .before .before .pre .0) (c .before .before .before .before .before .before .before .before .before .frames-want .ensures .1)
@@ -54,7 +55,7 @@ returns-4 : tie.Need-returns-4
 returns-4 c =
     let back = c .before .before .before .before .before .before .before .before .before .before .before .before in
     let back2 = c .before .before .before .before in
-    (laws.place-node (back .before .before .before .before .before .before .before .before .before .before .pre .0) _ (back .before .before .before .before .before .before .before .before .before .before .pre .1) (back .before .before .before .before .before .before .before .before .before .before .args .want) _ (back .before .before .before .before .word .ensures .0) (back .before .before .before .if1 .left) _ _ (back .before .before .before .before .before .before .before .before .before .before .pre .2) (back .before .before .word2 .ensures .0) _ (back .frames-want .ensures .0) _ (back2 .before .before .before .before .v .given .1) (back2 .before .before .if2 .left) _ _ _ (back2 .before .word4 .ensures .0) (back2 .word5 .ensures .0) (c .before .before .node-fits .ensures .0), c .before .before .node-fits .ensures .1 ∙ back .frames-want .ensures .1)
+    (laws.place-node (back .before .before .before .before .before .before .before .before .before .before .pre .0) _ (back .before .before .before .before .before .before .before .before .before .before .pre .1) (back .before .before .before .before .before .before .before .before .before .before .args .want) _ (back .before .before .before .before .word .ensures .0) (back .before .before .before .if1 .left) _ _ (back .before .before .before .before .before .before .before .before .before .before .pre .2) (back .before .before .word2 .ensures .0) _ (back .frames-want .ensures .0) _ (back2 .before .before .before .before .v .given .1) (back2 .before .before .if2 .left) _ _ _ (back2 .before .word3 .ensures .0) (back2 .word4 .ensures .0) (c .before .before .node-fits .ensures .0), c .before .before .node-fits .ensures .1 ∙ back .frames-want .ensures .1)
 
 pub position-fits-spec : {M : Type 1} → statement M
 position-fits-spec =
@@ -69,12 +70,12 @@ position-fits-spec =
     (λ c. search needs)
     (λ c. search needs)
     returns-2
-    word-requires-3
+    value-requires
     value-fits-requires
     (λ c. search needs)
     returns-3
+    word-requires-3
     word-requires-4
-    word-requires-5
     node-fits-requires
     (λ c. search needs)
     returns-4)

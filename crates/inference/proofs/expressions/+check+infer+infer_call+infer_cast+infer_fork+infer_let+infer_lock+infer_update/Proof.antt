@@ -38,7 +38,7 @@ use Rattle.inference.proofs.expressions.infer_update.Kinds as infer-upd
 use Rattle.inference.proofs.expressions.+check+infer+infer_call+infer_cast+infer_fork+infer_let+infer_lock+infer_update.Lts-infer_update as infer-update-lts
 use Rattle.inference.proofs.expressions.infer_select.Reads as infer-select-reads
 use Rattle.inference.proofs.expressions.infer_var.Reads as infer-var-reads
-use Rattle.inference.proofs.expressions.node_word.Reads as node-word-reads
+use Rattle.sections.proofs.node_word.Reads as node-word-reads
 use Rattle.members.proofs.is_below.Reads as is-below-reads
 use Rattle.members.proofs.method_of.Reads as method-of-reads
 use Rattle.inference.proofs.expressions.+check+infer+infer_call+infer_cast+infer_fork+infer_let+infer_lock+infer_update.{

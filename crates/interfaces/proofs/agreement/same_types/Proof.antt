@@ -1,21 +1,10 @@
-use Rattle.interfaces.proofs.AgreementLaws.{types-differ, types-equal}
+use Rattle.interfaces.proofs.AgreementLaws.{types-same}
 use borrow.Author.Needs.{needs}
 use Rattle.interfaces.proofs.agreement.same_types.Statement.{statement}
 use Rattle.interfaces.proofs.agreement.same_types.Tie as tie
 
 returns : tie.Need-returns
-returns c = types-differ _ _ _ _ _ (c .before .before .record-word .ensures .0) (c .before .record-word2 .ensures .0) (c .if1 .taken)
-
-returns-2 : tie.Need-returns-2
-returns-2 c = types-equal _ _ _ _ _ (c .before .before .before .before .record-word .ensures .0) (c .before .before .before .record-word2 .ensures .0) _ _ (c .before .before .if1 .left) (c .before .record-word3 .ensures .0) (c .record-word4 .ensures .0)
+returns c = types-same _ _ _ _ _ (c .before .before .record-word .ensures .0) (c .before .record-word2 .ensures .0) (c .has-types .ensures)
 
 pub same-types-spec : {M : Type 1} → statement M
-same-types-spec =
-    tie.close
-    (tie.spec
-    (λ c κs. search needs)
-    (λ c κs. search needs)
-    returns
-    (λ c κs. search needs)
-    (λ c κs. search needs)
-    returns-2)
+same-types-spec = tie.close (tie.spec (λ c κs. search needs) (λ c κs. search needs) (λ c κs. search needs) returns)

@@ -1,7 +1,7 @@
 use native.Mathlib.Omega.{arith}
 use Rattle.script.specs.declared.Section.the-variants.{Classes as classes, Methods as methods}
 use Rattle.members.proofs.LookupLaws.{laid, methods-run, own-there}
-use Rattle.interfaces.proofs.CoverLaws.{defines-none, defines-other, defines-same}
+use Rattle.interfaces.proofs.CoverLaws.{defines-none, defines-typed}
 use borrow.Author.Needs.{needs}
 use Rattle.interfaces.proofs.covers.defines.Statement.{statement}
 use Rattle.interfaces.proofs.covers.defines.Tie as tie
@@ -15,21 +15,13 @@ find-own-requires c κs = (c .before .before .before .pre .0, methods-run (c .be
 returns : tie.Need-returns
 returns c = defines-none (c .before .before .before .before .before .before .pre .0) _ _ _ (c .before .before .before .before .before .before .pre .2) (c .before .before .before .record-word .ensures .0) _ (c .before .before .find-own .ensures) (c .enum-told .given .1)
 
-record-word-requires-3 : tie.Need-record-word-requires-3
-record-word-requires-3 c κs = (laid (c .before .before .before .before .before .before .before .before .pre .0), own-there (c .before .before .before .before .before .before .before .before .pre .0) methods _ _ _ _ (c .before .before .before .before .before .before .before .before .pre .2) (c .before .before .before .before .find-own .ensures) (c .before .before .j .given .1), omega arith)
+has-types-requires : tie.Need-has-types-requires
+has-types-requires c κs = (laid (c .before .before .before .before .before .before .before .before .before .pre .0), own-there (c .before .before .before .before .before .before .before .before .before .pre .0) methods _ _ _ _ (c .before .before .before .before .before .before .before .before .before .pre .2) (c .before .before .before .before .before .find-own .ensures) (c .before .before .before .j .given .1), omega arith)
 
 returns-2 : tie.Need-returns-2
 returns-2 c =
     let back = c .before .before .before .before .before .before in
-    defines-other (back .before .before .before .before .pre .0) _ _ _ (back .before .before .before .before .pre .2) (back .before .record-word .ensures .0) _ (back .find-own .ensures) _ (c .before .before .before .before .j .given .1) _ _ (c .before .before .record-word2 .ensures .0) (c .before .record-word3 .ensures .0) (c .if1 .taken)
-
-record-word-requires-5 : tie.Need-record-word-requires-5
-record-word-requires-5 c κs = (laid (c .before .before .before .before .before .before .before .before .before .before .before .pre .0), own-there (c .before .before .before .before .before .before .before .before .before .before .before .pre .0) methods _ _ _ _ (c .before .before .before .before .before .before .before .before .before .before .before .pre .2) (c .before .before .before .before .before .before .before .find-own .ensures) (c .before .before .before .before .before .j .given .1), omega arith)
-
-returns-3 : tie.Need-returns-3
-returns-3 c =
-    let back = c .before .before .before .before .before .before .before .before in
-    defines-same (back .before .before .before .before .pre .0) _ _ _ (back .before .before .before .before .pre .2) (back .before .record-word .ensures .0) _ (back .find-own .ensures) _ (c .before .before .before .before .before .before .j .given .1) _ _ (c .before .before .before .before .record-word2 .ensures .0) (c .before .before .before .record-word3 .ensures .0) _ _ (c .before .before .if1 .left) (c .before .record-word4 .ensures .0) (c .record-word5 .ensures .0)
+    defines-typed (back .before .before .before .before .pre .0) _ _ _ (back .before .before .before .before .pre .2) (back .before .record-word .ensures .0) _ (back .find-own .ensures) _ (c .before .before .before .before .j .given .1) _ _ (c .before .before .record-word2 .ensures .0) (c .before .record-word3 .ensures .0) (c .has-types .ensures)
 
 pub defines-spec : {M : Type 1} → statement M
 defines-spec =
@@ -43,8 +35,6 @@ defines-spec =
     (λ c. search needs)
     returns
     (λ c κs. search needs)
-    record-word-requires-3
-    returns-2
     (λ c κs. search needs)
-    record-word-requires-5
-    returns-3)
+    has-types-requires
+    returns-2)

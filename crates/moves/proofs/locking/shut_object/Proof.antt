@@ -2,7 +2,8 @@ use native.Mathlib.Omega.{arith}
 use borrow.Author.Needs.{needs}
 use mathlib.Core.Bool.{true}
 use Rattle.block.specs.declared.Area.the-variants.{Objects}
-use Rattle.state.proofs.Seeing.{seen-length, seen-few, sighted}
+use Rattle.state.proofs.Seeing.{seen-length, seen-few, some-state}
+use Rattle.moves.proofs.Laws.{no-room, some-room}
 use Rattle.moves.proofs.LockLaws as laws
 use Rattle.moves.proofs.locking.shut_object.Statement.{statement}
 use Rattle.moves.proofs.locking.shut_object.Tie as tie
@@ -11,25 +12,31 @@ count-requires : tie.Need-count-requires
 count-requires c κs = seen-length (c .before .before .pre .0 .seen)
 
 returns : tie.Need-returns
-returns c = λ x st a₀ fs s. laws.shuts-not st fs _ _ _ _ (c .before .count .ensures .0) (c .if1 .taken)
+returns c = λ x st a₀ fs s. rw (no-room (c .before .before .count .ensures .0) (c .before .if1 .taken)) (c .full .ensures _ _ x)
 
 set-shut-requires : tie.Need-set-shut-requires
 set-shut-requires c κs = (seen-length (c .before .before .before .before .before .pre .0 .seen), omega (arith, c .before .before .before .before .before .pre .1, seen-few (c .before .before .before .before .before .pre .0 .seen) Objects))
 
 push-requires : tie.Need-push-requires
-push-requires c κs = (sighted (laws.shut-changes _ true (c .before .before .before .before .before .before .before .before .before .pre .0 .seen) (c .before .before .before .before .before .before .before .before .before .pre .1) (c .before .before .before .set-shut .ensures)), omega (arith, laws.frames-kept (c .before .before .before .before .before .before .before .before .before .pre .0 .seen) (laws.shut-changes _ true (c .before .before .before .before .before .before .before .before .before .pre .0 .seen) (c .before .before .before .before .before .before .before .before .before .pre .1) (c .before .before .before .set-shut .ensures)), c .before .before .before .before .before .before .count .ensures .0))
+push-requires c κs =
+    let shut = laws.shut-changes _ true (c .before .before .before .before .before .before .before .before .before .pre .0 .seen) (c .before .before .before .before .before .before .before .before .before .pre .1) (c .before .before .before .set-shut .ensures) in
+    (some-state shut, omega (arith, laws.frames-kept (c .before .before .before .before .before .before .before .before .before .pre .0 .seen) shut, c .before .before .before .before .before .before .count .ensures .0))
 
 returns-2 : tie.Need-returns-2
-returns-2 c = λ x st a₀ fs s. laws.shuts st fs _ _ _ _ (c .before .before .before .before .before .before .before .before .before .count .ensures .0) (omega arith) (c .before .before .push .ensures x _ a₀ _ fs (laws.shut-changes _ true s (c .before .before .before .before .before .before .before .before .before .before .before .before .pre .1) (c .before .before .before .before .before .before .set-shut .ensures)))
+returns-2 c = λ x st a₀ fs s.
+    rw (some-room (c .before .before .before .before .before .before .before .before .before .before .count .ensures .0) (c .before .before .before .before .before .before .before .before .before .if1 .left))
+    (c .moved .ensures _ _ _ _ x _ _ (c .before .before .before .push .ensures x _ a₀ _ fs (laws.shut-changes _ true s (c .before .before .before .before .before .before .before .before .before .before .before .before .before .pre .1) (c .before .before .before .before .before .before .before .set-shut .ensures))))
 
 pub shut-object-spec : {M : Type 1} → statement M
 shut-object-spec =
     tie.close
     (tie.spec
     count-requires
+    (λ c κs. search needs)
     (λ c. search needs)
     returns
     set-shut-requires
     push-requires
+    (λ c κs. search needs)
     (λ c. search needs)
     returns-2)

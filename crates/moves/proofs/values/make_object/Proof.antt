@@ -1,8 +1,7 @@
 use native.Mathlib.Omega.{arith}
 use borrow.Author.Needs.{needs}
-use mathlib.Core.Path.{refl, _∙_}
-use Rattle.machine.specs.declared.Value.the-variants.{Ref as ref}
-use Rattle.machine.specs.Config.{running, returning, codeOf}
+use mathlib.Core.Path.{_∙_}
+use Rattle.machine.specs.Config.{codeOf}
 use Rattle.state.proofs.Seeing.{seen-length, objects-counted}
 use Rattle.moves.proofs.Laws as laws
 use Rattle.moves.proofs.values.make_object.Statement.{statement}
@@ -12,26 +11,27 @@ count-requires : tie.Need-count-requires
 count-requires c κs = seen-length (c .before .before .pre .seen)
 
 returns : tie.Need-returns
-returns c = λ s x st a e fs seen. laws.makes-not st (codeOf s) fs _ _ (c .before .count .ensures .0) (c .if1 .taken)
+returns c = λ s x st a e fs seen. rw (laws.no-room (c .before .before .count .ensures .0) (c .before .if1 .taken)) (c .full .ensures _ _ x)
 
 new-object-requires : tie.Need-new-object-requires
 new-object-requires c κs = (seen-length (c .before .before .before .before .before .pre .seen), omega (arith, c .before .before .count .ensures .0))
 
-settle-requires : tie.Need-settle-requires
-settle-requires c κs = (c .before .before .before .before .before .before .before .before .pre .seen .tidy, laws.inside (c .before .before .before .before .before .before .before .before .pre))
+gives-requires : tie.Need-gives-requires
+gives-requires c κs = (c .before .before .before .before .before .before .before .before .pre .seen .tidy, laws.inside (c .before .before .before .before .before .before .before .before .pre))
 
 returns-2 : tie.Need-returns-2
-returns-2 c = λ s x st a e fs seen. laws.makes st (codeOf s) fs _ _ (c .before .before .before .before .before .before .count .ensures .0) (omega arith) (c .settle .ensures _ x _ (running a e fs) (returning (ref _) fs) refl refl refl refl (laws.objects-more (codeOf s) _ _ seen (c .before .before .before .before .before .before .count .ensures .0) (omega arith) (c .before .before .before .new-object .ensures))) (c .before .before .before .before .before .before .count .ensures .0 ∙ objects-counted seen)
+returns-2 c = λ s x st a e fs seen. laws.performs-as (laws.makes st fs (codeOf s) _ _ _ (c .before .before .before .before .before .before .count .ensures .0) (omega arith) (c .before .before .before .before .before .before .count .ensures .0 ∙ objects-counted seen)) (c .gives .ensures _ _ _ x _ a e fs (laws.objects-more (codeOf s) _ _ seen (c .before .before .before .before .before .before .count .ensures .0) (omega arith) (c .before .before .before .new-object .ensures)))
 
 pub make-object-spec : {M : Type 1} → statement M
 make-object-spec =
     tie.close
     (tie.spec
     count-requires
+    (λ c κs. search needs)
     (λ c. search needs)
     returns
     new-object-requires
     (λ c. search needs)
-    settle-requires
+    gives-requires
     (λ c. search needs)
     returns-2)

@@ -8,8 +8,8 @@ use Rattle.script.specs.Asking.{firstOut}
 use Rattle.sections.specs.Laid.{ownerOf, ownOf, freshIn}
 use Rattle.sections.proofs.Access.{count-within}
 use Rattle.sections.proofs.CodeLaws.{sum-none, owner-is}
-use Rattle.sections.proofs.Search.{search-start, found-end}
-use Rattle.records.proofs.NameLaws.{OwnRun, run-within, run-next, run-at, run-none, runs-end}
+use Rattle.sections.proofs.Search.{search-start, found-end, lowest-here, lowest-none}
+use Rattle.records.proofs.NameLaws.{OwnRun, run-within, run-next, run-at, run-there, run-none, runs-end}
 use Rattle.records.proofs.names.first_repeated.Statement.{statement}
 use Rattle.records.proofs.names.first_repeated.Tie as tie
 
@@ -38,8 +38,11 @@ add-end c = omega (arith, run-within (run c), count-within (c .before .before .b
 repeated-in-requires : tie.Need-repeated-in-requires Inv-loop μ-loop
 repeated-in-requires c κs = (c .before .before .before .before .before .before .pre .0, omega arith, run-within (run c))
 
+record-at-requires : tie.Need-record-at-requires Inv-loop μ-loop
+record-at-requires c κs = (c .before .before .before .before .before .before .before .before .before .before .pre .0, run-there (run (c .before .before .before .before)) _ (c .before .before .before .before .before .before .loop .inv .2) _ (c .before .before .before .repeated-in .ensures) _ (c .before .found .given .1))
+
 returns : tie.Need-returns Inv-loop μ-loop
-returns c = run-at (run (c .before .before .before .before)) _ (c .before .before .before .before .before .before .loop .inv .2) _ (c .before .before .before .repeated-in .ensures) _ (c .before .found .given .1)
+returns c = lowest-here _ _ _ _ _ (run-at (run (c .before .before .before .before .before)) _ (c .before .before .before .before .before .before .before .loop .inv .2) _ (c .before .before .before .before .repeated-in .ensures) _ (c .before .before .found .given .1)) (c .record-at .ensures .0)
 
 add-o : tie.Need-add-o Inv-loop μ-loop
 add-o c = omega (arith, c .before .before .before .before .before .before .count-of .ensures .1, c .before .before .before .before .loop-test .taken)
@@ -53,7 +56,7 @@ loop-again c = let this = run (c .before .before .before) in (omega (arith, c .b
 returns-2 : tie.Need-returns-2 Inv-loop μ-loop
 returns-2 c =
     let back = c .before .before .before .before .before in
-    found-end (freshIn (back .args .s .now) (back .args .k)) _ _ _ (c .before .loop .inv .2) (runs-end (back .args .s .now) (back .args .k) _ _ (c .before .loop .start) (c .before .loop .o) (back .pre .1) (c .before .before .before .owner-of .ensures) (c .before .before .count-of .ensures .0) (c .before .loop .inv .1) (c .before .loop .inv .0) (c .loop-test .left))
+    lowest-none _ _ _ (found-end (freshIn (back .args .s .now) (back .args .k)) _ _ _ (c .before .loop .inv .2) (runs-end (back .args .s .now) (back .args .k) _ _ (c .before .loop .start) (c .before .loop .o) (back .pre .1) (c .before .before .before .owner-of .ensures) (c .before .before .count-of .ensures .0) (c .before .loop .inv .1) (c .before .loop .inv .0) (c .loop-test .left)))
 
 pub first-repeated-spec : {M : Type 1} → statement M
 first-repeated-spec =
@@ -68,6 +71,7 @@ first-repeated-spec =
     add-end
     repeated-in-requires
     (λ c. search needs)
+    record-at-requires
     returns
     (λ c. search needs)
     add-o

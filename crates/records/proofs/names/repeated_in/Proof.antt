@@ -1,11 +1,11 @@
+use borrow.Author.Needs.{needs}
 use mathlib.Core.Path.{_≡_, refl}
-use mathlib.Core.Bool.{true, false}
 use Prim.Native.Nat.{_-_, _≤_}
 use native.Mathlib.Omega.{arith}
 use Rattle.script.specs.Asking.{firstOut}
 use Rattle.sections.specs.Laid.{nameOf, newIn}
-use Rattle.sections.proofs.Search.{search-pass, found-end, found-fail}
-use Rattle.records.proofs.NameLaws.{first-word, new-is}
+use Rattle.sections.proofs.Access.{first-word}
+use Rattle.sections.proofs.Search.{search-pass, found-end, found-fail, name-old, name-new}
 use Rattle.records.proofs.names.repeated_in.Statement.{statement}
 use Rattle.records.proofs.names.repeated_in.Tie as tie
 
@@ -21,16 +21,15 @@ loop-holds c = (omega arith, c .before .pre .1, refl)
 record-word-requires : tie.Need-record-word-requires Inv-loop μ-loop
 record-word-requires c κs = (c .before .before .before .pre .0, omega arith, first-word (c .before .before .before .args .k))
 
-has-name-requires : tie.Need-has-name-requires Inv-loop μ-loop
-has-name-requires c κs = (c .before .before .before .before .pre .0, c .before .before .loop .inv .0, omega arith)
+find-name-requires : tie.Need-find-name-requires Inv-loop μ-loop
+find-name-requires c κs = (c .before .before .before .before .pre .0, omega arith)
 
 returns : tie.Need-returns Inv-loop μ-loop
 returns c =
-    let args = c .before .before .before .before .before .before .args in
-    found-fail (newIn (nameOf (args .s .now) (args .k)) (args .start)) _ _ _ (c .before .before .before .before .loop .inv .2) (c .before .before .before .loop-test .taken) (new-is (nameOf (args .s .now) (args .k)) _ _ _ _ true (c .before .before .record-word .ensures .0) (c .before .has-name .ensures) (c .if1 .taken))
+    found-fail (newIn (nameOf (c .before .before .before .before .before .before .before .args .s .now) (c .before .before .before .before .before .before .before .args .k)) (c .before .before .before .before .before .before .before .args .start)) _ _ _ (c .before .before .before .before .before .loop .inv .2) (c .before .before .before .before .loop-test .taken) (name-old _ _ _ _ _ _ (c .before .before .before .record-word .ensures .0) (c .before .before .find-name .ensures) _ (c .enum-told .given .1))
 
 loop-again : tie.Need-loop-again Inv-loop μ-loop
-loop-again c = (omega arith, omega arith, search-pass (newIn (nameOf (c .before .before .before .before .before .before .args .s .now) (c .before .before .before .before .before .before .args .k)) (c .before .before .before .before .before .before .args .start)) _ _ _ (c .before .before .before .before .loop .inv .2) (c .before .before .before .loop-test .taken) (new-is (nameOf (c .before .before .before .before .before .before .args .s .now) (c .before .before .before .before .before .before .args .k)) _ _ _ _ false (c .before .before .record-word .ensures .0) (c .before .has-name .ensures) (c .if1 .left)))
+loop-again c = (omega arith, omega arith, search-pass (newIn (nameOf (c .before .before .before .before .before .before .before .args .s .now) (c .before .before .before .before .before .before .before .args .k)) (c .before .before .before .before .before .before .before .args .start)) _ _ _ (c .before .before .before .before .before .loop .inv .2) (c .before .before .before .before .loop-test .taken) (name-new _ _ _ _ _ _ (c .before .before .before .record-word .ensures .0) (c .before .before .find-name .ensures) (c .enum-told2 .given .1)))
 
 returns-2 : tie.Need-returns-2 Inv-loop μ-loop
 returns-2 c = found-end (newIn (nameOf (c .before .before .before .args .s .now) (c .before .before .before .args .k)) (c .before .before .before .args .start)) _ _ _ (c .before .loop .inv .2) (c .loop-test .left)
@@ -43,8 +42,10 @@ repeated-in-spec =
     μ-loop
     loop-holds
     record-word-requires
-    has-name-requires
+    find-name-requires
+    (λ c. search needs)
     returns
+    (λ c. search needs)
     (λ c. omega arith)
     (λ c. omega arith)
     loop-again

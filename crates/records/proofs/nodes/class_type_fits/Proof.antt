@@ -7,7 +7,13 @@ returns : tie.Need-returns
 returns c = class-type-none _ _ _ (c .before .count-of .ensures .0) (c .if1 .taken)
 
 returns-2 : tie.Need-returns-2
-returns-2 c = class-type-is _ _ _ (c .before .before .count-of .ensures .0) _ (c .before .if1 .left) (c .type-fits .ensures)
+returns-2 c = class-type-is _ _ _ (c .before .before .count-of .ensures .0) _ (c .before .if1 .left) (c .count-of2 .ensures .0)
 
 pub class-type-fits-spec : {M : Type 1} → statement M
-class-type-fits-spec = tie.close (tie.spec (λ c κs. search needs) returns (λ c κs. search needs) returns-2)
+class-type-fits-spec =
+    tie.close (tie.spec
+    (λ c κs. search needs)
+    returns
+    (λ c κs. search needs)
+    (λ c. search needs)
+    returns-2)

@@ -19,15 +19,19 @@ returns-5 : tie.Need-returns-5
 returns-5 c = adds-word _ _ _ _ _ (c .enum-told5 .given .1) (adds-none _)
 
 returns-6 : tie.Need-returns-6
-returns-6 c = adds-word _ _ _ _ _ (c .before .before .enum-told6 .given .1) (c .count-use .ensures)
+returns-6 c = adds-word _ _ _ _ _ (c .enum-told6 .given .1) (adds-none _)
 
 returns-7 : tie.Need-returns-7
-returns-7 c = adds-word _ _ _ _ _ (c .enum-told7 .given .1) (adds-none _)
+returns-7 c = adds-word _ _ _ _ _ (c .before .before .enum-told7 .given .1) (c .count-use .ensures)
+
+returns-8 : tie.Need-returns-8
+returns-8 c = adds-word _ _ _ _ _ (c .enum-told8 .given .1) (adds-none _)
 
 pub count-word-spec : {M : Type 1} → statement M
 count-word-spec =
     tie.close
     (tie.spec
+    (λ c. search needs)
     (λ c. search needs)
     (λ c. search needs)
     (λ c. search needs)
@@ -42,4 +46,5 @@ count-word-spec =
     returns-4
     returns-5
     returns-6
-    returns-7)
+    returns-7
+    returns-8)

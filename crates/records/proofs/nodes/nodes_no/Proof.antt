@@ -1,9 +1,8 @@
 use borrow.Author.Needs.{needs}
 use mathlib.Core.Path.{sym}
-use Rattle.records.specs.declared.nodes.Check.the-variants.{Nodes}
-use Rattle.script.specs.Questions.{usesIn}
+use Rattle.script.specs.Questions.{usesIn, nodesTest}
 use Rattle.records.specs.Uses.{Counted}
-use Rattle.records.proofs.RecordLaws.{lowest-here, lowest-later, last-nodes, from-methods}
+use Rattle.sections.proofs.Search.{lowest-found, lowest-later}
 use Rattle.records.proofs.UseLaws.{table-full}
 use Rattle.records.proofs.nodes.nodes_no.Statement.{statement}
 use Rattle.records.proofs.nodes.nodes_no.Tie as tie
@@ -15,11 +14,9 @@ table c = table-full _ _ _ (c .before .before .count-bodies .ensures) (c .count-
 slice-aggregate-first-out : tie.Need-slice-aggregate-first-out
 slice-aggregate-first-out c = sym (table (c .before) .room)
 
-first-out-requires : tie.Need-first-out-requires
-first-out-requires c κs = (c .before .before .before .before .before .before .pre, table (c .before))
-
 returns : tie.Need-returns
-returns c = from-methods _ _ (lowest-here _ Nodes _ _ _ (c .before .before .first-out .ensures) _ (c .enum-told .given .1))
+unfolding nodesTest
+returns c = lowest-found _ _ _ _ _ (c .before .before .first-out .ensures) _ (c .enum-told .given .1)
 
 slice-aggregate-first-out-2 : tie.Need-slice-aggregate-first-out-2
 slice-aggregate-first-out-2 c = sym (table (c .before .before .before .before .before) .room)
@@ -28,7 +25,8 @@ first-out-requires-2 : tie.Need-first-out-requires-2
 first-out-requires-2 c κs = (c .before .before .before .before .before .before .before .before .before .before .pre, table (c .before .before .before .before .before))
 
 returns-2 : tie.Need-returns-2
-returns-2 c = from-methods _ _ (lowest-later _ Nodes _ _ _ (c .before .before .before .before .first-out .ensures) _ (c .before .before .enum-told2 .given .1) (last-nodes _ _ Nodes (c .first-out2 .ensures)))
+unfolding nodesTest
+returns-2 c = lowest-later _ _ _ _ _ (c .before .before .before .before .first-out .ensures) _ (c .before .before .enum-told2 .given .1) (c .first-out2 .ensures)
 
 pub nodes-no-spec : {M : Type 1} → statement M
 nodes-no-spec =
@@ -37,7 +35,7 @@ nodes-no-spec =
     (λ c κs. search needs)
     (λ c κs. search needs)
     slice-aggregate-first-out
-    first-out-requires
+    (λ c κs. search needs)
     (λ c. search needs)
     returns
     (λ c. search needs)

@@ -1,20 +1,21 @@
 use borrow.Author.Needs.{needs}
 use mathlib.Core.Path.{refl}
+use Rattle.script.specs.Questions.{wordTest}
 use Rattle.records.proofs.RecordLaws.{word-is, part-none, part-is}
 use Rattle.records.proofs.nodes.word_fits.Statement.{statement}
 use Rattle.records.proofs.nodes.word_fits.Tie as tie
 
 returns : tie.Need-returns
-returns c = part-none _ _ _ _ (c .before .enum-told6 .given .1) (c .if1 .taken)
+returns c = part-none (c .before .before .before .before .args .s .now) _ _ _ (c .before .enum-told7 .given .1) (c .if1 .taken)
 
 returns-2 : tie.Need-returns-2
-returns-2 c = word-is _ _ _ _ _ _ (c .enum-told .given .1) refl
+returns-2 c = word-is (wordTest (c .before .before .before .args .s .now) (c .before .before .before .args .n)) _ _ _ _ (c .enum-told .given .1) refl
 
-returns-4 : tie.Need-returns-4
-returns-4 c = word-is _ _ _ _ _ _ (c .enum-told3 .given .1) refl
+returns-5 : tie.Need-returns-5
+returns-5 c = word-is (wordTest (c .before .before .before .args .s .now) (c .before .before .before .args .n)) _ _ _ _ (c .enum-told4 .given .1) refl
 
-returns-7 : tie.Need-returns-7
-returns-7 c = part-is _ _ _ _ (c .before .enum-told6 .given .1) (c .if1 .left)
+returns-8 : tie.Need-returns-8
+returns-8 c = part-is (c .before .before .before .before .before .args .s .now) _ _ _ (c .before .before .enum-told7 .given .1) _ (c .before .if1 .left) (c .count-of .ensures .0)
 
 pub word-fits-spec : {M : Type 1} → statement M
 word-fits-spec =
@@ -26,12 +27,15 @@ word-fits-spec =
     (λ c. search needs)
     (λ c. search needs)
     (λ c. search needs)
+    (λ c. search needs)
     returns
+    (λ c κs. search needs)
     (λ c. search needs)
     returns-2
     (λ c. search needs)
-    returns-4
+    (λ c. search needs)
+    returns-5
     (λ c. search needs)
     (λ c. search needs)
-    returns-7
+    returns-8
     (λ c. search needs))

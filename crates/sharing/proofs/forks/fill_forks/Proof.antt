@@ -9,7 +9,7 @@ returns : tie.Need-returns
 returns c = no-forks _ _ (c .before .before .before .before .pre .1) (c .before .has-fork .ensures (not-true _ (c .if1 .taken)))
 
 fill-spans-requires : tie.Need-fill-spans-requires
-fill-spans-requires c κs = (c .before .before .before .before .before .before .before .before .before .before .pre .0, search needs, c .before .before .before .before .clear .kept .0 ∙ c .before .before .before .before .before .before .before .before .before .before .pre .1, marked-none _ (c .before .before .before .before .before .before .before .before .before .before .pre .0) (c .before .before .before .before .clear .last .0) (c .before .before .before .before .clear .kept .0 ∙ c .before .before .before .before .before .before .before .before .before .before .pre .1) (c .before .before .before .before .clear .ensures))
+fill-spans-requires c κs = (c .before .before .before .before .before .before .before .before .before .before .pre .0, search needs, c .before .before .before .before .clear .kept .0 ∙ c .before .before .before .before .before .before .before .before .before .before .pre .1, marked-none _ (c .before .before .before .before .before .before .before .before .before .before .pre .0) _ _ (c .before .before .before .before .before .before .before .before .before .before .pre .1) (c .before .before .before .before .clear .ensures))
 
 pub fill-forks-spec : {M : Type 1} → statement M
 fill-forks-spec =

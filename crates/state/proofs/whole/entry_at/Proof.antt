@@ -3,7 +3,7 @@ use Rattle.state.proofs.whole.entry_at.Statement.{statement}
 use Rattle.state.proofs.whole.entry_at.Tie as tie
 
 returns : tie.Need-returns
-returns c = rw (c .cell-of .ensures, c .before .before .before .before .before .word .ensures .0, c .before .before .before .before .word2 .ensures .0, c .before .before .before .word3 .ensures .0, c .before .before .word4 .ensures .0, c .before .word5 .ensures .0)
+returns c = rw (c .cell-of .ensures, c .before .before .before .before .before .word .ensures .0, c .before .before .before .before .word2 .ensures .0, c .before .before .before .word3 .ensures .0, c .before .before .value .ensures, c .before .word4 .ensures .0)
 
 pub entry-at-spec : {M : Type 1} → statement M
 entry-at-spec =

@@ -1,7 +1,6 @@
 use native.Mathlib.Omega.{arith}
 use Prim.Native.Nat.{_-_, _≤_}
 use Rattle.script.specs.declared.Section.the-variants.{Fields}
-use Rattle.block.specs.declared.Area.the-variants.{Objects}
 use Rattle.members.proofs.LookupLaws.{laid}
 use Rattle.values.proofs.StoreLaws.{FieldsLeft, fields-begun, fields-no, fields-more, fields-done}
 use Rattle.values.proofs.stores.fields_fit.Statement.{statement}
@@ -22,17 +21,17 @@ add-record-word c = omega (arith, c .before .before .before .before .pre .0 .scr
 record-word-requires : tie.Need-record-word-requires Inv-loop μ-loop
 record-word-requires c κs = (laid (c .before .before .before .before .pre .0 .script), omega arith, omega arith)
 
-word-requires : tie.Need-word-requires Inv-loop μ-loop
-word-requires c κs = (c .before .before .before .before .before .pre .0 .block .long, omega (arith, c .before .before .before .before .before .pre .0 .block .few Objects), omega arith)
+field-requires : tie.Need-field-requires Inv-loop μ-loop
+field-requires c κs = (c .before .before .before .before .before .pre .0 .long, omega (arith, c .before .before .before .before .before .pre .0 .objects .few), omega arith)
 
 value-fits-requires : tie.Need-value-fits-requires Inv-loop μ-loop
 value-fits-requires c κs = c .before .before .before .before .before .before .pre .0
 
 returns : tie.Need-returns Inv-loop μ-loop
-returns c = fields-no _ _ _ _ _ _ (c .before .before .before .before .before .loop .inv .1) _ _ _ (omega arith) (c .before .before .before .record-word .ensures .0) (c .before .before .word .ensures .0) (c .before .value-fits .ensures) (c .if1 .taken)
+returns c = fields-no _ _ _ _ _ _ (c .before .before .before .before .before .loop .inv .1) _ _ _ (omega arith) (c .before .before .before .record-word .ensures .0) (c .before .before .field .ensures) (c .before .value-fits .ensures) (c .if1 .taken)
 
 loop-again : tie.Need-loop-again Inv-loop μ-loop
-loop-again c = (omega arith, fields-more _ _ _ _ _ _ (c .before .before .before .before .before .loop .inv .1) _ _ _ (omega arith) (c .before .before .before .record-word .ensures .0) (c .before .before .word .ensures .0) (c .before .value-fits .ensures) (c .if1 .left))
+loop-again c = (omega arith, fields-more _ _ _ _ _ _ (c .before .before .before .before .before .loop .inv .1) _ _ _ (omega arith) (c .before .before .before .record-word .ensures .0) (c .before .before .field .ensures) (c .before .value-fits .ensures) (c .if1 .left))
 
 returns-2 : tie.Need-returns-2 Inv-loop μ-loop
 returns-2 c = fields-done _ _ _ _ _ _ (c .before .loop .inv .1) (omega arith)
@@ -46,8 +45,7 @@ fields-fit-spec =
     loop-holds
     add-record-word
     record-word-requires
-    (λ c. omega arith)
-    word-requires
+    field-requires
     value-fits-requires
     returns
     (λ c. omega arith)

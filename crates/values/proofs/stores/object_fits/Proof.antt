@@ -1,14 +1,13 @@
 use native.Mathlib.Omega.{arith}
 use borrow.Author.Needs.{needs}
 use mathlib.Core.Path.{refl}
-use Rattle.block.specs.declared.Area.the-variants.{Objects}
 use Rattle.members.proofs.LookupLaws.{laid, own-ends, own-small}
 use Rattle.values.proofs.StoreLaws as laws
 use Rattle.values.proofs.stores.object_fits.Statement.{statement}
 use Rattle.values.proofs.stores.object_fits.Tie as tie
 
 word-requires : tie.Need-word-requires
-word-requires c κs = (c .before .before .before .pre .0 .block .long, omega (arith, c .before .before .before .pre .0 .block .few Objects), omega arith)
+word-requires c κs = (c .before .before .before .pre .0 .long, omega (arith, c .before .before .before .pre .0 .objects .few), omega arith)
 
 add-from : tie.Need-add-from
 add-from c = omega (arith, laws.own-run (c .before .before .before .before .before .before .before .before .pre .0) _ _ (c .before .before .before .before .word .ensures .0) (c .before .before .before .declared-as .ensures) (c .before .d .given .1) (c .before .before .before .before .before .before .before .before .pre .1), c .before .before .before .before .before .before .before .before .pre .1 .size)

@@ -11,7 +11,7 @@ abbrev μ-loop : tie.MeasureT-loop
 μ-loop s starts block count i₀ i = count - i
 
 count-requires : tie.Need-count-requires Inv-loop μ-loop
-count-requires c κs = c .before .before .before .pre .0 .block .long
+count-requires c κs = c .before .before .before .pre .0 .long
 
 loop-holds : tie.Need-loop-holds Inv-loop μ-loop
 loop-holds c = (omega arith, objects-begun (c .before .before .before .before .pre .0) _ (c .count .ensures .0))

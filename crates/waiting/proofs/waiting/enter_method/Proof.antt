@@ -1,21 +1,20 @@
 use borrow.Author.Needs.{needs}
-use Rattle.waiting.proofs.WaitingLaws.{calls-unbound, calls-null, calls-absent, calls-there}
+use Rattle.moves.proofs.Laws.{performs-as}
+use Rattle.moves.proofs.TargetLaws as targets
 use Rattle.waiting.proofs.waiting.enter_method.Statement.{statement}
 use Rattle.waiting.proofs.waiting.enter_method.Tie as tie
 
 returns : tie.Need-returns
-returns c = λ rest st g fs s. calls-unbound s _ _ _ (c .before .before .variable .ensures) _ fs _ _ _ (c .enum-told .given .1)
+returns c = λ rest st g fs s. performs-as (targets.no-target (targets.calls _ st fs _ _ _) (c .before .before .before .target-of .ensures _ _ rest st _ s) (c .before .enum-told .given .1)) (c .stays .ensures _ _ rest)
 
 returns-2 : tie.Need-returns-2
-returns-2 c = λ rest st g fs s. calls-null s _ _ _ (c .before .before .before .before .before .before .before .before .before .variable .ensures) _ fs _ _ _ _ (c .before .before .before .before .before .before .before .found .given .1) (c .before .before .before .before .enum-told2 .given .1) (c .before .before .fail .ensures rest st _ s)
+returns-2 c = λ rest st g fs s. performs-as (targets.null-target (targets.calls _ st fs _ _ _) (c .before .before .before .before .before .before .before .before .before .target-of .ensures _ _ rest st _ s) (c .before .before .before .before .before .before .before .found .given .1) (c .before .before .before .before .enum-told2 .given .1)) (c .before .before .fails .ensures rest st _ s)
+
+call-object-requires : tie.Need-call-object-requires
+call-object-requires c κs = (c .before .before .before .before .before .before .before .before .before .before .before .before .pre .0, c .before .before .before .before .before .before .before .before .before .before .before .before .pre .1, c .before .before .before .before .before .before .before .before .before .before .before .before .pre .2, c .before .before .before .before .before .before .before .before .before .before .before .before .pre .3, targets.found-below (c .before .before .before .before .before .before .before .before .before .before .before .before .pre .2 .seen) (targets.object-found (c .before .before .before .before .before .before .before .target-of .ensures _ _ _ _ _ (c .before .before .before .before .before .before .before .before .before .before .before .before .pre .2 .seen)) (c .before .before .before .before .before .found .given .1) (c .before .before .value .given .1)) .0, c .before .before .before .before .before .before .before .before .before .before .before .before .pre .5)
 
 returns-3 : tie.Need-returns-3
-returns-3 c = λ rest st g fs s. calls-absent s _ _ _ (c .before .before .before .before .before .before .before .before .before .variable .ensures) _ fs _ _ _ _ _ _ (c .before .before .before .before .before .before .before .found .given .1) (c .before .before .before .before .target .given .1) (c .before .count .ensures .0) (c .if1 .taken)
-
-returns-4 : tie.Need-returns-4
-returns-4 c =
-    let back = c .before .before .before .before .before .before .before .before in
-    λ rest st g fs s. calls-there s _ _ _ (back .before .before .before .before .before .variable .ensures) _ fs _ _ _ _ _ (back .before .before .before .found .given .1) (back .target .given .1) (c .before .before .call-object .ensures rest st g fs s)
+returns-3 c = λ rest st g fs s. performs-as (targets.object-target (targets.calls _ st fs _ _ _) (c .before .before .before .before .before .before .before .before .before .before .target-of .ensures _ _ rest st _ s) (c .before .before .before .before .before .before .before .before .found .given .1) (c .before .before .before .before .before .value .given .1)) (c .before .before .call-object .ensures rest st g fs s)
 
 pub enter-method-spec : {M : Type 1} → statement M
 enter-method-spec =
@@ -24,6 +23,7 @@ enter-method-spec =
     (λ c κs. search needs)
     (λ c. search needs)
     (λ c. search needs)
+    (λ c κs. search needs)
     (λ c. search needs)
     returns
     (λ c. search needs)
@@ -31,10 +31,6 @@ enter-method-spec =
     (λ c κs. search needs)
     (λ c. search needs)
     returns-2
-    (λ c κs. search needs)
+    call-object-requires
     (λ c. search needs)
-    (λ c. search needs)
-    returns-3
-    (λ c κs. search needs)
-    (λ c. search needs)
-    returns-4)
+    returns-3)

@@ -1,28 +1,27 @@
-use native.Mathlib.Omega.{arith}
 use borrow.Author.Needs.{needs}
-use mathlib.Core.Path.{refl}
+use mathlib.Core.Path.{refl, ap, _∙_}
 use Rattle.machine.specs.declared.Value.the-variants.{Null as nil}
 use Rattle.machine.specs.Config.{returning}
-use Rattle.block.specs.declared.Area.the-variants.{Objects}
-use Rattle.state.proofs.Seeing.{seen-few}
-use Rattle.waiting.proofs.WaitingLaws.{stores-unbound, stores-null, stores-absent, stores}
+use Rattle.machine.specs.Machine.{updateObject}
+use Rattle.moves.proofs.Laws.{performs-as}
+use Rattle.moves.proofs.TargetLaws as targets
 use Rattle.waiting.proofs.waiting.store_value.Statement.{statement}
 use Rattle.waiting.proofs.waiting.store_value.Tie as tie
 
 returns : tie.Need-returns
-returns c = λ rest st g fs s own. stores-unbound s _ _ _ (c .before .before .variable .ensures) _ fs _ _ (c .enum-told .given .1)
+returns c = λ rest st g fs s own. performs-as (targets.no-target (targets.updates _ st fs _ _) (c .before .before .before .target-of .ensures _ _ rest st _ s) (c .before .enum-told .given .1)) (c .stays .ensures _ _ rest)
 
 returns-2 : tie.Need-returns-2
-returns-2 c = λ rest st g fs s own. stores-null s _ _ _ (c .before .before .before .before .before .before .before .before .before .variable .ensures) _ fs _ _ _ (c .before .before .before .before .before .before .before .found .given .1) (c .before .before .before .before .enum-told2 .given .1) (c .before .before .fail .ensures rest st _ s)
-
-returns-3 : tie.Need-returns-3
-returns-3 c = λ rest st g fs s own. stores-absent s _ _ _ (c .before .before .before .before .before .before .before .before .before .variable .ensures) _ fs _ _ _ _ _ (c .before .before .before .before .before .before .before .found .given .1) (c .before .before .before .before .target .given .1) (c .before .count .ensures .0) (c .if1 .taken)
+returns-2 c = λ rest st g fs s own. performs-as (targets.null-target (targets.updates _ st fs _ _) (c .before .before .before .before .before .before .before .before .before .target-of .ensures _ _ rest st _ s) (c .before .before .before .before .before .before .before .found .given .1) (c .before .before .before .before .enum-told2 .given .1)) (c .before .before .fails .ensures rest st _ s)
 
 write-field-requires : tie.Need-write-field-requires
-write-field-requires c κs = (c .before .before .before .before .before .before .before .before .before .before .before .before .before .before .before .before .before .before .before .pre .0, c .before .before .before .before .before .before .before .before .before .before .before .before .before .before .before .before .before .before .before .pre .1, search needs, omega (arith, c .before .before .before .before .before .if1 .left, c .before .before .before .before .before .before .count .ensures .0, seen-few (c .before .before .before .before .before .before .before .before .before .before .before .before .before .before .before .before .before .before .before .pre .2 .seen) Objects), c .before .before .before .before .before .before .before .before .before .before .before .before .before .before .before .before .before .before .before .pre .5)
+write-field-requires c κs = (c .before .before .before .before .before .before .before .before .before .before .before .before .before .before .before .before .pre .0, c .before .before .before .before .before .before .before .before .before .before .before .before .before .before .before .before .pre .1, search needs, targets.found-below (c .before .before .before .before .before .before .before .before .before .before .before .before .before .before .before .before .pre .2 .seen) (targets.object-found (c .before .before .before .before .before .before .before .before .before .before .before .target-of .ensures _ _ _ _ _ (c .before .before .before .before .before .before .before .before .before .before .before .before .before .before .before .before .pre .2 .seen)) (c .before .before .before .before .before .before .before .before .before .found .given .1) (c .before .before .before .before .before .before .value .given .1)) .1, c .before .before .before .before .before .before .before .before .before .before .before .before .before .before .before .before .pre .5)
 
-returns-4 : tie.Need-returns-4
-returns-4 c = λ rest st g fs s own. stores s _ _ _ (c .before .before .before .before .before .before .before .before .before .before .before .before .before .before .before .before .before .variable .ensures) _ fs _ _ _ _ _ (c .before .before .before .before .before .before .before .before .before .before .before .before .before .before .before .found .given .1) (c .before .before .before .before .before .before .before .before .before .before .before .before .target .given .1) (c .before .before .before .before .before .before .before .before .before .count .ensures .0) (omega (arith, c .before .before .before .before .before .before .before .before .if1 .left)) (λ y h. c .before .before .write-field .ensures _ _ rest st _ y (c .before .before .before .before .before .before .pop .ensures rest st _ _ fs (returning nil fs) refl refl refl s) own h)
+returns-3 : tie.Need-returns-3
+returns-3 c = λ rest st g fs s own.
+    let y = targets.object-found (c .before .before .before .before .before .before .before .before .before .before .before .before .before .before .before .target-of .ensures _ _ rest st _ s) (c .before .before .before .before .before .before .before .before .before .before .before .before .before .found .given .1) (c .before .before .before .before .before .before .before .before .before .before .value .given .1) in
+    performs-as (targets.object-target (targets.updates _ st fs _ _) (c .before .before .before .before .before .before .before .before .before .before .before .before .before .before .before .target-of .ensures _ _ rest st _ s) (c .before .before .before .before .before .before .before .before .before .before .before .before .before .found .given .1) (c .before .before .before .before .before .before .before .before .before .before .value .given .1) ∙ ap (updateObject _ st fs _ _ _) (y .there))
+    (c .moved .ensures _ _ _ _ rest _ _ (c .before .before .before .write-field .ensures _ _ rest st _ (y .object) (c .before .before .before .before .before .before .before .pop .ensures rest st _ _ fs (returning nil fs) refl refl refl s) own (y .there)))
 
 pub store-value-spec : {M : Type 1} → statement M
 store-value-spec =
@@ -31,6 +30,7 @@ store-value-spec =
     (λ c κs. search needs)
     (λ c. search needs)
     (λ c. search needs)
+    (λ c κs. search needs)
     (λ c. search needs)
     returns
     (λ c. search needs)
@@ -40,10 +40,7 @@ store-value-spec =
     returns-2
     (λ c κs. search needs)
     (λ c. search needs)
-    (λ c. search needs)
-    returns-3
+    write-field-requires
     (λ c κs. search needs)
     (λ c. search needs)
-    write-field-requires
-    (λ c. search needs)
-    returns-4)
+    returns-3)

@@ -1,0 +1,41 @@
+use native.Mathlib.Omega.{arith}
+use borrow.Author.Needs.{needs}
+use Rattle.moves.proofs.Ready.{blank-tables}
+use Rattle.replies.proofs.RunBlockLaws as laws
+use Rattle.replies.proofs.running.run_block.Statement.{statement}
+use Rattle.replies.proofs.running.run_block.Tie as tie
+
+well-formed-requires : tie.Need-well-formed-requires
+well-formed-requires c κs =
+    let pre = c .before .before .before .before .before .before .before .before .before .before .before .before .before .before .pre in
+    (blank-tables (pre .0 .0) (c .before .before .before .before .before .before .before .before .fill-starts .ensures) (c .before .before .before .before .before .fill-forks .ensures) (pre .0 .1) (pre .0 .2), pre .1 .0)
+
+returns : tie.Need-returns
+returns c = laws.result-not _ _ _ (c .before .before .before .well-formed .result) (c .before .before .before .well-formed .ensures .0) _ (c .if1 .taken)
+
+run-formed-requires : tie.Need-run-formed-requires
+run-formed-requires c κs = (rw (c .before .before .before .before .before .before .before .well-formed .ensures .1) (blank-tables (c .before .before .before .before .before .before .before .before .before .before .before .before .before .before .before .before .before .before .before .before .before .before .pre .0 .0) (c .before .before .before .before .before .before .before .before .before .before .before .before .before .before .before .before .fill-starts .ensures) (c .before .before .before .before .before .before .before .before .before .before .before .before .before .fill-forks .ensures) (c .before .before .before .before .before .before .before .before .before .before .before .before .before .before .before .before .before .before .before .before .before .before .pre .0 .1) (c .before .before .before .before .before .before .before .before .before .before .before .before .before .before .before .before .before .before .before .before .before .before .pre .0 .2)), laws.playable _ _ _ (c .before .before .before .before .before .before .before .well-formed .result) (c .before .before .before .before .before .before .before .well-formed .ensures .0) (c .before .before .before .before .before .before .before .before .before .before .before .before .before .before .before .before .before .before .before .before .before .before .pre .0 .0) (λ i. omega (arith, c .before .before .before .before .before .before .before .before .before .before .before .before .before .before .before .before .before .before .before .before .before .shared-slice-known .given i)) (c .before .before .before .before .before .before .before .before .before .before .before .before .before .before .before .before .before .before .before .before .before .before .pre .0 .3) (c .before .before .before .before .if1 .left), c .before .before .before .before .before .before .before .before .before .before .before .before .before .before .before .before .before .before .before .before .before .before .pre .1 .1)
+
+returns-2 : tie.Need-returns-2
+returns-2 c = laws.plays _ _ _ (c .before .before .before .before .before .before .before .before .before .before .before .before .well-formed .result) (c .before .before .before .before .before .before .before .before .before .before .before .before .well-formed .ensures .0) _ (c .before .before .before .before .before .before .before .before .before .before .before .before .before .before .before .before .before .before .before .before .before .before .before .before .before .before .before .pre .0 .0) (λ i. omega (arith, c .before .before .before .before .before .before .before .before .before .before .before .before .before .before .before .before .before .before .before .before .before .before .before .before .before .before .shared-slice-known .given i)) (c .before .before .before .before .before .before .before .before .before .before .before .before .before .before .before .before .before .before .before .before .before .before .before .before .before .before .before .pre .0 .3) (c .before .before .before .before .before .before .before .before .before .if1 .left) (c .before .before .before .before .run-formed .ensures)
+
+pub run-block-spec : {M : Type 1} → statement M
+run-block-spec =
+    tie.close
+    (tie.spec
+    (λ c. search needs)
+    (λ c κs. search needs)
+    (λ c. search needs)
+    (λ c κs. search needs)
+    (λ c. search needs)
+    (λ c. search needs)
+    well-formed-requires
+    (λ c. search needs)
+    (λ c. search needs)
+    returns
+    (λ c. search needs)
+    (λ c. search needs)
+    run-formed-requires
+    (λ c. search needs)
+    (λ c. search needs)
+    returns-2)
