@@ -72,6 +72,18 @@ fn take_choice(
     }
 }
 
+// What a run comes to, of these parts.
+fn ran(stop: Stop, read: usize, moves: usize, tree: Tree) -> Ran
+    ensures { λ r. ⌜ r ≡ record { stop = stop; read = read; moves = moves; tree = tree } ⌝ }
+{
+    Ran {
+        stop: stop,
+        read: read,
+        moves: moves,
+        tree: tree,
+    }
+}
+
 // The run from a configuration in which something can move.
 fn follow(
     s: &[u8],
@@ -102,21 +114,11 @@ fn follow(
         let next = taken.next;
         let after = taken.tree;
         if let Next::Stops(stop) = next {
-            return Ran {
-                stop: stop,
-                read: read,
-                moves: moves,
-                tree: after,
-            };
+            return ran(stop, read, moves, after);
         }
         now = after;
     }
-    Ran {
-        stop: Stop::Spent,
-        read: read,
-        moves: moves,
-        tree: now,
-    }
+    ran(Stop::Spent, read, moves, now)
 }
 
 // Run: the stop, "choices read and moves made", and the tree that the run leaves.
@@ -139,12 +141,7 @@ pub fn run_choices(
 {
     let how = look(s, block, tree);
     if let Looked::Ends(e) = how {
-        return Ran {
-            stop: Stop::Ended(e),
-            read: 0,
-            moves: 0,
-            tree: tree,
-        };
+        return ran(Stop::Ended(e), 0, 0, tree);
     }
     follow(s, starts, forks, table, block, tree, choices)
 }

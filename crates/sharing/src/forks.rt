@@ -22,8 +22,8 @@ ghost use Rattle.sharing.specs.Free.{SPAN, NAMES, MaskOf, FreeMask, Alon
 // The variables of a mask, a bit each.
 const SPAN: usize = 64;
 
-// Word j of node n.
-fn node_word(s: &[u8], n: usize, j: usize) -> usize
+// Word j of node n, as an index.
+fn node_index(s: &[u8], n: usize, j: usize) -> usize
     requires { ⌜ WithinLayout (now s) × (n < countOf (now s) nodes) × (j < 4) ⌝ }
     ensures { λ r. ⌜ (r ≡ nodeWord (now (s .entry)) n j) × (r < NAMES) ⌝ }
 {
@@ -38,7 +38,7 @@ fn has_fork(s: &[u8]) -> bool
     let count = sections::count_of(s, Section::Nodes);
     let mut n = 0;
     while n < count {
-        if node_word(s, n, 0) == 8 {
+        if node_index(s, n, 0) == 8 {
             return true;
         }
         n += 1;
@@ -51,8 +51,8 @@ fn used_name(s: &[u8], n: usize) -> usize
     requires { ⌜ WithinLayout (now s) × (n < countOf (now s) nodes) ⌝ }
     ensures { λ r. ⌜ Uses (λ x. (x ≡ r) × (x < NAMES)) (viewAt (now (s .entry)) n) ⌝ }
 {
-    let kind = node_word(s, n, 0);
-    let x = node_word(s, n, 1);
+    let kind = node_index(s, n, 0);
+    let x = node_index(s, n, 1);
     match kind {
         1 => x,
         2 => x,
@@ -111,7 +111,7 @@ fn name_mask(s: &[u8], n: usize, start: usize) -> u64
     requires { ⌜ WithinLayout (now s) × (n < countOf (now s) nodes) ⌝ }
     ensures { λ r. ⌜ MaskOf start r (nodeWord (now (s .entry)) n 1 ∷ []) ⌝ }
 {
-    let x = node_word(s, n, 1);
+    let x = node_index(s, n, 1);
     bit_of(x, start)
 }
 
@@ -120,7 +120,7 @@ fn part_mask(s: &[u8], masks: &[u64], n: usize, j: usize) -> u64
     requires { ⌜ WithinLayout (now s) × (n < countOf (now s) nodes) × (j < 4) × (nodeWord (now s) n j < length (now masks)) ⌝ }
     ensures { λ r. ⌜ r ≡ getD (now (masks .entry)) (nodeWord (now (s .entry)) n j) 0 ⌝ }
 {
-    let p = node_word(s, n, j);
+    let p = node_index(s, n, j);
     masks[p]
 }
 
@@ -160,7 +160,7 @@ fn mask_of(s: &[u8], masks: &[u64], start: usize, n: usize) -> u64
     requires { ⌜ Ahead (now s) (now masks) start n ⌝ }
     ensures { λ r. ⌜ FreeMask (now (s .entry)) start n r ⌝ }
 {
-    let kind = node_word(s, n, 0);
+    let kind = node_index(s, n, 0);
     match kind {
         1 => name_mask(s, n, start),
         2 => name_mask(s, n, start),
@@ -182,7 +182,7 @@ fn mark_of(s: &[u8], masks: &[u64], n: usize, before: u8) -> u8
         ForkMark (now (s .entry)) start n before → ForkMark (now (s .entry)) (start + SPAN) n r)
         ⌝ }
 {
-    if node_word(s, n, 0) != 8 {
+    if node_index(s, n, 0) != 8 {
         return before;
     }
     let a = part_mask(s, masks, n, 1);

@@ -5,7 +5,7 @@ use Rattle.runs.proofs.runs.run_choices.Statement.{statement}
 use Rattle.runs.proofs.runs.run_choices.Tie as tie
 
 returns : tie.Need-returns
-returns c = (λ x. laws.ended-first x _ _ _ (c .before .before .before .look .ensures x) (c .before .how .given .1), (omega arith, omega arith))
+returns c = rw (c .ran .ensures) (λ x. laws.ended-first x _ _ _ (c .before .before .before .before .look .ensures x) (c .before .before .how .given .1), (omega arith, omega arith))
 
 follow-requires : tie.Need-follow-requires
 follow-requires c κs =
@@ -18,6 +18,7 @@ run-choices-spec =
     (tie.spec
     (λ c κs. search needs)
     (λ c. search needs)
+    (λ c κs. search needs)
     (λ c. search needs)
     returns
     (λ c. search needs)

@@ -21,7 +21,7 @@ returns : tie.Need-returns Inv-loop μ-loop
 returns c = λ e. absurd (true-false e)
 
 loop-again : tie.Need-loop-again Inv-loop μ-loop
-loop-again c = (omega arith, below-more _ _ (c .before .before .before .loop .inv .1) (λ e. c .if1 .left (c .before .node-word .ensures .0 ∙ e)))
+loop-again c = (omega arith, below-more _ _ (c .before .before .before .loop .inv .1) (λ e. c .if1 .left (c .before .node-index .ensures .0 ∙ e)))
 
 returns-2 : tie.Need-returns-2 Inv-loop μ-loop
 returns-2 c = λ e n h z. c .before .loop .inv .1 n (omega (arith, h)) z

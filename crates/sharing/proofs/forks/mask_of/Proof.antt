@@ -10,45 +10,45 @@ use Rattle.sharing.proofs.forks.mask_of.Tie as tie
 
 use-mask-requires : tie.Need-use-mask-requires
 unfolding kindOf
-use-mask-requires c κs = (c .before .before .before .before .pre, omega arith, part-of _ _ 3 _ (sym (c .before .node-word .ensures .0) ∙ c .match .keys3) first)
+use-mask-requires c κs = (c .before .before .before .before .pre, omega arith, part-of _ _ 3 _ (sym (c .before .node-index .ensures .0) ∙ c .match .keys3) first)
 
 use-mask-requires-2 : tie.Need-use-mask-requires-2
 unfolding kindOf
-use-mask-requires-2 c κs = (c .before .before .before .before .pre, omega arith, part-of _ _ 4 _ (sym (c .before .node-word .ensures .0) ∙ c .match .keys4) first)
+use-mask-requires-2 c κs = (c .before .before .before .before .pre, omega arith, part-of _ _ 4 _ (sym (c .before .node-index .ensures .0) ∙ c .match .keys4) first)
 
 part-mask-requires : tie.Need-part-mask-requires
 unfolding kindOf
-part-mask-requires c κs = (c .before .before .before .before .pre .layout, c .before .before .before .before .pre .there, omega arith, part-within _ (c .before .before .before .before .pre .layout) (c .before .before .before .before .args .masks .now) _ _ (c .before .before .before .before .pre .size) (c .before .before .before .before .pre .there) (part-of _ _ 7 _ (sym (c .before .node-word .ensures .0) ∙ c .match .keys6) first))
+part-mask-requires c κs = (c .before .before .before .before .pre .layout, c .before .before .before .before .pre .there, omega arith, part-within _ (c .before .before .before .before .pre .layout) (c .before .before .before .before .args .masks .now) _ _ (c .before .before .before .before .pre .size) (c .before .before .before .before .pre .there) (part-of _ _ 7 _ (sym (c .before .node-index .ensures .0) ∙ c .match .keys6) first))
 
 use-mask-requires-3 : tie.Need-use-mask-requires-3
 unfolding kindOf
-use-mask-requires-3 c κs = (c .before .before .before .before .pre, omega arith, part-of _ _ 9 _ (sym (c .before .node-word .ensures .0) ∙ c .match .keys8) first)
+use-mask-requires-3 c κs = (c .before .before .before .before .pre, omega arith, part-of _ _ 9 _ (sym (c .before .node-index .ensures .0) ∙ c .match .keys8) first)
 
 returns : tie.Need-returns
 unfolding kindOf fv
-returns c = mask-is _ _ _ _ (c .before .before .before .before .before .pre) 1 _ (sym (c .before .before .node-word .ensures .0) ∙ c .before .match .keys1) (c .name-mask .ensures)
+returns c = mask-is _ _ _ _ (c .before .before .before .before .before .pre) 1 _ (sym (c .before .before .node-index .ensures .0) ∙ c .before .match .keys1) (c .name-mask .ensures)
 
 returns-2 : tie.Need-returns-2
 unfolding kindOf fv
-returns-2 c = mask-is _ _ _ _ (c .before .before .before .before .before .pre) 2 _ (sym (c .before .before .node-word .ensures .0) ∙ c .before .match .keys2) (c .name-mask2 .ensures)
+returns-2 c = mask-is _ _ _ _ (c .before .before .before .before .before .pre) 2 _ (sym (c .before .before .node-index .ensures .0) ∙ c .before .match .keys2) (c .name-mask2 .ensures)
 
 returns-3 : tie.Need-returns-3
 unfolding kindOf fv
-returns-3 c = mask-is _ _ _ _ (c .before .before .before .before .before .pre) 3 _ (sym (c .before .before .node-word .ensures .0) ∙ c .before .match .keys3) (c .use-mask .ensures)
+returns-3 c = mask-is _ _ _ _ (c .before .before .before .before .before .pre) 3 _ (sym (c .before .before .node-index .ensures .0) ∙ c .before .match .keys3) (c .use-mask .ensures)
 
 returns-4 : tie.Need-returns-4
 unfolding kindOf fv
-returns-4 c = mask-is _ _ _ _ (c .before .before .before .before .before .pre) 4 _ (sym (c .before .before .node-word .ensures .0) ∙ c .before .match .keys4) (c .use-mask2 .ensures)
+returns-4 c = mask-is _ _ _ _ (c .before .before .before .before .before .pre) 4 _ (sym (c .before .before .node-index .ensures .0) ∙ c .before .match .keys4) (c .use-mask2 .ensures)
 
 returns-6 : tie.Need-returns-6
-returns-6 c = mask-cast _ _ _ _ (c .before .before .before .before .before .pre) _ (sym (c .before .before .node-word .ensures .0) ∙ c .before .match .keys6) (c .part-mask .ensures)
+returns-6 c = mask-cast _ _ _ _ (c .before .before .before .before .before .pre) _ (sym (c .before .before .node-index .ensures .0) ∙ c .before .match .keys6) (c .part-mask .ensures)
 
 returns-8 : tie.Need-returns-8
 unfolding kindOf fv
-returns-8 c = mask-is _ _ _ _ (c .before .before .before .before .before .pre) 9 _ (sym (c .before .before .node-word .ensures .0) ∙ c .before .match .keys8) (c .use-mask3 .ensures)
+returns-8 c = mask-is _ _ _ _ (c .before .before .before .before .before .pre) 9 _ (sym (c .before .before .node-index .ensures .0) ∙ c .before .match .keys8) (c .use-mask3 .ensures)
 
 returns-9 : tie.Need-returns-9
-returns-9 c = let r = c .match .rest in mask-rest _ _ _ _ (c .before .before .before .before .pre) _ (c .before .node-word .ensures .0) (r .0 .0 .0 .0 .0 .0 .0 .1) (r .0 .0 .0 .0 .0 .0 .1) (r .0 .0 .0 .0 .0 .1) (r .0 .0 .0 .0 .1) (r .0 .0 .0 .1) (r .0 .0 .1) (r .0 .1) (r .1)
+returns-9 c = let r = c .match .rest in mask-rest _ _ _ _ (c .before .before .before .before .pre) _ (c .before .node-index .ensures .0) (r .0 .0 .0 .0 .0 .0 .0 .1) (r .0 .0 .0 .0 .0 .0 .1) (r .0 .0 .0 .0 .0 .1) (r .0 .0 .0 .0 .1) (r .0 .0 .0 .1) (r .0 .0 .1) (r .0 .1) (r .1)
 
 pub mask-of-spec : {M : Type 1} → statement M
 mask-of-spec =

@@ -3,7 +3,7 @@ use Rattle.sharing.proofs.forks.part_mask.Statement.{statement}
 use Rattle.sharing.proofs.forks.part_mask.Tie as tie
 
 returns : tie.Need-returns
-returns c = rw (c .before .node-word .ensures .0)
+returns c = rw (c .before .node-index .ensures .0)
 
 pub part-mask-spec : {M : Type 1} → statement M
 part-mask-spec =
