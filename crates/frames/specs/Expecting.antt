@@ -21,7 +21,7 @@ use Rattle.machine.specs.Config.{Code, codeOf, Binding, Stores, Tree, running, 
 use Rattle.machine.specs.Machine.{fieldCount, context}
 use Rattle.machine.specs.Decide.{given, only, valueFitsTest, atTest, wants, awaited, castType, expects, wantTest}
 use Rattle.block.specs.declared.Area.the-variants.{Bindings, Positions}
-use Rattle.block.specs.Layout.{wordIn, TYPE, LINK}
+use Rattle.block.specs.Layout.{wordIn, TYPE, LINK, WAITING}
 use Rattle.block.specs.Block.{preorder, framesOf}
 use Rattle.block.specs.Decode.{configIn}
 use Rattle.representation.specs.InOrder.{InOrder}
@@ -73,7 +73,7 @@ abbrev pub placeAt : List ℕ → List ℕ → ℕ → Tree
 placeAt s b i = getD (preorder (configOf s b .tree)) i failed
 
 abbrev pub framesBefore : List ℕ → ℕ → ℕ
-framesBefore b i = sumBelow (λ k. wordIn b Positions k 4) i
+framesBefore b i = sumBelow (λ k. wordIn b Positions k WAITING) i
 
 -- A position by itself, without the sides of a join: its frames, and its node or value.
 abbrev pub nodeTest : Code → List Binding → Point → ℕ → Want → Bool
