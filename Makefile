@@ -1,30 +1,54 @@
-# make           build/: the library, its header and the checking program, ready to take away
-# make demo      the checking program on every sample script, with what each shows
-# make test      the whole test run, which is the gate
-# make quick     for daily work: what has changed since it was last proved, proved and compiled, and the short tests; no must-fail edit
-# make install   into PREFIX (default /usr/local): lib/liboolong.a, include/oolong.h, bin/oolong_check
-# make bench     the speed of Check and Run beside the second implementation's
-# make clean     removes build/ and target/
+# make            build/: the library, its header and the checking program, ready to take away
+# make demo       the checking program on every sample script, with what each shows
+# make test       the whole test run, which is the gate
+# make quick      for daily work: what has changed since it was last proved, proved and compiled, and the short tests; no must-fail edit
+# make install    under PREFIX (default /usr/local; each place by itself: LIBDIR, INCLUDEDIR, BINDIR, PKGCONFIGDIR), in DESTDIR if it is given
+# make uninstall  removes what `make install` with the same variables has put there
+# make bench      the speed of the calls beside the second implementation's
+# make clean      removes build/ and target/
 
 PREFIX ?= /usr/local
+LIBDIR ?= $(PREFIX)/lib
+INCLUDEDIR ?= $(PREFIX)/include
+BINDIR ?= $(PREFIX)/bin
+PKGCONFIGDIR ?= $(LIBDIR)/pkgconfig
+OBJCOPY ?= objcopy
 CFLAGS ?= -O2
 CFLAGS += -std=c11 -D_DEFAULT_SOURCE -Wall -Wextra -Werror
 SOURCES := crates.txt $(shell find crates -type f)
 
-.PHONY: all test quick demo install bench clean
+# The version stands in the header only. The linker's names of the four calls end in its first number.
+version_part = $(shell sed -n 's/^.define OOLONG_VERSION_$(1) //p' include/oolong.h)
+MAJOR := $(call version_part,MAJOR)
+VERSION := $(MAJOR).$(call version_part,MINOR).$(call version_part,PATCH)
+CALLS := oolong_check oolong_start oolong_offer oolong_run
 
-all: build/lib/liboolong.a build/include/oolong.h build/bin/oolong_check
+LIBRARY := build/lib/liboolong.a
+PROGRAM := build/bin/oolong_check
+INSTALLED = $(LIBDIR)/liboolong.a $(INCLUDEDIR)/oolong.h $(BINDIR)/oolong_check $(PKGCONFIGDIR)/liboolong.pc
 
-# The archive is made of a proved crate: rt proves whatever has changed first.
-build/lib/liboolong.a: $(SOURCES)
-	@mkdir -p $(@D)
+ifneq ($(filter-out clean uninstall,$(or $(MAKECMDGOALS),all)),)
+ifneq ($(shell uname -sm),Linux x86_64)
+$(error the engine is compiled for x86-64 Linux only, and this is $(shell uname -sm))
+endif
+endif
+
+.PHONY: all test quick demo install uninstall bench clean
+
+all: $(LIBRARY) build/include/oolong.h $(PROGRAM)
+
+# Archive and program are made of proved crates: rt proves whatever has changed first. One rule makes both, since rt must not run twice at once.
+build/engine.a $(PROGRAM) &: $(SOURCES)
+	@mkdir -p build/bin
+	@echo "proving the engine's crates and compiling them: minutes the first time, then only what has changed"
 	rt staticlib engine
-	cp target/staticlib/libengine.a $@
-
-build/bin/oolong_check: $(SOURCES)
-	@mkdir -p $(@D)
 	rt check oolong_check
-	cp target/bin/oolong_check $@
+	cp target/staticlib/libengine.a build/engine.a
+	cp target/bin/oolong_check $(PROGRAM)
+
+$(LIBRARY): build/engine.a include/oolong.h
+	@mkdir -p $(@D)
+	$(OBJCOPY) $(foreach call,$(CALLS),--redefine-sym $(call)=$(call)_$(MAJOR)) $< $@
 
 build/include/oolong.h: include/oolong.h
 	@mkdir -p $(@D)
@@ -34,11 +58,11 @@ build/bin/words: samples/words.c
 	@mkdir -p $(@D)
 	$(CC) $(CFLAGS) -o $@ $<
 
-build/tests/%: tests/c/%.c tests/c/lent.h build/include/oolong.h build/lib/liboolong.a
+build/tests/%: tests/c/%.c tests/c/lent.h build/include/oolong.h $(LIBRARY)
 	@mkdir -p $(@D)
-	$(CC) $(CFLAGS) -Ibuild/include -o $@ $< build/lib/liboolong.a -pthread
+	$(CC) $(CFLAGS) -Ibuild/include -o $@ $< $(LIBRARY) -pthread
 
-demo: build/bin/oolong_check build/bin/words
+demo: $(PROGRAM) build/bin/words
 	@samples/demo
 
 test:
@@ -48,12 +72,16 @@ quick:
 	@tests/run quick
 
 install: all
-	install -d $(DESTDIR)$(PREFIX)/lib $(DESTDIR)$(PREFIX)/include $(DESTDIR)$(PREFIX)/bin
-	install -m 644 build/lib/liboolong.a $(DESTDIR)$(PREFIX)/lib/
-	install -m 644 build/include/oolong.h $(DESTDIR)$(PREFIX)/include/
-	install -m 755 build/bin/oolong_check $(DESTDIR)$(PREFIX)/bin/
+	install -d $(addprefix $(DESTDIR),$(dir $(INSTALLED)))
+	install -m 644 $(LIBRARY) $(DESTDIR)$(LIBDIR)/
+	install -m 644 build/include/oolong.h $(DESTDIR)$(INCLUDEDIR)/
+	install -m 755 $(PROGRAM) $(DESTDIR)$(BINDIR)/
+	sed 's|@PREFIX@|$(PREFIX)|; s|@LIBDIR@|$(LIBDIR)|; s|@INCLUDEDIR@|$(INCLUDEDIR)|; s|@VERSION@|$(VERSION)|' include/liboolong.pc.in >$(DESTDIR)$(PKGCONFIGDIR)/liboolong.pc
 
-bench: build/lib/liboolong.a
+uninstall:
+	rm -f $(addprefix $(DESTDIR),$(INSTALLED))
+
+bench: $(LIBRARY)
 	cargo run --quiet --release --offline --manifest-path bench/Cargo.toml
 
 clean:

@@ -9,7 +9,8 @@
  *     oolong_run     moves threads in the order that you choose
  *
  * Every call returns, whatever bytes it is lent: you need not check them first. Nothing here allocates memory, keeps anything between calls, reads or writes a file, or calls back.
- * A reply depends on nothing but the lent bytes and lengths. Calls on different buffers may run at the same time in different threads.
+ * A reply depends on nothing but the lent bytes and lengths. Calls may run at the same time in different threads if each has buffers of its own for what it writes: one script, and any
+ * other buffer that the calls only read, may be lent to all of them at once.
  *
  * Buffers. A buffer is lent as a pointer and a length in bytes, at any address. A length of 0 goes with any pointer, NULL too. With a larger length the pointer must point to that many
  * bytes that stay readable, and unwritten by others, until the call returns. A buffer that a call writes (the block in oolong_start and oolong_run, the flags in oolong_offer) must be
@@ -24,7 +25,10 @@
  * file and load it again, copy it to come back to that state later, and run the copies on in different ways. Lend it with the script that it was started with. You may also lend a block
  * that was changed, damaged or made by hand: if it is no well-formed state of the script the call is refused with OOLONG_NO_BLOCK_FORM, and if it is one, the run goes on from there.
  *
- * Stack. See OOLONG_STACK and OOLONG_STACK_USUAL: the calls go as deep as the script's expressions are nested.
+ * Stack. See OOLONG_STACK_FOR: the calls go as deep as the script's expressions are nested.
+ *
+ * Versions. The names that the linker sees end in the major version: a program that was compiled with the header of another major version does not link with this library, since replies are
+ * returned by value and may then have other fields. In C and C++ the calls have the names that are declared here. The header is for gcc and clang, in C from C89 and in C++ from C++98 on.
  */
 #ifndef OOLONG_H
 #define OOLONG_H
@@ -35,6 +39,20 @@
 #ifdef __cplusplus
 extern "C" {
 #endif
+
+/* The major version changes where a call, a reply, a number's meaning or the block's layout does; the minor where something is added; the patch where neither does. */
+#define OOLONG_VERSION_MAJOR 1
+#define OOLONG_VERSION_MINOR 0
+#define OOLONG_VERSION_PATCH 0
+#define OOLONG_VERSION (OOLONG_VERSION_MAJOR * 10000 + OOLONG_VERSION_MINOR * 100 + OOLONG_VERSION_PATCH)
+
+/* The number of the block's layout: it changes where a byte of the block changes its meaning. A block that you keep in a file is best kept with this number. */
+#define OOLONG_LAYOUT 1
+
+/* The linker's name of a call: its own, and the major version. */
+#define OOLONG_TEXT_OF(number) #number
+#define OOLONG_LINK_NAME(name, major) __asm__(name "_" OOLONG_TEXT_OF(major))
+#define OOLONG_LINKED(name) OOLONG_LINK_NAME(name, OOLONG_VERSION_MAJOR)
 
 /* Limits of a script file. */
 #define OOLONG_SCRIPT_LEAST 24u      /* bytes of the shortest file: the contents */
@@ -59,7 +77,7 @@ extern "C" {
 #define OOLONG_THREADS_MOST 32u      /* threads at one time; with the joins between them at most 63 tree positions */
 
 /* Why a call is refused: the first question, in this order, that gets a no. oolong_check asks those to 15, oolong_start these and OOLONG_NO_BLOCK_LENGTH, the other two all. */
-enum {
+enum oolong_number {
     OOLONG_OK = 0,
     OOLONG_NO_LENGTH = 1,      /* the file is not 24 to 13,592 bytes; place 0 */
     OOLONG_NO_COUNTS = 2,      /* a count is above its limit, or there is no node; place 0 */
@@ -82,7 +100,7 @@ enum {
 };
 
 /* Why oolong_run came back. */
-enum {
+enum oolong_stop {
     OOLONG_SPENT = 0,         /* every choice is read and the run can go on: lend more */
     OOLONG_FINISHED = 1,      /* the script has ended with a value */
     OOLONG_FAILED = 2,        /* the script has ended with a failure: a field, a method or a lock of null was asked for */
@@ -93,12 +111,11 @@ enum {
     OOLONG_FULL_THREADS = 7
 };
 
-/* Stack that is enough, in bytes, by measurement on x86-64. OOLONG_STACK is for any call on any script: the deepest, 1,023 casts one in another, needs 559,000 in oolong_check and oolong_start
- * and 690,000 in oolong_offer and oolong_run. OOLONG_STACK_USUAL is for a script whose expressions are nested at most 64 deep: one like Figure 10 of the paper needs 141,000 in the first two calls
- * and 272,200 in the others. Most of it is taken before anything is asked: a call that is refused at once needs 131,200 or 262,400. */
-#define OOLONG_STACK 1048576u
-#define OOLONG_STACK_USUAL 294912u
-#define OOLONG_CHECK_STACK OOLONG_STACK /* its name before the other calls were there */
+/* Stack that is enough for any call, in bytes, by measurement on x86-64, where the script's expressions are nested so deep: a node that is no part of another is nested 1 deep, and a part one
+ * deeper than its node. OOLONG_STACK is enough for any script, OOLONG_STACK_USUAL for one that is nested at most 100 deep. */
+#define OOLONG_STACK_FOR(nesting) (16384u + 410u * (nesting))
+#define OOLONG_STACK_USUAL OOLONG_STACK_FOR(100u)
+#define OOLONG_STACK OOLONG_STACK_FOR(OOLONG_NODES_MOST)
 
 struct oolong_check_reply {
     uint16_t number; /* OOLONG_OK or OOLONG_NO_.. */
@@ -110,7 +127,7 @@ struct oolong_check_reply {
  * Check a script: is it within layout and limits, and does OOlong's type system give it a type? The script is only read. The answer depends on nothing but its bytes.
  * A script that gets OOLONG_OK is accepted: only such a script can be started and run. The other calls ask the same questions again, so this call need not come first.
  */
-struct oolong_check_reply oolong_check(const uint8_t *script, size_t script_len);
+struct oolong_check_reply oolong_check(const uint8_t *script, size_t script_len) OOLONG_LINKED("oolong_check");
 
 struct oolong_start_reply {
     uint16_t number; /* OOLONG_OK or OOLONG_NO_.. */
@@ -121,7 +138,7 @@ struct oolong_start_reply {
  * Begin a run: check the script as oolong_check does, then write the state in which nothing has been done over the whole block, whatever stood there: no object, no binding, and one thread
  * at the script's start, which is tree position 0. The block must be OOLONG_BLOCK bytes.
  */
-struct oolong_start_reply oolong_start(const uint8_t *script, size_t script_len, uint8_t *block, size_t block_len);
+struct oolong_start_reply oolong_start(const uint8_t *script, size_t script_len, uint8_t *block, size_t block_len) OOLONG_LINKED("oolong_start");
 
 struct oolong_offer_reply {
     uint16_t number; /* OOLONG_OK or OOLONG_NO_.. */
@@ -133,7 +150,7 @@ struct oolong_offer_reply {
  * its right side. Flag number p becomes 1 if position p can move, and 0 if it cannot or is not there. A move that a full store would stop counts as able. The flags are all 0 just where the
  * run has ended (OOLONG_FINISHED, OOLONG_FAILED or OOLONG_DEADLOCK). They hold for this block: after a move ask again, since positions may then stand for other threads.
  */
-struct oolong_offer_reply oolong_offer(const uint8_t *script, size_t script_len, const uint8_t *block, size_t block_len, uint8_t *flags, size_t flags_len);
+struct oolong_offer_reply oolong_offer(const uint8_t *script, size_t script_len, const uint8_t *block, size_t block_len, uint8_t *flags, size_t flags_len) OOLONG_LINKED("oolong_offer");
 
 struct oolong_run_reply {
     uint16_t number; /* OOLONG_OK or OOLONG_NO_.. */
@@ -149,7 +166,49 @@ struct oolong_run_reply {
  * a store is full for the chosen move; that choice counts as read too. The block is then the state after the last move. Until a store is full, many choices in one call and one choice in
  * each of many calls lead to the same block. The same script and the same choices always end in the same way.
  */
-struct oolong_run_reply oolong_run(const uint8_t *script, size_t script_len, uint8_t *block, size_t block_len, const uint8_t *choices, size_t choices_len);
+struct oolong_run_reply oolong_run(const uint8_t *script, size_t script_len, uint8_t *block, size_t block_len, const uint8_t *choices, size_t choices_len)
+    OOLONG_LINKED("oolong_run");
+
+/* What a reply's number says, in a sentence without a full stop. */
+static __inline__ const char *oolong_number_text(unsigned number) {
+    switch (number) {
+    case OOLONG_OK: return "the call was not refused";
+    case OOLONG_NO_LENGTH: return "the script is not 24 to 13,592 bytes long";
+    case OOLONG_NO_COUNTS: return "a count of the script is above its limit, or there is no node";
+    case OOLONG_NO_PLACES: return "a section does not stand where the table of contents must place it, or the script does not end with the last";
+    case OOLONG_NO_INTERFACE: return "an interface is neither a list nor a join of two earlier interfaces";
+    case OOLONG_NO_OWNERS: return "the counts of signatures, fields or methods do not add up";
+    case OOLONG_NO_TYPE: return "a type, a class's interface or the class of a new does not exist";
+    case OOLONG_NO_NODE: return "a node's kind, words, parts or uses are out of order, or a method's body is missing";
+    case OOLONG_NO_NAME: return "a name stands twice, or a class has more than 8 fields";
+    case OOLONG_NO_JOIN: return "a join has a method with two meanings";
+    case OOLONG_NO_CLASS: return "a class lacks a method of its interface, or has it with other types";
+    case OOLONG_NO_VARIABLE: return "a variable is not bound";
+    case OOLONG_NO_NULL: return "a null stands where its type would have to be inferred";
+    case OOLONG_NO_MEMBER: return "the target's type lacks the field or method";
+    case OOLONG_NO_FIT: return "a type does not fit the wanted one";
+    case OOLONG_NO_SHARING: return "the two asyncs of a fork share a variable";
+    case OOLONG_NO_BLOCK_LENGTH: return "the block is not 49,152 bytes long";
+    case OOLONG_NO_BLOCK_FORM: return "the block is no well-formed state of this script";
+    case OOLONG_NO_BUFFER_LENGTH: return "there are more than 4,096 choices, or the flags are not 63 bytes long";
+    default: return "no reply has this number";
+    }
+}
+
+/* What a stop of oolong_run says, in a sentence without a full stop. */
+static __inline__ const char *oolong_stop_text(unsigned stop) {
+    switch (stop) {
+    case OOLONG_SPENT: return "the choices are spent and the run can go on";
+    case OOLONG_FINISHED: return "the run has finished with a value";
+    case OOLONG_FAILED: return "the run has failed at a null";
+    case OOLONG_DEADLOCK: return "the run is in a deadlock";
+    case OOLONG_FULL_OBJECTS: return "the move has no room for an object";
+    case OOLONG_FULL_BINDINGS: return "the move has no room for its bindings";
+    case OOLONG_FULL_FRAMES: return "the move has no room for a frame";
+    case OOLONG_FULL_THREADS: return "the move has no room for a thread";
+    default: return "no run stops with this number";
+    }
+}
 
 #ifdef __cplusplus
 }

@@ -1,34 +1,47 @@
-//! Check. `growth` is the engine's time over its time on a script of half the size: 4 would be the square.
+//! Check.
 
-use crate::scripts::{deepest, figure_ten, forks, forks_with_variables, ladder, largest};
-use crate::timing::race;
+use crate::lent::check_times;
+use crate::scripts::{casts_up, deepest, figure_ten, forks, forks_with_variables, ladder, largest, spread};
+use crate::table::{heading, row};
 use second::script::Script;
-use std::hint::black_box;
+
+/// How far apart the variables' numbers are, where they are far apart.
+const APART: u16 = 64;
 
 pub fn bench() {
-    println!("{:<28} {:>8} {:>12} {:>12} {:>7} {:>8}", "Check", "bytes", "engine ns", "second ns", "ratio", "growth");
+    heading("Check", "bytes", "");
     for (name, whole, half) in cases() {
-        let (engine, second) = times(&whole.encode());
-        let (engine_half, _) = times(&half.encode());
-        let (bytes, ratio, growth) = (whole.encode().len(), engine / second, engine / engine_half);
-        println!("{name:<28} {bytes:>8} {engine:>12.0} {second:>12.0} {ratio:>7.2} {growth:>8.2}");
+        let file = whole.encode();
+        row(name, file.len(), check_times(&file), Some(check_times(&half.encode())), "");
+    }
+    heading("Check, variables numbered 64 apart", "bytes", "engine's time over that with numbers 1 apart");
+    for (name, whole, half) in named_cases() {
+        let (file, half) = (spread(whole.clone(), APART).encode(), spread(half, APART).encode());
+        let (times, near) = (check_times(&file), check_times(&whole.encode()));
+        row(name, file.len(), times, Some(check_times(&half)), &format!("{:.2}", times.engine / near.engine));
     }
 }
 
-fn times(script: &[u8]) -> (f64, f64) {
-    let reply = engine::check(script);
-    assert_eq!((reply.number, reply.place), (second::check(script).number, second::check(script).place));
-    race(|| engine::check(black_box(script)), || second::check(black_box(script)))
-}
+type Case = (&'static str, Script, Script);
 
-fn cases() -> Vec<(&'static str, Script, Script)> {
+fn cases() -> Vec<Case> {
     vec![
         ("Figure 10, no integers", figure_ten(), figure_ten()),
         ("largest script", largest(16), largest(8)),
         ("63 double joins", ladder(63), ladder(31)),
+        ("63 joins, casts up all of them", casts_up(63, false), casts_up(31, false)),
+        ("63 joins, and a cast to Unit: 14", casts_up(63, true), casts_up(31, true)),
         ("deepest nesting", deepest(1024), deepest(512)),
         ("341 forks in a chain", forks(341, false), forks(170, false)),
         ("341 forks, left in left", forks(341, true), forks(170, true)),
+        ("204 forks with variables", forks_with_variables(204), forks_with_variables(102)),
+    ]
+}
+
+fn named_cases() -> Vec<Case> {
+    vec![
+        ("Figure 10, no integers", figure_ten(), figure_ten()),
+        ("511 lets in lets", deepest(1024), deepest(512)),
         ("204 forks with variables", forks_with_variables(204), forks_with_variables(102)),
     ]
 }

@@ -2,8 +2,15 @@
 
 use second::script::Script;
 
+/// Node numbers of `recursive`: where its method's body is.
+pub const RECURSIVE_BODY: u16 = 4;
+/// Node numbers of `beside`: where its asyncs and its last part are.
+pub const BESIDE_LEFT: u16 = 1;
+pub const BESIDE_CAST: u16 = 5;
+pub const BESIDE_LAST: u16 = 7;
+
 fn empty() -> Script {
-    Script { interfaces: vec![], signatures: vec![], classes: vec![], fields: vec![], methods: vec![], nodes: vec![] }
+    Script::default()
 }
 
 /// The program of the paper's Figure 10 without its integers, as in samples/accept-figure10.words.
@@ -148,4 +155,82 @@ pub fn endless() -> Script {
         nodes: vec![[5, 2, 1, 2], [6, 2, 0, 0], [4, 2, 0, 3], [0; 4], [4, 0, 0, 5], [0; 4]],
         ..empty()
     }
+}
+
+/// The same script with each `let`'s variable number so many times as far from the first.
+pub fn spread(mut script: Script, apart: u16) -> Script {
+    for [kind, variable, ..] in &mut script.nodes {
+        if matches!(kind, 1..=5 | 9) && *variable > 2 {
+            *variable = 2 + (*variable - 2) * apart;
+        }
+    }
+    script
+}
+
+/// Joins that each name their predecessor twice above a class, and as many casts as there is room for from the class to the first list, which ask all joins; at the end a cast of the class to
+/// Unit, which asks them all in vain and is refused with 14, or none.
+pub fn casts_up(joins: u16, to_unit: bool) -> Script {
+    let mut script = joined(joins);
+    script.nodes.extend([[5, 2, 1, 2], [6, joins + 2, 0, 0]]);
+    add_casts(&mut script, 339, 2);
+    let at = script.nodes.len() as u16;
+    if to_unit {
+        script.nodes.push([7, 0, at + 1, 0]);
+    }
+    script.nodes.push([1, 2, 0, 0]);
+    script
+}
+
+/// A list, so many joins above it that each name their predecessor twice, and a class of the last.
+fn joined(joins: u16) -> Script {
+    let mut script = empty();
+    script.interfaces.push([0, 0, 0]);
+    script.interfaces.extend((1..=joins).map(|parent| [1, parent, parent]));
+    script.classes.push([joins + 1, 0, 0]);
+    script
+}
+
+/// Lets, one in another, of casts of this variable to type 1; their last part comes next.
+fn add_casts(script: &mut Script, lets: u16, variable: u16) {
+    for _ in 0..lets {
+        let at = script.nodes.len() as u16;
+        script.nodes.extend([[5, 3, at + 1, at + 3], [7, 1, at + 2, 0], [1, variable, 0, 0]]);
+    }
+}
+
+/// m(x) = let y = this.m(x) in let z = (I1)this in .. so many times .. y, with so many joins between I1 and the class: a call leaves one let frame and two bindings.
+pub fn recursive(joins: u16, lets: u16) -> Script {
+    let mut script = joined(joins);
+    script.interfaces[0] = [0, 1, 0];
+    script.signatures.push([0, 1, 1]);
+    script.classes[0][2] = 1;
+    script.methods.push([0, 1, 1, RECURSIVE_BODY]);
+    script.nodes.extend([[5, 2, 1, 2], [6, joins + 2, 0, 0], [4, 2, 0, 3], [0; 4]]);
+    script.nodes.extend([[5, 2, 5, 7], [4, 0, 0, 6], [1, 1, 0, 0]]);
+    add_casts(&mut script, lets, 0);
+    script.nodes.push([1, 2, 0, 0]);
+    script
+}
+
+/// A class with 8 fields of its own interface's type.
+pub fn full_objects() -> Script {
+    let fields = (0..8).map(|name| [name, 1]).collect();
+    Script { interfaces: vec![[0, 0, 0]], classes: vec![[1, 8, 0]], fields, nodes: vec![[6, 2, 0, 0]], ..empty() }
+}
+
+/// A fork whose left async is `endless`, and whose right async is a cast.
+pub fn beside() -> Script {
+    let nodes = vec![
+        [8, BESIDE_LEFT, BESIDE_CAST, BESIDE_LAST],
+        [5, 2, 2, 3],
+        [6, 2, 0, 0],
+        [4, 2, 0, 4],
+        [0; 4],
+        [7, 1, 6, 0],
+        [6, 2, 0, 0],
+        [6, 2, 0, 0],
+        [4, 0, 0, 9],
+        [0; 4],
+    ];
+    Script { methods: vec![[0, 0, 0, 8]], nodes, ..endless() }
 }

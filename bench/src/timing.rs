@@ -1,22 +1,48 @@
 //! Both implementations timed on the same work.
 
 use std::hint::black_box;
-use std::time::Instant;
+use std::time::{Duration, Instant};
 
 const ROUNDS: usize = 15;
 
-/// A round takes about two milliseconds of the second implementation's time.
-const ROUND_NS: f64 = 2e6;
+/// So many rounds there are even where they are long.
+const LEAST_ROUNDS: usize = 3;
 
-/// The best times of both, in nanoseconds for one call, taking turns.
-pub fn race<E, S>(mut engine: impl FnMut() -> E, mut second: impl FnMut() -> S) -> (f64, f64) {
-    let calls = (ROUND_NS / time(10, &mut second).max(1.0)) as u32 + 1;
-    let mut best = (f64::INFINITY, f64::INFINITY);
-    for _ in 0..ROUNDS {
-        best.0 = best.0.min(time(calls, &mut engine));
-        best.1 = best.1.min(time(calls, &mut second));
+/// Behind this no more rounds are begun.
+const ENOUGH: Duration = Duration::from_millis(400);
+
+/// Each takes about two milliseconds of a round, or one call.
+const TURN_NS: f64 = 2e6;
+
+/// Nanoseconds for one call.
+#[derive(Clone, Copy)]
+pub struct Times {
+    pub engine: f64,
+    pub second: f64,
+}
+
+/// The best times of both, taking turns.
+pub fn race<E, S>(mut engine: impl FnMut() -> E, mut second: impl FnMut() -> S) -> Times {
+    let begin = Instant::now();
+    let (engine_calls, second_calls) = (calls_in_a_turn(&mut engine), calls_in_a_turn(&mut second));
+    let mut best = Times { engine: f64::INFINITY, second: f64::INFINITY };
+    for round in 0..ROUNDS {
+        if round >= LEAST_ROUNDS && begin.elapsed() > ENOUGH {
+            break;
+        }
+        best.engine = best.engine.min(time(engine_calls, &mut engine));
+        best.second = best.second.min(time(second_calls, &mut second));
     }
     best
+}
+
+fn calls_in_a_turn<T>(call: &mut impl FnMut() -> T) -> u32 {
+    (TURN_NS / time(1, call).max(1.0)) as u32 + 1
+}
+
+/// The time of one piece of work that both have in common.
+pub fn alone<T>(mut work: impl FnMut() -> T) -> f64 {
+    (0..ROUNDS).map(|_| time(1000, &mut work)).fold(f64::INFINITY, f64::min)
 }
 
 fn time<T>(calls: u32, call: &mut impl FnMut() -> T) -> f64 {

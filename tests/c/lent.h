@@ -14,6 +14,10 @@ static inline void put(uint8_t *bytes, size_t at, unsigned word) {
     bytes[at + 1] = (uint8_t)(word / 256);
 }
 
+static inline unsigned get(const uint8_t *bytes, size_t at) {
+    return bytes[at] + 256u * bytes[at + 1];
+}
+
 struct lent {
     uint8_t *bytes;
     size_t len;

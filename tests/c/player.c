@@ -117,7 +117,7 @@ int main(int count, char **words) {
     size_t made = 0;
     unsigned stop = play(block, choices, &made);
     size_t moves = made - (stop >= OOLONG_FULL_OBJECTS);
-    unsigned objects = block[0] + 256u * block[1]; /* docs/BLOCK.md: the first count of the header */
+    unsigned objects = get(block, 0); /* docs/BLOCK.md: the first count of the header */
     if (stop != (unsigned)atoi(words[1]) || moves != (size_t)atoi(words[2]) || objects != (unsigned)atoi(words[3])) {
         printf("FAIL  stopped with %u after %zu moves with %u objects; wanted %s after %s with %s\n", stop, moves, objects, words[1], words[2], words[3]);
         return EXIT_FAILURE;

@@ -1,6 +1,6 @@
 /*
- * How much stack the calls use. `stack < script` measures each call on a stack of our own that is painted first: on the script, which is one of the usual size, on 64 casts one in another,
- * and on scripts that go deepest. None may use more than the header says: OOLONG_STACK_USUAL for the first two, OOLONG_STACK for all.
+ * How much stack the calls use. `stack < script` measures each call on a stack of our own that is painted first: without a script, which is refused at once, on the script, which is one of the
+ * usual size, and on scripts that are nested as deep as a file can be. None may use more than the header's OOLONG_STACK_FOR says for its nesting.
  */
 #include <pthread.h>
 
@@ -24,16 +24,21 @@ static unsigned offer(const uint8_t *script, size_t len) {
     return oolong_offer(script, len, block, sizeof block, flags, sizeof flags).number;
 }
 
+static const uint8_t choices[OOLONG_CHOICES_MOST];
+
+static unsigned move(const uint8_t *script, size_t len) {
+    return oolong_run(script, len, block, sizeof block, choices, 1).number;
+}
+
 static unsigned run(const uint8_t *script, size_t len) {
-    static const uint8_t choices[OOLONG_CHOICES_MOST];
     return oolong_run(script, len, block, sizeof block, choices, sizeof choices).number;
 }
 
-/* In this order, so that the block is one of the script's. */
+/* In this order, so that the block is one of the script's: that of Start, then that with the first node's frame, if it leaves one. */
 static const struct {
     const char *name;
     unsigned (*call)(const uint8_t *, size_t);
-} calls[] = {{"Check", check}, {"Start", start}, {"Offer", offer}, {"Run", run}};
+} calls[] = {{"Check", check}, {"Start", start}, {"Offer", offer}, {"Run", move}, {"then Offer", offer}, {"Run", run}};
 
 struct job {
     unsigned (*call)(const uint8_t *, size_t);
@@ -88,28 +93,52 @@ static size_t chain(uint8_t *script, unsigned kind, unsigned name, unsigned node
     return 36 + 8 * (node + 1);
 }
 
-/* The most that a call uses on this script; says what each uses. */
-static size_t most_used(const char *what, const uint8_t *script, size_t len) {
-    struct job idle = {NULL, NULL, 0, 0};
-    size_t most = 0, base = used(&idle);
-    printf("%s:", what);
-    for (size_t i = 0; i < sizeof calls / sizeof *calls; i++) {
-        struct job job = {calls[i].call, script, len, 1};
-        size_t bytes = used(&job) - base;
-        printf(" %s %zu", calls[i].name, bytes);
-        if (job.number != OOLONG_OK) {
-            printf("\nFAIL  %s is refused with %u\n", calls[i].name, job.number);
-            exit(EXIT_FAILURE);
-        }
-        if (bytes > most) most = bytes;
+/* The same with casts, in a let in place of the first two. */
+static size_t let_and_casts(uint8_t *script) {
+    static const unsigned nodes[] = {5, 2, 1, 2, 6, 2, 0, 0};
+    size_t len = chain(script, 7, 0, OOLONG_NODES_MOST);
+    for (size_t word = 0; word < sizeof nodes / sizeof *nodes; word++) put(script, 36 + 2 * word, nodes[word]);
+    return len;
+}
+
+/* How many words of a node are parts, and the first of them. */
+static size_t parts_of(const uint8_t *node, size_t *first) {
+    static const struct {
+        size_t first, count;
+    } parts[] = {{0, 0}, {0, 0}, {0, 0}, {3, 1}, {3, 1}, {2, 2}, {0, 0}, {2, 1}, {1, 3}, {2, 1}};
+    *first = parts[node[0]].first;
+    return parts[node[0]].count;
+}
+
+/* How deep the nodes of an accepted script are nested; none without a script. A part has a larger number than its node. */
+static unsigned nesting(const uint8_t *script, size_t len) {
+    unsigned depth[OOLONG_NODES_MOST] = {0}, most = 0;
+    for (size_t node = 0; len > 0 && node < get(script, 22); node++) {
+        const uint8_t *record = script + get(script, 20) + 8 * node;
+        size_t first, count = parts_of(record, &first);
+        if (depth[node] == 0) depth[node] = 1;
+        if (depth[node] > most) most = depth[node];
+        for (size_t part = first; part < first + count; part++) depth[get(record, 2 * part)] = depth[node] + 1;
     }
-    printf("\n");
     return most;
 }
 
-static int within(size_t bytes, unsigned most, const char *name) {
-    printf("%s: at most %zu bytes, and the header says %s, %u\n", bytes <= most ? "ok" : "FAIL", bytes, name, most);
-    return bytes <= most;
+/* Says what each call uses on this script; whether all answer with this number and none uses more than the header says. */
+static int within(const char *what, const uint8_t *script, size_t len, unsigned number) {
+    struct job idle = {NULL, NULL, 0, 0};
+    unsigned deep = nesting(script, len);
+    size_t base = used(&idle), most = 0;
+    int answered = 1;
+    printf("%s, nested %u deep:", what, deep);
+    for (size_t i = 0; i < sizeof calls / sizeof *calls; i++) {
+        struct job job = {calls[i].call, script, len, 0};
+        size_t bytes = used(&job) - base;
+        printf(" %s %zu", calls[i].name, bytes);
+        if (job.number != number) printf(" (FAIL  its number is %u and not %u)", job.number, number), answered = 0;
+        if (bytes > most) most = bytes;
+    }
+    printf("; %s: the header says %u\n", most <= OOLONG_STACK_FOR(deep) ? "ok" : "FAIL", OOLONG_STACK_FOR(deep));
+    return answered && most <= OOLONG_STACK_FOR(deep);
 }
 
 int main(void) {
@@ -118,18 +147,19 @@ int main(void) {
         const char *what;
         unsigned kind, name, nodes;
     } cases[] = {
-        {"64 casts in casts", 7, 0, 65},
+        {"100 casts in casts", 7, 0, 100},
         {"casts in casts", 7, 0, OOLONG_NODES_MOST},
         {"lets in lets", 5, 2, OOLONG_NODES_MOST},
         {"lets of a large variable number", 5, 65535, OOLONG_NODES_MOST},
         {"forks in left asyncs", 8, 0, OOLONG_NODES_MOST},
     };
-    size_t usual = most_used("the script", script, fread(script, 1, sizeof script, stdin)), most = usual;
+    int holds = within("no script", script, 0, OOLONG_NO_LENGTH);
+    size_t len = fread(script, 1, sizeof script, stdin);
+    holds &= within("the script", script, len, OOLONG_OK);
     for (size_t i = 0; i < sizeof cases / sizeof *cases; i++) {
-        size_t bytes = most_used(cases[i].what, script, chain(script, cases[i].kind, cases[i].name, cases[i].nodes));
-        if (cases[i].nodes < OOLONG_NODES_MOST && bytes > usual) usual = bytes;
-        if (bytes > most) most = bytes;
+        len = chain(script, cases[i].kind, cases[i].name, cases[i].nodes);
+        holds &= within(cases[i].what, script, len, OOLONG_OK);
     }
-    int holds = within(usual, OOLONG_STACK_USUAL, "OOLONG_STACK_USUAL");
-    return within(most, OOLONG_STACK, "OOLONG_STACK") && holds ? EXIT_SUCCESS : EXIT_FAILURE;
+    holds &= within("casts in casts in a let", script, let_and_casts(script), OOLONG_OK);
+    return holds ? EXIT_SUCCESS : EXIT_FAILURE;
 }

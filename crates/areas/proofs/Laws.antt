@@ -6,7 +6,6 @@ use Prim.Native.Nat.{ℕ, zero, suc, _+_, _*_, _-_, _<_, _≤_}
 use native.Mathlib.Omega.{arith}
 use borrow.Author.Tests.{ne-eqb}
 use lib.ListN.{length, getD, set, take, drop, replicate, length-append, length-map, length-replicate}
-use lib.Seq.{length-take-le, take-all, take-take}
 use Rattle.slices.specs.Put.{putWord}
 use Rattle.words.specs.Word.{bytes}
 use Rattle.limits.specs.Limits.{BLOCK, OBJECTS, BINDINGS, FRAMES, CLASS-FIELDS}
@@ -26,10 +25,10 @@ use Rattle.block.specs.Decode.{frameOf}
 use Rattle.block.proofs.Rows.{row-at}
 use Rattle.block.proofs.Words.{within, area-ends, count-is, word-is}
 use Rattle.block.proofs.Decode.{frame-back}
-use Rattle.representation.proofs.Changes.{put-shut, put-field, put-fresh-object, put-new-binding, put-frame, put-new-frame, put-last-frame}
+use Rattle.representation.proofs.Changes.{put-shut, put-field, put-fresh-object, put-new-binding, put-frame, put-new-frame}
 use Rattle.representation.proofs.Start.{start-block}
 use Rattle.areas.specs.Shifts.{raised, lowered}
-use Rattle.areas.proofs.Shifting.{raised-none, raised-length, raised-read, raised-step, lowered-none, lowered-length, lowered-read, lowered-step, inserted, removed}
+use Rattle.areas.proofs.Shifting.{raised-length, lowered-length, inserted, removed}
 
 -- a word of a record lies within the areas
 pub inside : (a : Area) (at wide i j : ℕ) → at ≡ begins a → wide ≡ width a → i < most a → j < width a → at + (wide * i + j) < END
@@ -135,16 +134,6 @@ module _ (b : List ℕ) (p : Parts) (is : b ≡ bytes (laid p)) where
       let s : n + 1 ≡ suc n = omega arith in
       e ∙ rw (d, s, l, is) (put-new-frame p f (omega arith))
 
-  -- the last frame taken away
-  pub frame-dropped :
-      (b₁ c : List ℕ) (n : ℕ)
-      → n < FRAMES
-      → length (p .frames) ≡ suc n
-      → b₁ ≡ putWords b (wordByte Frames n 0) (0 ∷ 0 ∷ 0 ∷ [])
-      → c ≡ putWord b₁ (countByte Frames) n
-      → c ≡ bytes (laid (withFrames p (take n (p .frames))))
-  frame-dropped b₁ c n h l d e = e ∙ rw (d, is) (put-last-frame p n h l)
-
   -- one object more, and one changed
   pub object-added :
       (b₁ c : List ℕ) (n class m : ℕ)
@@ -188,16 +177,6 @@ module _ (b : List ℕ) (p : Parts) (is : b ≡ bytes (laid p)) where
       let link : wordByte Bindings n LINK ≡ wordByte Bindings n NAME + 2 + 2 + 2 = omega arith in
       e ∙ rw (d₃, d₂, d₁, value, link, s) (rw (l, is) (put-new-binding p x (omega arith)))
 
-  -- where the loops begin
-  pub cut-none : (n : ℕ) → length (p .frames) ≡ n → b ≡ bytes (laid (withFrames p (take n (p .frames))))
-  cut-none n e = is ∙ ap (λ (fs : List Frame). bytes (laid (withFrames p fs))) (sym (take-all n (p .frames) (omega arith)))
-
-  pub up-none : (n : ℕ) → length (p .frames) ≡ suc n → b ≡ bytes (laid (withFrames p (raised n n (p .frames))))
-  up-none n e = is ∙ ap (λ (fs : List Frame). bytes (laid (withFrames p fs))) (sym (raised-none (awaits 0 0) (p .frames) n e))
-
-  pub down-none : (at k : ℕ) → b ≡ bytes (laid (withFrames p (lowered at k at (p .frames))))
-  down-none at k = is ∙ ap (λ (fs : List Frame). bytes (laid (withFrames p fs))) (sym (lowered-none (awaits 0 0) (p .frames) at k))
-
 -- what frame and put_frame ensure, of the bytes b before and c after
 abbrev pub Reads : List ℕ → ℕ → Frame → Type 0
 Reads b i f = (q : Parts) → b ≡ bytes (laid q) → i < length (q .frames) → f ≡ getD (q .frames) i (awaits 0 0)
@@ -205,87 +184,35 @@ Reads b i f = (q : Parts) → b ≡ bytes (laid q) → i < length (q .frames) �
 abbrev pub Puts : List ℕ → List ℕ → ℕ → Frame → Type 0
 Puts b c i f = (q : Parts) → b ≡ bytes (laid q) → i < length (q .frames) → c ≡ bytes (laid (withFrames q (set (q .frames) i f)))
 
-module _ (p : Parts) (b c : List ℕ) where
-  -- one turn of each loop
-  pub cut-step :
-      (n k : ℕ)
-      → length (p .frames) ≡ n
-      → 0 < k
-      → k ≤ n
-      → b ≡ bytes (laid (withFrames p (take k (p .frames))))
-      → ((q : Parts) → b ≡ bytes (laid q) → length (q .frames) ≡ suc (k - 1) → c ≡ bytes (laid (withFrames q (take (k - 1) (q .frames)))))
-      → c ≡ bytes (laid (withFrames p (take (k - 1) (p .frames))))
-  cut-step n k l h m e drops =
-      let long : length (take k (p .frames)) ≡ suc (k - 1) = length-take-le k (p .frames) (omega arith) ∙ omega arith in
-      drops (withFrames p (take k (p .frames))) e long
-      ∙ ap (λ (fs : List Frame). bytes (laid (withFrames p fs))) (take-take (k - 1) k (p .frames) (omega arith))
-
-  pub up-step :
-      (n k : ℕ) (f : Frame)
-      → length (p .frames) ≡ suc n
-      → 0 < k
-      → k ≤ n
-      → b ≡ bytes (laid (withFrames p (raised k n (p .frames))))
-      → Reads b (k - 1) f
-      → Puts b c k f
-      → c ≡ bytes (laid (withFrames p (raised (k - 1) n (p .frames))))
-  up-step n zero f l h m e reads puts = absurd (omega arith)
-  up-step n (suc k) f l h m e reads puts =
-      let fs = p .frames in
-      let q = withFrames p (raised (suc k) n fs) in
-      let z : suc k - 1 ≡ k = omega arith in
-      let long = raised-length (awaits 0 0) fs n l (suc k) m in
-      let got : f ≡ getD fs k (awaits 0 0) = rw z at (reads q e (omega (arith, long))) ∙ raised-read (awaits 0 0) fs n l k m in
-      rw z
-      (puts q e (omega (arith, long))
-      ∙ ap (λ (gs : List Frame). bytes (laid (withFrames p gs))) (rw got (raised-step (awaits 0 0) fs n l k m)))
-
-  pub down-step :
-      (at k n i : ℕ) (f : Frame)
-      → length (p .frames) ≡ n
-      → at ≤ i
-      → i + k < n
-      → b ≡ bytes (laid (withFrames p (lowered at k i (p .frames))))
-      → Reads b (i + k) f
-      → Puts b c i f
-      → c ≡ bytes (laid (withFrames p (lowered at k (i + 1) (p .frames))))
-  down-step at k n i f l h m e reads puts =
-      let fs = p .frames in
-      let q = withFrames p (lowered at k i fs) in
-      let long = lowered-length (awaits 0 0) fs at k i h (omega arith) in
-      let got : f ≡ getD fs (i + k) (awaits 0 0) = reads q e (omega (arith, long)) ∙ lowered-read (awaits 0 0) fs at k i h (omega arith) in
-      puts q e (omega (arith, long))
-      ∙ ap (λ (gs : List Frame). bytes (laid (withFrames p gs))) (rw got (lowered-step (awaits 0 0) fs at k i h (omega arith)))
-
 module _ (p : Parts) (b₀ b₁ b₂ : List ℕ) (is : b₀ ≡ bytes (laid p)) (n : ℕ) (many : n ≡ counted b₀ Frames) where
   -- a frame put in: added at the end, the later ones moved up, and written
   pub frame-inserted :
       (b₃ : List ℕ) (at : ℕ) (f : Frame)
       → at ≤ n
       → ((q : Parts) → b₀ ≡ bytes (laid q) → b₁ ≡ bytes (laid (withFrames q (q .frames ++ f ∷ []))))
-      → ((q : Parts) → b₁ ≡ bytes (laid q) → length (q .frames) ≡ suc n → b₂ ≡ bytes (laid (withFrames q (raised at n (q .frames)))))
+      → ((q : Parts) → b₁ ≡ bytes (laid q) → length (q .frames) ≡ n + 1 → b₂ ≡ bytes (laid (withFrames q (raised at (q .frames)))))
       → Puts b₂ b₃ at f
       → b₃ ≡ bytes (laid (withFrames p (take at (p .frames) ++ f ∷ drop at (p .frames))))
   frame-inserted b₃ at f h adds shifts puts =
       let fs = p .frames in
       let l : n ≡ length fs = many ∙ frames-counted b₀ p is in
       let more : List Frame = fs ++ f ∷ [] in
-      let long : length more ≡ suc n = length-append fs (f ∷ []) ∙ omega arith in
+      let long : length more ≡ n + 1 = length-append fs (f ∷ []) ∙ omega arith in
       let shifted = shifts (withFrames p more) (adds p is) long in
-      let there : at < length (raised at n more) = omega (arith, raised-length f more n long at h) in
-      puts (withFrames p (raised at n more)) shifted there
-      ∙ ap (λ (gs : List Frame). bytes (laid (withFrames p gs))) (rw l (inserted f fs f at (omega arith)))
+      let there : at < length (raised at more) = omega (arith, raised-length at more (omega arith)) in
+      puts (withFrames p (raised at more)) shifted there
+      ∙ ap (λ (gs : List Frame). bytes (laid (withFrames p gs))) (inserted fs f at (omega arith))
 
   -- frames taken out: the later ones moved down, and the end cut off
   pub frames-removed :
       (at k : ℕ)
       → at + k ≤ n
-      → ((q : Parts) → b₀ ≡ bytes (laid q) → length (q .frames) ≡ n → b₁ ≡ bytes (laid (withFrames q (lowered at k (n - k) (q .frames)))))
+      → ((q : Parts) → b₀ ≡ bytes (laid q) → length (q .frames) ≡ n → b₁ ≡ bytes (laid (withFrames q (lowered at k (q .frames)))))
       → ((q : Parts) → b₁ ≡ bytes (laid q) → length (q .frames) ≡ n → b₂ ≡ bytes (laid (withFrames q (take (n - k) (q .frames)))))
       → b₂ ≡ bytes (laid (withFrames p (take at (p .frames) ++ drop (at + k) (p .frames))))
   frames-removed at k h shifts cuts =
       let fs = p .frames in
       let l : length fs ≡ n = sym (many ∙ frames-counted b₀ p is) in
-      let long : length (lowered at k (n - k) fs) ≡ n = lowered-length (awaits 0 0) fs at k (n - k) (omega arith) (omega arith) ∙ l in
-      cuts (withFrames p (lowered at k (n - k) fs)) (shifts p is l) long
-      ∙ ap (λ (gs : List Frame). bytes (laid (withFrames p gs))) (removed (awaits 0 0) fs at k n l h)
+      let long : length (lowered at k fs) ≡ n = lowered-length at k fs (omega arith) ∙ l in
+      cuts (withFrames p (lowered at k fs)) (shifts p is l) long
+      ∙ ap (λ (gs : List Frame). bytes (laid (withFrames p gs))) (rw (← l) (removed fs at k (omega arith)))

@@ -1,2 +1,3 @@
-pub mod Laws
 pub mod Shifting
+pub mod FrameBytes
+pub mod Laws

@@ -1,12 +1,12 @@
--- Lists of which the later part is moved by some places, element by element.
-use Prim.Native.Nat.{ℕ, suc, _+_, _-_}
+-- Lists of which the later part is moved by some places.
+use Prim.Native.Nat.{ℕ, _-_}
 use mathlib.Core.List.{List, _++_}
-use lib.ListN.{take, drop}
+use lib.ListN.{length, take, drop}
 
--- The elements from k on to before n moved one place up, the last onto element n; element k stays as it was.
-abbrev pub raised : {A : Type 0} → ℕ → ℕ → List A → List A
-raised k n l = take (suc k) l ++ take (n - k) (drop k l)
+-- The elements from `at` on moved one place up, over the last; element `at` stays as it was.
+abbrev pub raised : {A : Type 0} → ℕ → List A → List A
+raised at l = take at l ++ (take 1 (drop at l) ++ take (length (drop at l) - 1) (drop at l))
 
--- The elements from `at` + k on moved k places down, as far as element i, which is the next to be written.
-abbrev pub lowered : {A : Type 0} → ℕ → ℕ → ℕ → List A → List A
-lowered at k i l = take at l ++ (take (i - at) (drop (at + k) l) ++ drop i l)
+-- The elements from k after element `at` on moved k places down; the last k stay as they were.
+abbrev pub lowered : {A : Type 0} → ℕ → ℕ → List A → List A
+lowered at k l = take at l ++ (drop k (drop at l) ++ drop (length (drop at l) - k) (drop at l))

@@ -9,7 +9,7 @@ use block::Layout;
 use machine::Frame;
 ghost use mathlib.Core.Path.{_≡_};
 ghost use mathlib.Core.List.{[], _∷_, _++_};
-ghost use Prim.Native.Nat.{suc, _+_, _-_, _<_, _≤_};
+ghost use Prim.Native.Nat.{_+_, _<_, _≤_};
 ghost use lib.ListN.{length, getD, set, take, drop};
 ghost use Rattle.words.specs.Word.{bytes};
 ghost use Rattle.limits.specs.Limits.{BLOCK, FRAMES};
@@ -118,18 +118,12 @@ fn add_frame(block: &mut [u8], f: Frame)
     put_count(block, Area::Frames, (n + 1) as u16);
 }
 
-// The last of n + 1 frames taken away.
-fn drop_frame(block: &mut [u8], n: usize)
-    requires { ⌜ (length (now block) ≡ BLOCK) × (n < FRAMES) ⌝ }
-    ensures { λ r. ⌜
-        ((p : Parts) →
-        now (block .entry) ≡ bytes (laid p) →
-        length (p .frames) ≡ suc n →
-        now (block .exit) ≡ bytes (laid (withFrames p (take n (p .frames)))))
-        ⌝ }
+// The byte at which frame i stands, or at which the frames end.
+fn frame_byte(i: usize) -> usize
+    requires { ⌜ i ≤ FRAMES ⌝ }
+    ensures { λ r. ⌜ r ≡ wordByte Frames i KIND ⌝ }
 {
-    put_row(block, n, 0, 0, 0);
-    put_count(block, Area::Frames, n as u16);
+    2 * (Layout::FRAMES + Layout::FRAME_WIDTH * i)
 }
 
 // All but the first m of n frames taken away.
@@ -142,29 +136,25 @@ fn cut_frames(block: &mut [u8], m: usize, n: usize)
         now (block .exit) ≡ bytes (laid (withFrames p (take m (p .frames)))))
         ⌝ }
 {
-    let mut k = n;
-    while m < k {
-        k -= 1;
-        drop_frame(block, k);
-    }
+    let from = frame_byte(m);
+    let end = frame_byte(n);
+    slices::clear(&mut block[from..end]);
+    put_count(block, Area::Frames, m as u16);
 }
 
-// Of n + 1 frames, those from `at` on moved one place up, over the last.
+// Of n frames, those from `at` on moved one place up, over the last.
 fn shift_up(block: &mut [u8], at: usize, n: usize)
-    requires { ⌜ (length (now block) ≡ BLOCK) × (at ≤ n) × (n < FRAMES) ⌝ }
+    requires { ⌜ (length (now block) ≡ BLOCK) × (at < n) × (n ≤ FRAMES) ⌝ }
     ensures { λ r. ⌜
         ((p : Parts) →
         now (block .entry) ≡ bytes (laid p) →
-        length (p .frames) ≡ suc n →
-        now (block .exit) ≡ bytes (laid (withFrames p (raised at n (p .frames)))))
+        length (p .frames) ≡ n →
+        now (block .exit) ≡ bytes (laid (withFrames p (raised at (p .frames)))))
         ⌝ }
 {
-    let mut k = n;
-    while at < k {
-        let f = frame(block, k - 1);
-        put_frame(block, k, f);
-        k -= 1;
-    }
+    let from = frame_byte(at);
+    let end = frame_byte(n);
+    slices::move_up(&mut block[from..end], 2 * Layout::FRAME_WIDTH);
 }
 
 // Of n frames, those from `at` + k on moved k places down.
@@ -174,15 +164,12 @@ fn shift_down(block: &mut [u8], at: usize, k: usize, n: usize)
         ((p : Parts) →
         now (block .entry) ≡ bytes (laid p) →
         length (p .frames) ≡ n →
-        now (block .exit) ≡ bytes (laid (withFrames p (lowered at k (n - k) (p .frames)))))
+        now (block .exit) ≡ bytes (laid (withFrames p (lowered at k (p .frames)))))
         ⌝ }
 {
-    let mut i = at;
-    while i < n - k {
-        let f = frame(block, i + k);
-        put_frame(block, i, f);
-        i += 1;
-    }
+    let from = frame_byte(at);
+    let end = frame_byte(n);
+    slices::move_down(&mut block[from..end], 2 * Layout::FRAME_WIDTH * k);
 }
 
 // Puts f in as frame `at`.
@@ -196,7 +183,7 @@ pub fn insert_frame(block: &mut [u8], at: usize, f: Frame)
 {
     let n = count(block, Area::Frames);
     add_frame(block, f);
-    shift_up(block, at, n);
+    shift_up(block, at, n + 1);
     put_frame(block, at, f);
 }
 

@@ -13,7 +13,7 @@ ghost use Rattle.block.specs.Values.{valueWord, valueOf, valueWords, valueIn, S
 ghost use Rattle.representation.specs.Changed.{putWords};
 
 // The value that a word says.
-fn value_of(word: u16) -> Value
+pub fn value_of(word: u16) -> Value
     ensures { λ r. ⌜ r ≡ valueOf word ⌝ }
 {
     if word == 0 {

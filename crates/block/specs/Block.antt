@@ -58,8 +58,8 @@ frameWords (awaits p e) = AWAITS ∷ p ∷ e ∷ []
 frameWords (casts p) = CASTS ∷ p ∷ 0 ∷ []
 frameWords (locks o) = LOCKS ∷ o ∷ 0 ∷ []
 
--- What lies in a block, area by area: objects, bindings in the order in which they were made, positions and frames. While Run moves, frames are those of the
--- tree by value and positions still those written last, so laws are about parts; those of a configuration are its own.
+-- What lies in a block, area by area: objects, bindings in the order in which they were made, positions and frames. While a move changes one area after the
+-- other they are not those of one configuration, so laws are about parts.
 pub record Parts : Type 0 where
   pub objects : List Object
   pub bindings : List Binding

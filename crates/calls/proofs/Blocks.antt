@@ -29,7 +29,7 @@ use Rattle.machine.specs.Runs.{look, report}
 use Rattle.machine.specs.WellFormed.{WellFormed}
 use Rattle.machine.specs.Decide.{only, wellFormedTest}
 use Rattle.machine.proofs.Decide.{decides-well-formed}
-use Rattle.machine.proofs.Promise.{run-keeps}
+use Rattle.soundness.proofs.Promise.{run-keeps}
 use Rattle.block.specs.declared.Area.{Area}
 use Rattle.block.specs.declared.Area.the-variants.{Objects, Bindings, Positions, Frames}
 use Rattle.block.specs.Rows.{filled}

@@ -12,8 +12,8 @@ use Rattle.typing.specs.declared.Verdict.the-variants.{Accepted}
 use Rattle.typing.specs.Check.{checkOf}
 use Rattle.machine.specs.Config.{Config, codeOf}
 use Rattle.machine.specs.Machine.{oneIf, limits, canMove}
-use Rattle.machine.proofs.Positions.{initial-well}
-use Rattle.machine.proofs.Run.{run-leaves}
+use Rattle.soundness.proofs.Positions.{initial-well}
+use Rattle.soundness.proofs.Run.{run-leaves}
 use Rattle.calls.specs.Calls.{Started, Offered, Ran, startOf, flagsOf, offerOf, runOf}
 use Rattle.calls.specs.Answers.{Holds, StartAnswers, start-refused, started, OfferAnswers, offer-refused, offered, RunAnswers, run-refused, has-run, KeepsBytes}
 use Rattle.calls.proofs.Answers.{accepts, start-answers, offer-answers, run-answers}

@@ -25,7 +25,7 @@ use Rattle.machine.specs.Config.{Code, codeOf, Object, Binding, Stores, Tree, r
 use Rattle.machine.specs.Machine.{fieldCount, object, limits, lockFrames, frameCount}
 use Rattle.machine.specs.declared.Want.{Want}
 use Rattle.machine.specs.WellFormed.{ValueFits as FitsWant, fits-nil, fits-ref, BindingsOk, no-bindings, a-binding, FieldsOk, no-fields, a-field, TypedObject, FramesOk, no-frames, a-node, a-cast, a-lock, TreeOk, running-ok, returning-ok, failed-ok, join-ok, lockCount, shutAt, WellFormed}
-use Rattle.machine.proofs.Stores.{object-below, fields-long}
+use Rattle.soundness.proofs.Stores.{object-below, fields-long}
 use Rattle.block.specs.declared.Area.the-variants.{Objects, Bindings, Positions, Frames}
 use Rattle.block.specs.Layout.{VALUE, RUNNING, RETURNING, FAILED, JOIN, AWAITS, CASTS, LOCKS}
 use Rattle.block.specs.Values.{valueWord, valueWords, Storable}

@@ -19,9 +19,9 @@ use Rattle.machine.specs.Config.{Code, Config, codeOf}
 use Rattle.machine.specs.Machine.{fieldCount, limits, initial}
 use Rattle.machine.specs.Promise.{Kept, FailsOnNull}
 use Rattle.machine.specs.Runs.{report, StopMeans, spent, at-end, no-places}
-use Rattle.machine.proofs.Run.{run-read, run-leaves}
-use Rattle.machine.proofs.Promise.{promised, run-keeps, kept-same, kept-then}
-use Rattle.machine.proofs.Between.{next-fails, start-fails, more-keeps}
+use Rattle.soundness.proofs.Run.{run-read, run-leaves}
+use Rattle.soundness.proofs.Promise.{promised, run-keeps, kept-same, kept-then}
+use Rattle.soundness.proofs.Between.{next-fails, start-fails, more-keeps}
 use Rattle.block.proofs.Decode.{one-config}
 use Rattle.calls.specs.Calls.{runOf}
 use Rattle.calls.specs.Answers.{Holds}

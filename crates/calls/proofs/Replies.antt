@@ -13,8 +13,8 @@ use Rattle.typing.specs.Check.{checkOf}
 use Rattle.machine.specs.Config.{Config, codeOf}
 use Rattle.machine.specs.Machine.{fieldCount, oneIf, limits, canMove, initial}
 use Rattle.machine.specs.Runs.{report}
-use Rattle.machine.proofs.Positions.{initial-well}
-use Rattle.machine.proofs.Run.{run-read, run-leaves}
+use Rattle.soundness.proofs.Positions.{initial-well}
+use Rattle.soundness.proofs.Run.{run-read, run-leaves}
 use Rattle.published.proofs.Traces.{run-trace}
 use Rattle.block.proofs.Words.{encode-length}
 use Rattle.block.proofs.Fits.{encode-bytes}

@@ -21,9 +21,9 @@ use Rattle.machine.specs.Machine.{oneIf, limits, still, choice, canMove}
 use Rattle.machine.specs.Ends.{End}
 use Rattle.machine.specs.Runs.{Report, report}
 use Rattle.machine.proofs.Stops.{one-stop}
-use Rattle.machine.proofs.Run.{run-runs, run-leaves, run-all, run-more, stopped-still, still-stopped}
-use Rattle.machine.proofs.FullStore.{stop-short}
-use Rattle.machine.proofs.Promise.{flag-set, flag-clear}
+use Rattle.soundness.proofs.Run.{run-runs, run-leaves, run-all, run-more, stopped-still, still-stopped}
+use Rattle.soundness.proofs.FullStore.{stop-short}
+use Rattle.soundness.proofs.Promise.{flag-set, flag-clear}
 use Rattle.block.specs.Block.{encode}
 use Rattle.calls.specs.Calls.{Offered, Ran, ran, flagsOf, offerOf, runOf}
 use Rattle.calls.specs.Answers.{Holds, FirstNoTo, by-script, by-length, by-buffer, by-form, OfferAnswers, offer-refused, offered, RunAnswers, run-refused, has-run, NotRefused, TraceOf}

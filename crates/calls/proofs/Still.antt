@@ -12,8 +12,8 @@ use Rattle.machine.specs.declared.Ending.{Ending}
 use Rattle.machine.specs.Stops.{endingNumber}
 use Rattle.machine.specs.Config.{codeOf, Config}
 use Rattle.machine.specs.Machine.{oneIf, limits, Outcome, still, full, moved, choice, able, canMove}
-use Rattle.machine.proofs.Run.{beyond}
-use Rattle.machine.proofs.Positions.{positions}
+use Rattle.soundness.proofs.Run.{beyond}
+use Rattle.soundness.proofs.Positions.{positions}
 use Rattle.calls.specs.Calls.{offerOf, runOf}
 use Rattle.calls.specs.Answers.{Holds, NotRefused}
 use Rattle.calls.proofs.Replies.{flag-is, offer-reply}

@@ -1,4 +1,4 @@
--- Words that must be 0: what the code of `zeros` answers, a law for each return, with the code's locals as variables.
+-- Words that must be 0: what the code of `zeros` answers, with the code's locals as variables.
 use mathlib.Core.Path.{_≡_, sym, _∙_}
 use mathlib.Core.Bool.{Bool, true, false}
 use mathlib.Core.List.{List}
@@ -6,29 +6,63 @@ use Prim.Native.Nat.{ℕ, _+_, _*_, _-_, _/_, _%_, _<_, _≤_}
 use native.Mathlib.Nat.{mul-suc, mul-le-mul-left}
 use native.Mathlib.Omega.{arith}
 use native.Mathlib.Decide.{decLt}
+use lib.ListN.{getD, take, drop, length-take, List·getD-eq-default}
+use lib.Seq.{getD-take, getD-drop}
 use Rattle.words.specs.Word.{wordAt}
-use Rattle.script.specs.Asking.{Decides, holds, fails}
-use Rattle.script.proofs.Tests.{decides-as}
+use Rattle.slices.specs.Zero.{AllZero}
+use Rattle.script.specs.Asking.{Decides, holds}
+use Rattle.script.proofs.Tests.{decides, decides-as}
 use Rattle.block.specs.declared.Area.{Area}
 use Rattle.block.specs.declared.Area.the-variants.{Objects, Bindings, Positions, Frames}
 use Rattle.block.specs.Layout.{width, most, begins, END, counted, wordIn}
 use Rattle.block.proofs.Words.{within, area-ends}
 use Rattle.representation.specs.InOrder.{Unused, Blank, wordsOf}
 
--- The loop over the words w, which reads v at word m.
-module _ {w : ℕ → ℕ} {from : ℕ} where
-  pub none-yet : Unused w from from
-  none-yet = record { zero = λ n l h. absurd (omega arith) }
+-- A word is 0 where its two bytes are, and only there.
+byte-zero : (b : List ℕ) (m : ℕ) → wordAt b (2 * (m / 2)) ≡ 0 → getD b m 0 ≡ 0
+unfolding wordAt
+byte-zero b m e =
+    elim (decLt (m % 2) 1) [
+      | yes h ↦ let low : 2 * (m / 2) ≡ m = omega arith in let z : getD b (2 * (m / 2)) 0 ≡ 0 = omega arith in rw low at z
+      | no h ↦ let high : 2 * (m / 2) + 1 ≡ m = omega arith in let z : getD b (2 * (m / 2) + 1) 0 ≡ 0 = omega arith in rw high at z
+    ]
 
-  module _ {m : ℕ} (z : Unused w from m) where
-    pub one-more : (v : ℕ) → v ≡ w m → v ≡ 0 → Unused w from (m + 1)
-    one-more v e k = record { zero = λ n l h. elim (decLt n m) [ yes y ↦ z .zero n l y | no y ↦ let q : n ≡ m = omega arith in rw q (sym e ∙ k) ] }
+-- The bytes of the block from word `from` up to word `to`.
+module _ (b : List ℕ) (from to : ℕ) where
+  abbrev part : List ℕ
+  part = take (2 * to - 2 * from) (drop (2 * from) b)
 
-    pub all-zero : (to : ℕ) → to ≤ m → Decides (Unused w from to) true
-    all-zero to h = holds (record { zero = λ n l k. z .zero n l (omega arith) })
+  part-at : (k : ℕ) → k < 2 * to - 2 * from → getD part k 0 ≡ getD b (2 * from + k) 0
+  part-at k h = getD-take (2 * to - 2 * from) (drop (2 * from) b) k 0 h ∙ getD-drop (2 * from) b k 0
 
-    pub not-zero : (v to : ℕ) → from ≤ m → m < to → v ≡ w m → (v ≡ 0 → ⊥) → Decides (Unused w from to) false
-    not-zero v to l h e k = fails (λ y. k (e ∙ y .zero m l h))
+  bytes-there : AllZero part → Unused (wordsOf b) from to
+  unfolding wordAt
+  bytes-there z =
+      record {
+        zero = λ n l h.
+            let k = 2 * n - 2 * from in
+            let low : 2 * from + k ≡ 2 * n = omega arith in
+            let high : 2 * from + (k + 1) ≡ 2 * n + 1 = omega arith in
+            let x : getD b (2 * n) 0 ≡ 0 = rw low at (sym (part-at k (omega arith)) ∙ z .zero k) in
+            let y : getD b (2 * n + 1) 0 ≡ 0 = rw high at (sym (part-at (k + 1) (omega arith)) ∙ z .zero (k + 1)) in
+            omega arith;
+      }
+
+  bytes-back : Unused (wordsOf b) from to → AllZero part
+  bytes-back u =
+      record {
+        zero = λ k.
+            elim (decLt k (2 * to - 2 * from)) [
+              | yes h ↦ part-at k h ∙ byte-zero b (2 * from + k) (u .zero ((2 * from + k) / 2) (omega arith) (omega arith))
+              | no h ↦ List·getD-eq-default part 0 {n = k} (omega (arith, length-take (2 * to - 2 * from) (drop (2 * from) b)))
+            ];
+      }
+
+  pub none-asked : to ≤ from → Decides (Unused (wordsOf b) from to) true
+  none-asked h = holds (record { zero = λ n l k. absurd (omega arith) })
+
+  pub bytes-asked : {r : Bool} → (r ≡ true → AllZero part) → (r ≡ false → AllZero part → ⊥) → Decides (Unused (wordsOf b) from to) r
+  bytes-asked {r} p q = decides r (λ e. bytes-there (p e)) (λ e u. q e (bytes-back u))
 
 -- Each word of a record that is not counted is one of the words after those that are.
 blank-there : (b : List ℕ) (a : Area) → Unused (wordsOf b) (begins a + width a * counted b a) (begins a + width a * most a) → Blank b a

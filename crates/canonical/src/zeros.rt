@@ -16,15 +16,12 @@ pub fn zeros(block: &[u8], from: usize, to: usize) -> bool
     requires { ⌜ (length (now block) ≡ BLOCK) × (to ≤ WORDS) ⌝ }
     ensures { λ r. ⌜ Decides (Unused (wordsOf (now (block .entry))) from to) r ⌝ }
 {
-    let mut n = from;
-    while n < to {
-        let word = slices::word_at(block, 2 * n);
-        if word != 0 {
-            return false;
-        }
-        n += 1;
+    if to <= from {
+        return true;
     }
-    true
+    let first = 2 * from;
+    let end = 2 * to;
+    slices::all_zero(&block[first..end])
 }
 
 // Are the words of record i of an area from `from` up to `to` 0?

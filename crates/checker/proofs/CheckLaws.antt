@@ -2,21 +2,19 @@
 use Prim.Native.Nat.{ℕ, zero, suc, _<_, _≤_}
 use mathlib.Core.Path.{_≡_, refl, sym}
 use mathlib.Core.Bool.{Bool, true, false}
-use mathlib.Core.List.{List, [], _∷_, List·Memᴰ·not-nil}
+use mathlib.Core.List.{List, [], _∷_}
 use mathlib.Core.Logic.{⊎-elim}
 use mathlib.Core.Option.{Option, none, some}
 use native.Mathlib.Omega.{arith}
-use lib.ListN.{length, getD, replicate}
+use lib.ListN.{length, replicate}
 use Rattle.script.specs.declared.Found.{Found}
 use Rattle.script.specs.declared.Found.the-variants.{At, Nothing}
 use Rattle.script.specs.declared.Question.{Question}
 use Rattle.script.specs.declared.Question.the-variants.{Length, Counts, Places}
 use Rattle.limits.specs.Limits.{CONTENTS, FILE}
 use Rattle.script.specs.declared.Section.the-variants.{Nodes as nodes}
-use Rattle.script.specs.Lists.{named}
 use Rattle.script.specs.Section.{countOf, recordAt}
-use Rattle.script.specs.Syntax.{Program}
-use Rattle.script.specs.Reading.{viewAt, programOf}
+use Rattle.script.specs.Reading.{programOf}
 use Rattle.script.specs.Statements.{WithinLayout}
 use Rattle.script.specs.Asking.{Asked, firstNo, atZero, Asks, Each, FaultAt, Lowest, all-good, lowest-at}
 use Rattle.script.specs.Questions.{lengthTest, countsTest, placesTest, layoutQuestions}
@@ -28,14 +26,14 @@ use Rattle.typing.specs.declared.Answer.{Answer}
 use Rattle.typing.specs.declared.Answer.the-variants.{Typed, Faulty}
 use Rattle.typing.specs.declared.Verdict.{Verdict}
 use Rattle.typing.specs.declared.Verdict.the-variants.{Accepted, Refused}
-use Rattle.typing.specs.Members.{typeIn}
 use Rattle.typing.specs.Typing.{bodiesOf, walk}
-use Rattle.typing.specs.Published.{WF-ENV}
 use Rattle.typing.specs.Check.{refusedOr, walked, checkOf}
-use Rattle.inference.specs.Tables.{EnvIs, Named}
+use Rattle.members.specs.Tables.{Starts}
+use Rattle.names.specs.Facts.{Facts}
+use Rattle.inference.specs.Tables.{Zeros}
+use Rattle.checker.specs.Lent.{TablesFilled}
 use Rattle.checker.specs.Stages.{NodeThere, walkStage, memberStage, recordStage}
 use Rattle.typing.proofs.Points.{fault-there}
-use Rattle.inference.proofs.WalkLaws.{below-larger}
 
 -- the answer to some questions, and what comes after them
 abbrev pub answerTo : List Asked → Verdict → Verdict
@@ -166,16 +164,13 @@ module _ (s : List ℕ) (a : Answer) where
   unfolding walkStage
   walk-is v e h = rw (← e) h
 
--- No variable is bound in a table of zeros.
-pub env-none : (p : Program) (n : ℕ) → EnvIs p (replicate n 0) []
-unfolding typeIn named
-env-none p n = record { types = WF-ENV (λ b m. absurd (List·Memᴰ·not-nil m)); holds = λ x h. getD-zeros n x }
-  where
-    getD-zeros : (n x : ℕ) → _≡_ {A = ℕ} (getD (replicate n 0) x 0) 0
-    getD-zeros zero x = refl
-    getD-zeros (suc n) zero = refl
-    getD-zeros (suc n) (suc x) = getD-zeros n x
+-- A new table is zeros.
+pub new-zeros : (n : ℕ) → Zeros (replicate n 0)
+new-zeros zero k = refl
+new-zeros (suc n) zero = refl
+new-zeros (suc n) (suc k) = new-zeros n k
 
--- A larger table serves too.
-pub named-more : {s : List ℕ} {m : ℕ} (n : ℕ) → m ≤ n → Named s m → Named s n
-named-more {m = m} n h w = record { low = omega (arith, w .low); names = λ k l. below-larger m n (viewAt _ k) h (w .names k l) }
+-- Filled tables are what they must be after every verdict.
+pub tables-filled : {s starts facts : List ℕ} → Starts s starts → Facts s facts → (v : Verdict) → TablesFilled s starts facts v
+tables-filled r f (Accepted t) = (r, f)
+tables-filled r f (Refused q place) = tt

@@ -1,16 +1,13 @@
 // Check: questions 1 to 15, in order.
-use inference::FEW_NAMES;
-use inference::name_bound;
 use inference::walk_script;
 use interfaces::classes_no;
 use interfaces::joins_no;
-use limits::Limits;
-use members::RUNS;
 use members::fill_starts;
+use names::RANKS;
+use names::fill_ranks;
 use script::Found;
 use script::Question;
 use script::Section;
-use sharing::NAMES;
 use sharing::fill_forks;
 use typing::Answer;
 use typing::Verdict;
@@ -18,8 +15,10 @@ ghost use mathlib.Core.Path.{_≡_};
 ghost use Rattle.sections.specs.Laid.{Laid};
 ghost use Rattle.script.specs.Statements.{WithinLayout};
 ghost use Rattle.typing.specs.Check.{checkOf, walked};
-ghost use Rattle.checker.specs.Stages.{NodeThere, walkStage, memberStage, recordStage};
 ghost use Rattle.members.specs.Tables.{Starts};
+ghost use Rattle.names.specs.Facts.{Facts};
+ghost use Rattle.checker.specs.Stages.{NodeThere, walkStage, memberStage, recordStage};
+ghost use Rattle.checker.specs.Lent.{FactsLent, TablesLent, TablesFilled};
 
 // The walk's answer, with the node's record as the place.
 fn placed(s: &[u8], a: Answer) -> Verdict
@@ -35,45 +34,42 @@ fn placed(s: &[u8], a: Answer) -> Verdict
     }
 }
 
-// 11 to 15. A table for the variables below 1,024 is enough for most scripts.
-fn walk_verdict(s: &[u8], starts: &[u16]) -> Verdict
-    requires { ⌜ WithinLayout (now s) × Starts (now s) (now starts) ⌝ }
+// 11 to 15, after which the table of facts is filled.
+fn walk_verdict(s: &[u8], starts: &[u16], facts: &mut [u16]) -> Verdict
+    requires { ⌜ WithinLayout (now s) × Starts (now s) (now starts) × FactsLent (now facts) ⌝ }
     ensures { λ r. ⌜ r ≡ walkStage (now (s .entry)) ⌝ }
+    ensures { λ r. ⌜ Facts (now (s .entry)) (now (facts .exit)) ⌝ }
 {
-    let mut forks = [0u8; Limits::NODES];
-    fill_forks(s, &mut forks);
-    if name_bound(s) <= FEW_NAMES {
-        let mut env = [0u16; FEW_NAMES];
-        let a = walk_script(s, starts, &forks, &mut env);
-        return placed(s, a);
-    }
-    let mut env = [0u16; NAMES];
-    let a = walk_script(s, starts, &forks, &mut env);
+    let count = fill_ranks(s, facts);
+    fill_forks(s, count, facts);
+    let mut env = [0u16; RANKS];
+    let a = walk_script(s, starts, facts, &mut env);
     placed(s, a)
 }
 
 // 9 to 15.
-fn member_verdict(s: &[u8]) -> Verdict
-    requires { ⌜ WithinLayout (now s) ⌝ }
+fn member_verdict(s: &[u8], starts: &mut [u16], facts: &mut [u16]) -> Verdict
+    requires { ⌜ WithinLayout (now s) × TablesLent (now starts) (now facts) ⌝ }
     ensures { λ r. ⌜ r ≡ memberStage (now (s .entry)) ⌝ }
+    ensures { λ r. ⌜ TablesFilled (now (s .entry)) (now (starts .exit)) (now (facts .exit)) r ⌝ }
 {
-    let mut starts = [0u16; RUNS];
-    fill_starts(s, &mut starts);
-    let joins = joins_no(s, &starts);
+    fill_starts(s, starts);
+    let joins = joins_no(s, starts);
     if let Found::At(place) = joins {
         return Verdict::Refused(Question::Joins, place as u16);
     }
-    let classes = classes_no(s, &starts);
+    let classes = classes_no(s, starts);
     if let Found::At(place) = classes {
         return Verdict::Refused(Question::Classes, place as u16);
     }
-    walk_verdict(s, &starts)
+    walk_verdict(s, starts, facts)
 }
 
 // 4 to 15.
-fn record_verdict(s: &[u8]) -> Verdict
-    requires { ⌜ Laid (now s) ⌝ }
+fn record_verdict(s: &[u8], starts: &mut [u16], facts: &mut [u16]) -> Verdict
+    requires { ⌜ Laid (now s) × TablesLent (now starts) (now facts) ⌝ }
     ensures { λ r. ⌜ r ≡ recordStage (now (s .entry)) ⌝ }
+    ensures { λ r. ⌜ TablesFilled (now (s .entry)) (now (starts .exit)) (now (facts .exit)) r ⌝ }
 {
     let interfaces = records::interfaces_no(s);
     if let Found::At(place) = interfaces {
@@ -94,12 +90,14 @@ fn record_verdict(s: &[u8]) -> Verdict
     if let Found::At(place) = names {
         return Verdict::Refused(Question::Names, place as u16);
     }
-    member_verdict(s)
+    member_verdict(s, starts, facts)
 }
 
-// Check: 1 to 15.
-pub fn verdict_of(s: &[u8]) -> Verdict
+// Check: 1 to 15. The tables are lent, and are filled for an accepted script.
+pub fn verdict_of(s: &[u8], starts: &mut [u16], facts: &mut [u16]) -> Verdict
+    requires { ⌜ TablesLent (now starts) (now facts) ⌝ }
     ensures { λ r. ⌜ r ≡ checkOf (now (s .entry)) ⌝ }
+    ensures { λ r. ⌜ TablesFilled (now (s .entry)) (now (starts .exit)) (now (facts .exit)) r ⌝ }
 {
     if !sections::length_fits(s) {
         return Verdict::Refused(Question::Length, 0);
@@ -110,5 +108,5 @@ pub fn verdict_of(s: &[u8]) -> Verdict
     if !sections::places_fit(s) {
         return Verdict::Refused(Question::Places, 0);
     }
-    record_verdict(s)
+    record_verdict(s, starts, facts)
 }

@@ -1,29 +1,39 @@
--- What a choice comes to in the block and the tree, as a whole.
+-- What a choice comes to in the block, as a whole.
+use mathlib.Core.Path.{_≡_}
 use mathlib.Core.List.{List}
 use Prim.Native.Nat.{ℕ}
+use Rattle.script.specs.Syntax.{Point, n-bind}
+use Rattle.script.specs.Reading.{viewAt}
 use Rattle.inference.specs.At.{Blank}
 use Rattle.machine.specs.declared.Want.{Want}
 use Rattle.machine.specs.declared.Store.{Store}
 use Rattle.machine.specs.Config as machine
 use Rattle.machine.specs.Config.{codeOf, Stores, Config}
 use Rattle.machine.specs.Machine.{Outcome, still, full, moved}
+use Rattle.machine.specs.Accepted.{AcceptedCode}
 use Rattle.machine.specs.WellFormed.{WfConfig}
-use Rattle.tree.specs.declared.Tree.{Tree}
+use Rattle.environments.specs.Known.{Inferable}
 use Rattle.state.specs.Represents.{Represents}
+use Rattle.moves.specs.declared.Effect.{Effect}
 use Rattle.moves.specs.declared.Effect.the-variants.{Still, Moved, Full}
-use Rattle.moves.specs.declared.Step.{Step}
 
--- The block and the answer after the machine's outcome, where the block was b and the tree `self`.
-pub data PerformsChoice (b : List ℕ) (self : Tree) : Outcome → List ℕ → Step → Type 0 where
-  choice-still : PerformsChoice b self still b (record { effect = Still; tree = self })
-  choice-full : {k : Store} → PerformsChoice b self (full k) b (record { effect = Full k; tree = self })
-  choice-moved : {after : List ℕ} {tree : Tree} {st : Stores} {t : machine.Tree} → Represents after tree (record { stores = st; tree = t })
-      → PerformsChoice b self (moved st t) after (record { effect = Moved; tree = tree })
+-- The block and the answer after the machine's outcome, where the block was b.
+pub data PerformsChoice (b : List ℕ) : Outcome → List ℕ → Effect → Type 0 where
+  choice-still : PerformsChoice b still b Still
+  choice-full : {k : Store} → PerformsChoice b (full k) b (Full k)
+  choice-moved : {after : List ℕ} {st : Stores} {t : machine.Tree} → Represents after (record { stores = st; tree = t })
+      → PerformsChoice b (moved st t) after Moved
 
--- The script's tables, and a formed configuration that block and tree represent.
-pub record Ready (s starts forks table b : List ℕ) (self : Tree) : Type 0 where
-  pub blank : Blank s starts forks table
+-- The tables of an accepted script, and a formed configuration that the block is.
+pub record Ready (s starts facts table b : List ℕ) : Type 0 where
+  pub blank : Blank s starts facts table
   pub config : Config
   pub want : Want
-  pub represents : Represents b self config
+  pub represents : Represents b config
   pub formed : WfConfig (codeOf s) want config
+  pub type : ℕ
+  pub accepted : AcceptedCode (codeOf s) type
+
+-- The first part of a let that waits has a type under the bindings of the frame's environment: "(there must be one)".
+abbrev pub FirstTyped : List ℕ → List ℕ → Point → ℕ → Type 0
+FirstTyped s b n env = (x a body : ℕ) → viewAt s n ≡ n-bind x a body → Inferable s b env a

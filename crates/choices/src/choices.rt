@@ -1,11 +1,10 @@
 // What a choice comes to.
 use crate::nodes::resume;
 use crate::nodes::run_node;
-use moves::Step;
+use block::Area;
+use moves::Effect;
 use moves::fold_join;
-use moves::stays;
 use tree::Cell;
-use tree::Tree;
 ghost use mathlib.Core.Path.{_≡_};
 ghost use Rattle.machine.specs.declared.Want.{Want};
 ghost use Rattle.machine.specs.Config.{codeOf, Config};
@@ -18,30 +17,29 @@ ghost use Rattle.choices.specs.PerformsChoice.{PerformsChoice, Ready};
 pub fn choose(
     s: &[u8],
     starts: &[u16],
-    forks: &[u8],
+    facts: &[u16],
     table: &mut [u16],
     block: &mut [u8],
-    tree: Tree,
     n: usize,
-) -> Step
-    requires { ⌜ Ready (now s) (now starts) (now forks) (now table) (now block) tree ⌝ }
+) -> Effect
+    requires { ⌜ Ready (now s) (now starts) (now facts) (now table) (now block) ⌝ }
     ensures { λ r. ⌜
         ((c : Config) (w : Want) →
-        Represents (now (block .entry)) tree c →
+        Represents (now (block .entry)) c →
         WfConfig (codeOf (now (s .entry))) w c →
-        PerformsChoice (now (block .entry)) tree (choice (codeOf (now (s .entry))) limits c n) (now (block .exit)) r)
+        PerformsChoice (now (block .entry)) (choice (codeOf (now (s .entry))) limits c n) (now (block .exit)) r)
         ⌝ }
     ensures { λ r. ⌜ now (table .exit) ≡ now (table .entry) ⌝ }
 {
-    if tree.len <= n {
-        return stays(tree);
+    if areas::count(block, Area::Positions) <= n {
+        return Effect::Still;
     }
-    let entry = tree.entries[n];
+    let entry = state::entry_at(block, n);
     let cell = entry.cell;
     match cell {
-        Cell::Failed => stays(tree),
-        Cell::Running(a, env) => run_node(s, starts, block, tree, n, a, env),
-        Cell::Returning(v) => resume(s, starts, forks, table, block, tree, n, v),
-        Cell::Join(_, _) => fold_join(block, tree, n),
+        Cell::Failed => Effect::Still,
+        Cell::Running(a, env) => run_node(s, starts, block, n, a, env),
+        Cell::Returning(v) => resume(s, starts, facts, table, block, n, v),
+        Cell::Join(_, _) => fold_join(block, n),
     }
 }

@@ -1,8 +1,10 @@
 // The move of a thread at a node, and of one with a value at a node that waits.
+use block::Area;
+use block::Layout;
 use machine::Frame;
 use machine::Value;
+use moves::Effect;
 use moves::Member;
-use moves::Step;
 use moves::become_join;
 use moves::become_null;
 use moves::enter_lock;
@@ -10,9 +12,7 @@ use moves::give_value;
 use moves::leave_frame;
 use moves::make_object;
 use moves::read_field;
-use moves::stays;
 use sections::node_word;
-use tree::Tree;
 use waiting::WaitingLet;
 use waiting::WaitingMember;
 use waiting::bind_value;
@@ -23,7 +23,6 @@ use waiting::store_value;
 ghost use mathlib.Core.Path.{_≡_};
 ghost use mathlib.Core.List.{List, [], _∷_};
 ghost use Prim.Native.Nat.{_<_};
-ghost use lib.ListN.{getD};
 ghost use Rattle.script.specs.declared.Section.the-variants.{Nodes as nodes};
 ghost use Rattle.script.specs.Section.{countOf};
 ghost use Rattle.script.specs.Reading.{viewAt, programOf};
@@ -36,27 +35,21 @@ ghost use Rattle.machine.specs.Config.{running, returning, Config, codeOf};
 ghost use Rattle.machine.specs.Machine.{limits, spare, context, runNode, wake as wakes, resume as resumes, Path};
 ghost use Rattle.block.specs.Values.{Storable};
 ghost use Rattle.representation.specs.Preorder.{framesAbove};
-ghost use Rattle.tree.specs.Entries.{blank};
 ghost use Rattle.environments.specs.Chains.{Chain, Typed, bindingsIn};
 ghost use Rattle.state.specs.Represents.{Rest, SomeState};
-ghost use Rattle.moves.specs.Performs.{Performs, AtPosition, OwnFields, Resumes};
+ghost use Rattle.state.specs.Positions.{entryAt};
+ghost use Rattle.moves.specs.Performs.{Performs, AtPosition, WordBound, OwnFields, Resumes};
+ghost use Rattle.choices.specs.PerformsChoice.{FirstTyped};
 
 // The move of a thread at node a.
-pub fn run_node(
-    s: &[u8],
-    starts: &[u16],
-    block: &mut [u8],
-    tree: Tree,
-    i: usize,
-    a: u16,
-    env: u16,
-) -> Step
-    requires { ⌜ WithinLayout (now s) × Starts (now s) (now starts) × (a < countOf (now s) nodes) × SomeState (now block) tree i × Chain (now block) env ⌝ }
+pub fn run_node(s: &[u8], starts: &[u16], block: &mut [u8], i: usize, a: u16, env: u16) -> Effect
+    requires { ⌜ WithinLayout (now s) × Starts (now s) (now starts) × (a < countOf (now s) nodes) × SomeState (now block) i ⌝ }
+    requires { ⌜ Chain (now block) env × WordBound (now block) env ⌝ }
     ensures { λ r. ⌜
         ((c : Config) (p : Path) (x : Rest) (fs : List Frame) →
         OwnFields (codeOf (now (s .entry))) (c .stores .objects) →
-        AtPosition (now (block .entry)) tree i c p (running a env fs) x →
-        Performs (now (block .entry)) tree i x
+        AtPosition (now (block .entry)) i c p (running a env fs) x →
+        Performs (now (block .entry)) i x
         (runNode (codeOf (now (s .entry))) (spare limits (c .stores) (c .tree)) (c .stores) (framesAbove [] (c .tree) p) fs env a (viewAt (now (s .entry)) a))
         (now (block .exit)) r)
         ⌝ }
@@ -71,16 +64,16 @@ pub fn run_node(
         name: y,
     };
     match kind {
-        1 => give_value(block, tree, i, env, x),
-        2 => read_field(s, starts, block, tree, i, field),
-        3 => leave_frame(block, tree, i, Frame::Awaits(a, env), z, env),
-        4 => leave_frame(block, tree, i, Frame::Awaits(a, env), z, env),
-        5 => leave_frame(block, tree, i, Frame::Awaits(a, env), y, env),
-        6 => make_object(block, tree, i, x),
-        7 => leave_frame(block, tree, i, Frame::Casts(a), y, env),
-        8 => become_join(tree, i, env, x, y, z),
-        9 => enter_lock(block, tree, i, env, x, y),
-        _ => become_null(tree, i),
+        1 => give_value(block, i, env, x),
+        2 => read_field(s, starts, block, i, field),
+        3 => leave_frame(block, i, Frame::Awaits(a, env), z, env),
+        4 => leave_frame(block, i, Frame::Awaits(a, env), z, env),
+        5 => leave_frame(block, i, Frame::Awaits(a, env), y, env),
+        6 => make_object(block, i, x),
+        7 => leave_frame(block, i, Frame::Casts(a), y, env),
+        8 => become_join(block, i, env, x, y, z),
+        9 => enter_lock(block, i, env, x, y),
+        _ => become_null(block, i),
     }
 }
 
@@ -95,21 +88,21 @@ struct Awaited {
 fn wake(
     s: &[u8],
     starts: &[u16],
-    forks: &[u8],
+    facts: &[u16],
     table: &mut [u16],
     block: &mut [u8],
-    tree: Tree,
     i: usize,
     w: Awaited,
-) -> Step
-    requires { ⌜ Blank (now s) (now starts) (now forks) (now table) × (w .node < countOf (now s) nodes) ⌝ }
+) -> Effect
+    requires { ⌜ Blank (now s) (now starts) (now facts) (now table) × (w .node < countOf (now s) nodes) ⌝ }
     requires { ⌜ Chain (now block) (w .env) × Typed (now block) × WfEnv (programOf (now s)) (context (bindingsIn (now block)) (w .env)) ⌝ }
-    requires { ⌜ SomeState (now block) tree i × (0 < getD (tree .entries) i blank .frames) × Storable (w .value) ⌝ }
+    requires { ⌜ FirstTyped (now s) (now block) (w .node) (w .env) ⌝ }
+    requires { ⌜ SomeState (now block) i × (0 < entryAt (now block) i .frames) × Storable (w .value) ⌝ }
     ensures { λ r. ⌜
         ((c : Config) (p : Path) (x : Rest) (g : Frame) (fs : List Frame) →
         OwnFields (codeOf (now (s .entry))) (c .stores .objects) →
-        AtPosition (now (block .entry)) tree i c p (returning (w .value) (g ∷ fs)) x →
-        Performs (now (block .entry)) tree i x
+        AtPosition (now (block .entry)) i c p (returning (w .value) (g ∷ fs)) x →
+        Performs (now (block .entry)) i x
         (wakes (codeOf (now (s .entry))) (spare limits (c .stores) (c .tree)) (c .stores) (w .value) fs (w .env) (viewAt (now (s .entry)) (w .node)))
         (now (block .exit)) r)
         ⌝ }
@@ -134,10 +127,10 @@ fn wake(
         body: z,
     };
     match kind {
-        3 => store_value(s, starts, block, tree, i, member),
-        4 => enter_method(s, starts, block, tree, i, member),
-        5 => bind_value(s, starts, forks, table, block, tree, i, binding),
-        _ => stays(tree),
+        3 => store_value(s, starts, block, i, member),
+        4 => enter_method(s, starts, block, i, member),
+        5 => bind_value(s, starts, facts, table, block, i, binding),
+        _ => Effect::Still,
     }
 }
 
@@ -145,29 +138,28 @@ fn wake(
 pub fn resume(
     s: &[u8],
     starts: &[u16],
-    forks: &[u8],
+    facts: &[u16],
     table: &mut [u16],
     block: &mut [u8],
-    tree: Tree,
     i: usize,
     v: Value,
-) -> Step
-    requires { ⌜ Blank (now s) (now starts) (now forks) (now table) × Resumes (now s) (now block) tree i v ⌝ }
+) -> Effect
+    requires { ⌜ Blank (now s) (now starts) (now facts) (now table) × Resumes (now s) (now block) i v ⌝ }
     ensures { λ r. ⌜
         ((c : Config) (p : Path) (x : Rest) (fs : List Frame) →
         OwnFields (codeOf (now (s .entry))) (c .stores .objects) →
-        AtPosition (now (block .entry)) tree i c p (returning v fs) x →
-        Performs (now (block .entry)) tree i x
+        AtPosition (now (block .entry)) i c p (returning v fs) x →
+        Performs (now (block .entry)) i x
         (resumes (codeOf (now (s .entry))) (spare limits (c .stores) (c .tree)) (c .stores) v fs)
         (now (block .exit)) r)
         ⌝ }
     ensures { λ r. ⌜ now (table .exit) ≡ now (table .entry) ⌝ }
 {
-    let entry = tree.entries[i];
-    if entry.frames == 0 {
-        return stays(tree);
+    let frames = areas::word(block, Area::Positions, i, Layout::WAITING);
+    if frames == 0 {
+        return Effect::Still;
     }
-    let f = state::top_frame(block, tree, i);
+    let f = state::top_frame(block, i);
     match f {
         Frame::Awaits(n, env) => {
             let w = Awaited {
@@ -175,9 +167,9 @@ pub fn resume(
                 node: n,
                 env: env,
             };
-            wake(s, starts, forks, table, block, tree, i, w)
+            wake(s, starts, facts, table, block, i, w)
         }
-        Frame::Casts(_) => drop_cast(block, tree, i, v),
-        Frame::Locks(o) => open_lock(block, tree, i, v, o),
+        Frame::Casts(_) => drop_cast(block, i, v),
+        Frame::Locks(o) => open_lock(block, i, v, o),
     }
 }

@@ -12,23 +12,22 @@ use Rattle.script.specs.Lists.{run}
 use Rattle.script.proofs.Lists.{length-run, getD-run}
 use Rattle.machine.specs.Config.{codeOf}
 use Rattle.machine.specs.Machine.{oneIf, limits, canMove}
-use Rattle.tree.specs.declared.Tree.{Tree}
 use Rattle.enabled.specs.Looks.{Standing}
 use Rattle.calls.specs.Calls.{flagsOf}
 
--- The first n flags are set, those of the block b with the tree.
-pub record Marked (s b : List ℕ) (tree : Tree) (flags : List ℕ) (n : ℕ) : Type 0 where
+-- The first n flags are set, those of the block b.
+pub record Marked (s b flags : List ℕ) (n : ℕ) : Type 0 where
   pub long : length flags ≡ FLAGS
   pub most : n ≤ FLAGS
-  pub marks : (x : Standing s b tree) (k : ℕ) → k < n → getD flags k 0 ≡ oneIf (canMove (codeOf s) limits (x .config) k)
+  pub marks : (x : Standing s b) (k : ℕ) → k < n → getD flags k 0 ≡ oneIf (canMove (codeOf s) limits (x .config) k)
 
-module _ {s b flags : List ℕ} {tree : Tree} where
-  pub mark-none : length flags ≡ FLAGS → Marked s b tree flags 0
+module _ {s b flags : List ℕ} where
+  pub mark-none : length flags ≡ FLAGS → Marked s b flags 0
   mark-none long = record { long = long; most = omega arith; marks = λ x k h. absurd (omega arith) }
 
-  module _ {n : ℕ} (m : Marked s b tree flags n) where
+  module _ {n : ℕ} (m : Marked s b flags n) where
     pub mark-more :
-        {v : ℕ} {can : Bool} → n < FLAGS → ((x : Standing s b tree) → can ≡ canMove (codeOf s) limits (x .config) n) → v ≡ oneIf can → Marked s b tree (set flags n v) (n + 1)
+        {v : ℕ} {can : Bool} → n < FLAGS → ((x : Standing s b) → can ≡ canMove (codeOf s) limits (x .config) n) → v ≡ oneIf can → Marked s b (set flags n v) (n + 1)
     mark-more {v} h can is =
         record {
           long = length-set flags n v ∙ m .long;
@@ -39,7 +38,7 @@ module _ {s b flags : List ℕ} {tree : Tree} where
               (getD-set-same flags n v 0 (omega (arith, m .long)) ∙ is ∙ ap oneIf (can x));
         }
 
-    pub mark-all : FLAGS ≤ n → (x : Standing s b tree) → flags ≡ flagsOf s (x .config)
+    pub mark-all : FLAGS ≤ n → (x : Standing s b) → flags ≡ flagsOf s (x .config)
     unfolding flagsOf
     mark-all h x = ext-getD 0 flags _ (m .long ∙ sym (length-run flag 0 FLAGS)) same
       where

@@ -7,16 +7,15 @@ use Rattle.machine.specs.Config.{codeOf, Config}
 use Rattle.machine.specs.Machine.{limits}
 use Rattle.machine.specs.Accepted.{AcceptedCode}
 use Rattle.machine.specs.WellFormed.{WellFormed}
-use Rattle.tree.specs.declared.Tree.{Tree}
 use Rattle.state.specs.Represents.{Represents}
 use Rattle.enabled.specs.declared.Looked.{Looked}
 use Rattle.enabled.specs.declared.Looked.the-variants.{GoesOn, Ends}
 
--- The block b and the tree `self` are a well-formed configuration of the accepted script s.
-pub record Standing (s b : List ℕ) (self : Tree) : Type 0 where
+-- The block b is a well-formed configuration of the accepted script s.
+pub record Standing (s b : List ℕ) : Type 0 where
   pub config : Config
   pub type : ℕ
-  pub represents : Represents b self config
+  pub represents : Represents b config
   pub accepted : AcceptedCode (codeOf s) type
   pub formed : WellFormed (codeOf s) limits type config
 

@@ -1,12 +1,12 @@
 // Which positions can move, and what Run sees when it looks.
 use crate::Looked;
+use block::Area;
 use machine::Ending;
 use moves::Access;
 use script::Section;
 use tree::Cell;
 use tree::Fold;
 use tree::Phase;
-use tree::Tree;
 ghost use mathlib.Core.Path.{_≡_};
 ghost use mathlib.Core.List.{List, []};
 ghost use Prim.Native.Nat.{ℕ, _<_};
@@ -19,23 +19,21 @@ ghost use Rattle.machine.specs.Config.{running, join, codeOf, Stores, Config};
 ghost use Rattle.machine.specs.Machine.{scope, find, lockTarget, phase, fold, Path, limits, able, canMove, size};
 ghost use Rattle.machine.specs.Runs.{anyAble, look as seen};
 ghost use Rattle.representation.specs.Preorder.{framesAbove};
-ghost use Rattle.tree.specs.Entries.{Tidy};
-ghost use Rattle.tree.specs.Parts.{Stands};
 ghost use Rattle.environments.specs.Chains.{Chain};
 ghost use Rattle.state.specs.Represents.{Rest, StateAt, SomeState};
 ghost use Rattle.moves.specs.Performs.{AtPosition};
 ghost use Rattle.enabled.specs.Looks.{Standing, lookOf};
 
 // Can the thread at i move, whose node is a lock on variable x?
-fn lock_open(block: &[u8], tree: Tree, i: usize, env: u16, x: u16) -> bool
-    requires { ⌜ SomeState (now block) tree i × Chain (now block) env ⌝ }
+fn lock_open(block: &[u8], i: usize, env: u16, x: u16) -> bool
+    requires { ⌜ SomeState (now block) i × Chain (now block) env ⌝ }
     ensures { λ r. ⌜
         ((c : Config) (p : Path) (rest : Rest) (a₀ a k : ℕ) (fs : List Frame) →
-        AtPosition (now (block .entry)) tree i c p (running a₀ env fs) rest →
+        AtPosition (now (block .entry)) i c p (running a₀ env fs) rest →
         r ≡ able (lockTarget (c .stores) (framesAbove [] (c .tree) p) fs a env k (find (scope (c .stores .bindings) env) x)))
         ⌝ }
 {
-    let access = moves::lock_access(block, tree, i, env, x);
+    let access = moves::lock_access(block, i, env, x);
     match access {
         Access::Stays => false,
         Access::Null => true,
@@ -46,11 +44,11 @@ fn lock_open(block: &[u8], tree: Tree, i: usize, env: u16, x: u16) -> bool
 
 // Can the thread at i move, which is at node a? "A thread waits when its move due is a lock on a shut object that it does not hold; unless waiting, finished or
 // failed, it can move."
-fn node_can_move(s: &[u8], block: &[u8], tree: Tree, i: usize, a: u16, env: u16) -> bool
-    requires { ⌜ WithinLayout (now s) × SomeState (now block) tree i × Chain (now block) env × (a < countOf (now s) nodes) ⌝ }
+fn node_can_move(s: &[u8], block: &[u8], i: usize, a: u16, env: u16) -> bool
+    requires { ⌜ WithinLayout (now s) × SomeState (now block) i × Chain (now block) env × (a < countOf (now s) nodes) ⌝ }
     ensures { λ r. ⌜
-        ((x : Standing (now (s .entry)) (now (block .entry)) tree) (p : Path) (rest : Rest) (fs : List Frame) →
-        AtPosition (now (block .entry)) tree i (x .config) p (running a env fs) rest →
+        ((x : Standing (now (s .entry)) (now (block .entry))) (p : Path) (rest : Rest) (fs : List Frame) →
+        AtPosition (now (block .entry)) i (x .config) p (running a env fs) rest →
         r ≡ canMove (codeOf (now (s .entry))) limits (x .config) i)
         ⌝ }
 {
@@ -59,19 +57,19 @@ fn node_can_move(s: &[u8], block: &[u8], tree: Tree, i: usize, a: u16, env: u16)
         return true;
     }
     let x = sections::record_word(s, Section::Nodes, a as usize, 1);
-    lock_open(block, tree, i, env, x)
+    lock_open(block, i, env, x)
 }
 
 // Can the join at i move? "A join can when both sides are finished threads or one is a failed thread."
-fn join_can_move(tree: Tree, i: usize) -> bool
-    requires { ⌜ Tidy tree × Stands tree i ⌝ }
+fn join_can_move(block: &[u8], i: usize) -> bool
+    requires { ⌜ SomeState (now block) i ⌝ }
     ensures { λ r. ⌜
-        ((b : List ℕ) (rest : Rest) (st : Stores) (fs : List Frame) (a e : ℕ) (left right : machine.Tree) →
-        StateAt b tree i rest st (join fs a e left right) →
+        ((rest : Rest) (st : Stores) (fs : List Frame) (a e : ℕ) (left right : machine.Tree) →
+        StateAt (now (block .entry)) i rest st (join fs a e left right) →
         r ≡ able (fold st fs a e (phase left) (phase right)))
         ⌝ }
 {
-    let how = tree.fold(i);
+    let how = state::fold_at(block, i);
     match how {
         Fold::Still => false,
         Fold::GoesOn => true,
@@ -80,34 +78,38 @@ fn join_can_move(tree: Tree, i: usize) -> bool
 }
 
 // "each tree position that can move"
-pub fn can_move(s: &[u8], block: &[u8], tree: Tree, n: usize) -> bool
-    requires { ⌜ WithinLayout (now s) × Standing (now s) (now block) tree ⌝ }
-    ensures { λ r. ⌜ ((x : Standing (now (s .entry)) (now (block .entry)) tree) → r ≡ canMove (codeOf (now (s .entry))) limits (x .config) n) ⌝ }
+pub fn can_move(s: &[u8], block: &[u8], n: usize) -> bool
+    requires { ⌜ WithinLayout (now s) × Standing (now s) (now block) ⌝ }
+    ensures { λ r. ⌜ ((x : Standing (now (s .entry)) (now (block .entry))) → r ≡ canMove (codeOf (now (s .entry))) limits (x .config) n) ⌝ }
 {
-    if tree.len <= n {
+    if areas::count(block, Area::Positions) <= n {
         return false;
     }
-    let x = tree.entries[n];
+    let x = state::entry_at(block, n);
     let cell = x.cell;
     match cell {
         Cell::Failed => false,
-        Cell::Running(a, env) => node_can_move(s, block, tree, n, a, env),
+        Cell::Running(a, env) => node_can_move(s, block, n, a, env),
         Cell::Returning(_) => x.frames != 0,
-        Cell::Join(_, _) => join_can_move(tree, n),
+        Cell::Join(_, _) => join_can_move(block, n),
     }
 }
 
-// Can a position move?
-fn any_can_move(s: &[u8], block: &[u8], tree: Tree) -> bool
-    requires { ⌜ WithinLayout (now s) × Standing (now s) (now block) tree ⌝ }
+// Can a position move? Position n, which has moved last, is asked first: most often it can go on.
+fn any_can_move(s: &[u8], block: &[u8], n: usize) -> bool
+    requires { ⌜ WithinLayout (now s) × Standing (now s) (now block) ⌝ }
     ensures { λ r. ⌜
-        ((x : Standing (now (s .entry)) (now (block .entry)) tree) →
+        ((x : Standing (now (s .entry)) (now (block .entry))) →
         r ≡ anyAble (codeOf (now (s .entry))) limits (x .config) (size (x .config .tree)))
         ⌝ }
 {
+    if can_move(s, block, n) {
+        return true;
+    }
+    let count = areas::count(block, Area::Positions);
     let mut i = 0;
-    while i < tree.len {
-        if can_move(s, block, tree, i) {
+    while i < count {
+        if can_move(s, block, i) {
             return true;
         }
         i += 1;
@@ -115,17 +117,18 @@ fn any_can_move(s: &[u8], block: &[u8], tree: Tree) -> bool
     false
 }
 
-// "1 the root is a finished thread, 2 the root is a failed thread, 3 neither and no position can move"
-pub fn look(s: &[u8], block: &[u8], tree: Tree) -> Looked
-    requires { ⌜ WithinLayout (now s) × Standing (now s) (now block) tree ⌝ }
-    ensures { λ r. ⌜ ((x : Standing (now (s .entry)) (now (block .entry)) tree) → r ≡ lookOf (seen (codeOf (now (s .entry))) limits (x .config))) ⌝ }
+// "1 the root is a finished thread, 2 the root is a failed thread, 3 neither and no position can move". The answer is the same for every n, the position that
+// is asked first.
+pub fn look(s: &[u8], block: &[u8], n: usize) -> Looked
+    requires { ⌜ WithinLayout (now s) × Standing (now s) (now block) ⌝ }
+    ensures { λ r. ⌜ ((x : Standing (now (s .entry)) (now (block .entry))) → r ≡ lookOf (seen (codeOf (now (s .entry))) limits (x .config))) ⌝ }
 {
-    let root = tree::phase_of(tree.entries[0]);
+    let root = tree::phase_of(state::entry_at(block, 0));
     match root {
         Phase::Finished => Looked::Ends(Ending::Finished),
         Phase::Broken => Looked::Ends(Ending::Failed),
         Phase::Busy => {
-            if any_can_move(s, block, tree) {
+            if any_can_move(s, block, n) {
                 return Looked::GoesOn;
             }
             Looked::Ends(Ending::Deadlocked)

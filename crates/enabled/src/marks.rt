@@ -1,7 +1,6 @@
 // Offer's flags.
 use crate::can_move;
 use limits::Limits;
-use tree::Tree;
 ghost use mathlib.Core.Path.{_≡_};
 ghost use lib.ListN.{length};
 ghost use Rattle.limits.specs.Limits.{FLAGS};
@@ -21,13 +20,13 @@ fn flag_of(can: bool) -> u8
 }
 
 // "a byte to 1 for each tree position that can move and 0 for all others"
-pub fn mark(s: &[u8], block: &[u8], tree: Tree, flags: &mut [u8])
-    requires { ⌜ WithinLayout (now s) × Standing (now s) (now block) tree × (length (now flags) ≡ FLAGS) ⌝ }
-    ensures { λ r. ⌜ ((x : Standing (now (s .entry)) (now (block .entry)) tree) → now (flags .exit) ≡ flagsOf (now (s .entry)) (x .config)) ⌝ }
+pub fn mark(s: &[u8], block: &[u8], flags: &mut [u8])
+    requires { ⌜ WithinLayout (now s) × Standing (now s) (now block) × (length (now flags) ≡ FLAGS) ⌝ }
+    ensures { λ r. ⌜ ((x : Standing (now (s .entry)) (now (block .entry))) → now (flags .exit) ≡ flagsOf (now (s .entry)) (x .config)) ⌝ }
 {
     let mut n = 0;
     while n < Limits::FLAGS {
-        let can = can_move(s, block, tree, n);
+        let can = can_move(s, block, n);
         flags[n] = flag_of(can);
         n += 1;
     }

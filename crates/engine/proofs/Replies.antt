@@ -1,15 +1,20 @@
 -- The replies that a verdict makes.
-use Prim.Native.Nat.{ℕ}
+use Prim.Native.Nat.{ℕ, _+_}
 use mathlib.Core.Path.{_≡_, refl, sym, _∙_}
 use mathlib.Core.List.{List}
-use lib.ListN.{length}
+use lib.ListN.{length, replicate, length-replicate}
 use borrow.Author.Tests.{eq-eqb, ne-eqb}
-use Rattle.limits.specs.Limits.{BLOCK}
+use Rattle.limits.specs.Limits.{INTERFACES, CLASSES, BLOCK}
 use Rattle.script.specs.declared.Question.{Question}
 use Rattle.script.specs.Asking.{numberOf}
 use Rattle.typing.specs.declared.Verdict.{Verdict}
 use Rattle.typing.specs.declared.Verdict.the-variants.{Accepted, Refused}
 use Rattle.typing.specs.Check.{checkOf, verdictNumber, verdictPlace, verdictType}
+use Rattle.members.specs.Tables.{Starts}
+use Rattle.names.specs.Ranks.{FACTS}
+use Rattle.names.specs.Facts.{Facts}
+use Rattle.checker.specs.Lent.{TablesLent, TablesFilled}
+use Rattle.checker.proofs.CheckLaws.{new-zeros}
 use Rattle.machine.specs.Machine.{initial}
 use Rattle.block.specs.Block.{encode}
 use Rattle.calls.specs.declared.LentQuestion.the-variants.{BlockLength}
@@ -22,6 +27,21 @@ module _ (v w : Verdict) (h : v ≡ w) where
 
   pub refused : (q : Question) (place number : ℕ) → v ≡ Refused q place → number ≡ numberOf q → (number ≡ verdictNumber w) × ((place ≡ verdictPlace w) × (0 ≡ verdictType w))
   refused q place number e n = rw (← h, e, n) (refl, (refl, refl))
+
+-- The tables that Check fills, for the verdict that it comes to, and for an accepted script.
+pub filled : (s starts facts : List ℕ) {v w : Verdict} → v ≡ w → TablesFilled s starts facts v → TablesFilled s starts facts w
+filled s starts facts e h = rw e at h
+
+pub tables : (s starts facts : List ℕ) (t : ℕ) → checkOf s ≡ Accepted t → TablesFilled s starts facts (checkOf s) → Starts s starts × Facts s facts
+tables s starts facts t e h = rw e at h
+
+-- New tables can be lent.
+pub lent : TablesLent (replicate (INTERFACES + CLASSES + CLASSES) 0) (replicate FACTS 0)
+lent =
+    record {
+      runs = length-replicate {A = ℕ} (INTERFACES + CLASSES + CLASSES) 0;
+      facts-lent = record { size = length-replicate {A = ℕ} FACTS 0; zeros = new-zeros FACTS };
+    }
 
 -- What Start replies and leaves, after each of its answers: the script is refused, the block is refused, the initial block is written.
 module _ (s b : List ℕ) where

@@ -1,7 +1,10 @@
 // Check.
+use members::RUNS;
+use names::FACTS;
 use typing::Verdict;
 ghost use mathlib.Core.Path.{_≡_};
 ghost use Rattle.typing.specs.Check.{checkOf, verdictNumber, verdictPlace, verdictType};
+ghost use Rattle.checker.specs.Lent.{TablesLent, TablesFilled};
 
 // Check's reply: the number of the question that gets a no and its place, or 0, 0 and the start's type.
 #[repr(C)]
@@ -11,15 +14,15 @@ pub struct CheckReply {
     pub start_type: u16,
 }
 
-// Check: questions 1 to 15 about a script, whatever its bytes and its length.
-#[no_mangle]
-pub extern "C" fn oolong_check(script: &[u8]) -> CheckReply
-    ensures script { λ r. ⌜ now (script .exit) ≡ now (script .entry) ⌝ }
+// Check's reply about a script, whatever its bytes and its length. The tables are lent, and are filled for an accepted script.
+pub fn check_script(script: &[u8], starts: &mut [u16], facts: &mut [u16]) -> CheckReply
+    requires { ⌜ TablesLent (now starts) (now facts) ⌝ }
     ensures number { λ r. ⌜ r .number ≡ verdictNumber (checkOf (now (script .entry))) ⌝ }
     ensures place { λ r. ⌜ r .place ≡ verdictPlace (checkOf (now (script .entry))) ⌝ }
     ensures start_type { λ r. ⌜ r .«start_type» ≡ verdictType (checkOf (now (script .entry))) ⌝ }
+    ensures tables { λ r. ⌜ TablesFilled (now (script .entry)) (now (starts .exit)) (now (facts .exit)) (checkOf (now (script .entry))) ⌝ }
 {
-    let v = checker::verdict_of(script);
+    let v = checker::verdict_of(script, starts, facts);
     match v {
         Verdict::Accepted(t) => CheckReply {
             number: 0,
@@ -35,4 +38,17 @@ pub extern "C" fn oolong_check(script: &[u8]) -> CheckReply
             }
         }
     }
+}
+
+// Check: questions 1 to 15 about a script, whatever its bytes and its length.
+#[no_mangle]
+pub extern "C" fn oolong_check(script: &[u8]) -> CheckReply
+    ensures script { λ r. ⌜ now (script .exit) ≡ now (script .entry) ⌝ }
+    ensures number { λ r. ⌜ r .number ≡ verdictNumber (checkOf (now (script .entry))) ⌝ }
+    ensures place { λ r. ⌜ r .place ≡ verdictPlace (checkOf (now (script .entry))) ⌝ }
+    ensures start_type { λ r. ⌜ r .«start_type» ≡ verdictType (checkOf (now (script .entry))) ⌝ }
+{
+    let mut starts = [0u16; RUNS];
+    let mut facts = [0u16; FACTS];
+    check_script(script, &mut starts, &mut facts)
 }

@@ -1,7 +1,9 @@
 // Offer.
-use crate::check::oolong_check;
+use crate::check::check_script;
 use calls::LentQuestion;
 use limits::Limits;
+use members::RUNS;
+use names::FACTS;
 ghost use mathlib.Core.Path.{_≡_};
 ghost use Rattle.calls.specs.Calls.{offerOf};
 
@@ -21,7 +23,9 @@ pub extern "C" fn oolong_offer(script: &[u8], block: &[u8], flags: &mut [u8]) ->
     ensures place { λ r. ⌜ r .place ≡ offerOf (now (script .entry)) (now (block .entry)) (now (flags .entry)) .place ⌝ }
     ensures flags { λ r. ⌜ now (flags .exit) ≡ offerOf (now (script .entry)) (now (block .entry)) (now (flags .entry)) .flags ⌝ }
 {
-    let checked = oolong_check(script);
+    let mut starts = [0u16; RUNS];
+    let mut facts = [0u16; FACTS];
+    let checked = check_script(script, &mut starts, &mut facts);
     if checked.number != 0 {
         return OfferReply {
             number: checked.number,
@@ -36,7 +40,7 @@ pub extern "C" fn oolong_offer(script: &[u8], block: &[u8], flags: &mut [u8]) ->
         let number = calls::lent_number(LentQuestion::BufferLength);
         return OfferReply { number, place: 0 };
     }
-    if !replies::offer(script, checked.start_type, block, flags) {
+    if !replies::offer(script, &starts, &facts, checked.start_type, block, flags) {
         let number = calls::lent_number(LentQuestion::BlockForm);
         return OfferReply { number, place: 0 };
     }

@@ -1,7 +1,9 @@
 // Run.
-use crate::check::oolong_check;
+use crate::check::check_script;
 use calls::LentQuestion;
 use limits::Limits;
+use members::RUNS;
+use names::FACTS;
 ghost use mathlib.Core.Path.{_≡_};
 ghost use Rattle.calls.specs.Calls.{runOf};
 
@@ -40,7 +42,9 @@ pub extern "C" fn oolong_run(script: &[u8], block: &mut [u8], choices: &[u8]) ->
     ensures moves { λ r. ⌜ r .moves ≡ runOf (now (script .entry)) (now (block .entry)) (now (choices .entry)) .moves ⌝ }
     ensures block { λ r. ⌜ now (block .exit) ≡ runOf (now (script .entry)) (now (block .entry)) (now (choices .entry)) .block ⌝ }
 {
-    let checked = oolong_check(script);
+    let mut starts = [0u16; RUNS];
+    let mut facts = [0u16; FACTS];
+    let checked = check_script(script, &mut starts, &mut facts);
     if checked.number != 0 {
         return refusal(checked.number, checked.place);
     }
@@ -50,7 +54,7 @@ pub extern "C" fn oolong_run(script: &[u8], block: &mut [u8], choices: &[u8]) ->
     if Limits::CHOICES < choices.len() {
         return refusal(calls::lent_number(LentQuestion::BufferLength), 0);
     }
-    let played = replies::run(script, checked.start_type, block, choices);
+    let played = replies::run(script, &starts, &facts, checked.start_type, block, choices);
     if !played.formed {
         return refusal(calls::lent_number(LentQuestion::BlockForm), 0);
     }

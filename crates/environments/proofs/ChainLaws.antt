@@ -12,7 +12,7 @@ use Rattle.script.specs.Lists.{named}
 use Rattle.machine.specs.declared.Value.{Value}
 use Rattle.machine.specs.Config.{Binding}
 use Rattle.machine.specs.Machine.{scope, find}
-use Rattle.machine.proofs.Stores.{scope-older, scope-newest, scope-empty}
+use Rattle.soundness.proofs.Stores.{scope-older, scope-newest, scope-empty}
 use Rattle.block.specs.declared.Area.the-variants.{Bindings}
 use Rattle.block.specs.Layout.{wordIn, NAME, BOUND, LINK}
 use Rattle.block.specs.Values.{valueIn}

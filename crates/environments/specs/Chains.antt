@@ -8,6 +8,7 @@ use Rattle.words.specs.Word.{WORD}
 use Rattle.limits.specs.Limits.{BLOCK, BINDINGS}
 use Rattle.script.specs.Syntax.{Slot}
 use Rattle.typing.specs.Members.{typeIn}
+use Rattle.names.specs.Ranks.{RankOf}
 use Rattle.inference.specs.Tables.{boundWord}
 use Rattle.machine.specs.Config.{Binding}
 use Rattle.block.specs.declared.Area.the-variants.{Bindings}
@@ -47,25 +48,17 @@ lookupOf (some x) = Bound (x .value)
 abbrev pub Typed : List ℕ → Type 0
 Typed b = (i : ℕ) → i < bindingCount b → wordIn b Bindings i TYPE + 1 < WORD
 
--- A table of an environment: of no variable; and, for each name below its length, as the nearest binding says.
-abbrev pub Zeros : List ℕ → Type 0
-Zeros table = (x : ℕ) → getD table x 0 ≡ 0
-
-abbrev pub Filled : List ℕ → List Slot → Type 0
-Filled table Γ = (x : ℕ) → x < length table → getD table x 0 ≡ boundWord (typeIn Γ x)
+-- A table of an environment: at the rank of each variable, its type as the nearest binding says.
+abbrev pub Filled : List ℕ → List ℕ → List ℕ → List Slot → Type 0
+Filled s facts table Γ = (x k : ℕ) → RankOf s facts x k → getD table k 0 ≡ boundWord (typeIn Γ x)
 
 -- The word that is stored for a name, or if none is, the other.
 abbrev pub orElse : ℕ → ℕ → ℕ
 orElse zero n = n
 orElse (suc m) n = suc m
 
--- A table after a variable's type is noted, and after its word is struck out.
-pub record TypeStored (table : List ℕ) (name type : ℕ) (after : List ℕ) : Type 0 where
+-- A table after a variable's type is noted.
+pub record TypeStored (s facts table : List ℕ) (name type : ℕ) (after : List ℕ) : Type 0 where
   pub size : length after ≡ length table
-  pub here : name < length table → getD after name 0 ≡ orElse (getD table name 0) (suc type)
-  pub elsewhere : (x : ℕ) → (x ≡ name → ⊥) → getD after x 0 ≡ getD table x 0
-
-pub record TypeCleared (table : List ℕ) (name : ℕ) (after : List ℕ) : Type 0 where
-  pub size : length after ≡ length table
-  pub here : getD after name 0 ≡ 0
-  pub elsewhere : (x : ℕ) → (x ≡ name → ⊥) → getD after x 0 ≡ getD table x 0
+  pub here : (k : ℕ) → RankOf s facts name k → getD after k 0 ≡ orElse (getD table k 0) (suc type)
+  pub elsewhere : (x k : ℕ) → RankOf s facts x k → (x ≡ name → ⊥) → getD after k 0 ≡ getD table k 0

@@ -1,7 +1,14 @@
 // Environments: the chains of bindings in a lent block.
+mod known;
+mod scopes;
+
 use block::Area;
 use block::Layout;
+pub use known::first_type;
 use machine::Value;
+use names::Rank;
+pub use scopes::same_scope;
+pub use scopes::variable_type;
 use typing::Answer;
 ghost use mathlib.Core.Path.{_≡_};
 ghost use Prim.Native.Nat.{_+_, _<_};
@@ -11,13 +18,17 @@ ghost use Rattle.words.specs.Word.{WORD};
 ghost use Rattle.script.specs.declared.Section.the-variants.{Nodes as nodes};
 ghost use Rattle.script.specs.Section.{countOf};
 ghost use Rattle.script.specs.Reading.{programOf, exprAt};
+ghost use Rattle.script.specs.Statements.{WithinLayout};
 ghost use Rattle.typing.specs.Published.{WfEnv};
 ghost use Rattle.typing.specs.Typing.{inferred};
+ghost use Rattle.names.specs.Ranks.{RANKS};
+ghost use Rattle.names.specs.Facts.{Facts};
+ghost use Rattle.inference.specs.Tables.{Zeros};
 ghost use Rattle.inference.specs.At.{Blank};
 ghost use Rattle.block.specs.declared.Area.the-variants.{Bindings};
 ghost use Rattle.block.specs.Layout.{width, wordIn};
 ghost use Rattle.machine.specs.Machine.{scope, find, context};
-ghost use Rattle.environments.specs.Chains.{Chain, Typed, bindingsIn, lookupOf, Zeros, Filled, TypeStored, TypeCleared};
+ghost use Rattle.environments.specs.Chains.{Chain, Typed, bindingsIn, lookupOf, Filled, TypeStored};
 
 // What a look-up of a variable finds: its value, where it is bound.
 pub enum Lookup {
@@ -33,15 +44,16 @@ fn binding_word(block: &[u8], i: usize, j: usize) -> u16
     areas::word(block, Area::Bindings, i, j)
 }
 
-// Stores the type of a variable in a table, where the table has a word for the name and none is stored yet.
-fn store_type(table: &mut [u16], name: u16, t: u16)
-    requires { ⌜ t + 1 < WORD ⌝ }
-    ensures { λ r. ⌜ TypeStored (now (table .entry)) name t (now (table .exit)) ⌝ }
+// Stores the type of a variable in a table at the variable's rank, where none is stored yet. A variable that no node names has no rank.
+fn store_type(s: &[u8], facts: &[u16], table: &mut [u16], name: u16, t: u16)
+    requires { ⌜ WithinLayout (now s) × Facts (now s) (now facts) × (length (now table) ≡ RANKS) × (t + 1 < WORD) ⌝ }
+    ensures { λ r. ⌜ TypeStored (now (s .entry)) (now (facts .entry)) (now (table .entry)) name t (now (table .exit)) ⌝ }
 {
-    let i = name as usize;
-    if table.len() <= i {
+    let rank = names::rank_of(s, facts, name);
+    let Rank::At(k) = rank else {
         return;
-    }
+    };
+    let i = k as usize;
     let old = table[i];
     if old != 0 {
         return;
@@ -50,42 +62,30 @@ fn store_type(table: &mut [u16], name: u16, t: u16)
 }
 
 // Stores the types of an environment's variables in a table of zeros: the nearest binding counts.
-pub fn fill(block: &[u8], env: u16, table: &mut [u16])
-    requires { ⌜ Chain (now block) env × Typed (now block) × Zeros (now table) ⌝ }
-    ensures { λ r. ⌜ Filled (now (table .exit)) (context (bindingsIn (now (block .entry))) env) ⌝ }
+pub fn fill(s: &[u8], facts: &[u16], table: &mut [u16], block: &[u8], env: u16)
+    requires { ⌜ WithinLayout (now s) × Facts (now s) (now facts) × (length (now table) ≡ RANKS) × Zeros (now table) ⌝ }
+    requires { ⌜ Chain (now block) env × Typed (now block) ⌝ }
+    ensures { λ r. ⌜ Filled (now (s .entry)) (now (facts .entry)) (now (table .exit)) (context (bindingsIn (now (block .entry))) env) ⌝ }
     ensures { λ r. ⌜ length (now (table .exit)) ≡ length (now (table .entry)) ⌝ }
 {
     let mut e = env as usize;
     while 0 < e {
         let name = binding_word(block, e - 1, Layout::NAME);
         let t = binding_word(block, e - 1, Layout::TYPE);
-        store_type(table, name, t);
+        store_type(s, facts, table, name, t);
         e = binding_word(block, e - 1, Layout::LINK) as usize;
     }
 }
 
-// Stores 0 for a variable, where the table has a word for its name.
-fn clear_type(table: &mut [u16], name: u16)
-    ensures { λ r. ⌜ TypeCleared (now (table .entry)) name (now (table .exit)) ⌝ }
-{
-    let i = name as usize;
-    if table.len() <= i {
-        return;
-    }
-    table[i] = 0;
-}
-
-// Makes a table of zeros again of one that has words for an environment's variables only.
-pub fn empty(block: &[u8], env: u16, table: &mut [u16])
-    requires { ⌜ Chain (now block) env × Filled (now table) (context (bindingsIn (now block)) env) ⌝ }
+// Makes every word of a table 0.
+pub fn empty(table: &mut [u16])
     ensures { λ r. ⌜ Zeros (now (table .exit)) ⌝ }
     ensures { λ r. ⌜ length (now (table .exit)) ≡ length (now (table .entry)) ⌝ }
 {
-    let mut e = env as usize;
-    while 0 < e {
-        let name = binding_word(block, e - 1, Layout::NAME);
-        clear_type(table, name);
-        e = binding_word(block, e - 1, Layout::LINK) as usize;
+    let mut k = 0;
+    while k < table.len() {
+        table[k] = 0;
+        k += 1;
     }
 }
 
@@ -93,20 +93,20 @@ pub fn empty(block: &[u8], env: u16, table: &mut [u16])
 pub fn infer_under(
     s: &[u8],
     starts: &[u16],
-    forks: &[u8],
+    facts: &[u16],
     table: &mut [u16],
     block: &[u8],
     env: u16,
     a: u16,
 ) -> Answer
-    requires { ⌜ Blank (now s) (now starts) (now forks) (now table) × (a < countOf (now s) nodes) ⌝ }
+    requires { ⌜ Blank (now s) (now starts) (now facts) (now table) × (a < countOf (now s) nodes) ⌝ }
     requires { ⌜ Chain (now block) env × Typed (now block) × WfEnv (programOf (now s)) (context (bindingsIn (now block)) env) ⌝ }
     ensures { λ r. ⌜ r ≡ inferred (programOf (now (s .entry))) (context (bindingsIn (now (block .entry))) env) (exprAt (now (s .entry)) a) ⌝ }
     ensures { λ r. ⌜ now (table .exit) ≡ now (table .entry) ⌝ }
 {
-    fill(block, env, table);
-    let r = inference::infer(s, starts, forks, table, a);
-    empty(block, env, table);
+    fill(s, facts, table, block, env);
+    let r = inference::infer(s, starts, facts, table, a);
+    empty(table);
     r
 }
 

@@ -19,7 +19,8 @@ use Rattle.block.specs.Block.{Parts, partsOf, laid}
 use Rattle.environments.specs.Chains.{bindingsIn}
 use Rattle.frames.specs.declared.awaited.Expects.{Expects}
 use Rattle.frames.specs.declared.awaited.Expects.the-variants.{No, Wants}
-use Rattle.frames.specs.Expecting.{expectsOf, configOf, Ready, awaitsStep, castsStep, frameStep, framesIn, framesFrom}
+use Rattle.frames.specs.declared.awaited.Waits.{Waits}
+use Rattle.frames.specs.Expecting.{expectsOf, wantsOf, configOf, Ready, AwaitsAs, CastsAs, frameStep, framesIn, framesFrom}
 use Rattle.frames.proofs.ReadyLaws.{in-block, frames-many}
 
 -- what an answer says
@@ -47,7 +48,7 @@ module _ (s : Code) (bs : List Binding) (w : Want) where
   expects-none [] gs h = h
   expects-none (f ∷ fs) gs h = expects-more f (fs ++ gs) ∙ ap (λ (o : Option Want). given o (λ v. frameStep s bs f v)) (expects-none fs gs h)
 
-module _ {s starts forks table b : List ℕ} (y : Ready s starts forks table b) where
+module _ {s starts facts table b : List ℕ} (y : Ready s starts facts table b) where
   pub frame-place : (i : ℕ) → i < counted b Frames → i < FRAMES
   frame-place i l = omega (arith, y .in-order .areas Frames .few)
 
@@ -56,12 +57,14 @@ module _ {s starts forks table b : List ℕ} (y : Ready s starts forks table b) 
     frame-known : f ≡ getD (framesIn s b) i (awaits 0 0)
     frame-known = read (partsOf (configOf s b)) (in-block y) (omega (arith, frames-many y))
 
-    module _ (v : Want) (r : Expects) where
-      pub frame-awaits : (n e : ℕ) → f ≡ awaits n e → r ≡ expectsOf (awaitsStep (codeOf s) (bindingsIn b) n e v) → r ≡ expectsOf (frameStep (codeOf s) (bindingsIn b) (getD (framesIn s b) i (awaits 0 0)) v)
-      frame-awaits n e k h = rw (← frame-known, k) h
+    module _ (v : Want) (w : Waits) (r : Expects) (er : r ≡ expectsOf (wantsOf (codeOf s) v w)) where
+      pub frame-awaits : (n e : ℕ) → f ≡ awaits n e → AwaitsAs s b n e w
+          → r ≡ expectsOf (frameStep (codeOf s) (bindingsIn b) (getD (framesIn s b) i (awaits 0 0)) v)
+      frame-awaits n e k h = rw (← frame-known, k, h v) er
 
-      pub frame-casts : (n : ℕ) → f ≡ casts n → r ≡ expectsOf (castsStep (codeOf s) n v) → r ≡ expectsOf (frameStep (codeOf s) (bindingsIn b) (getD (framesIn s b) i (awaits 0 0)) v)
-      frame-casts n k h = rw (← frame-known, k) h
+      pub frame-casts : (n : ℕ) → f ≡ casts n → CastsAs s n w
+          → r ≡ expectsOf (frameStep (codeOf s) (bindingsIn b) (getD (framesIn s b) i (awaits 0 0)) v)
+      frame-casts n k h = rw (← frame-known, k, h v) er
 
     pub frame-locks : (v : Want) (o : ℕ) → f ≡ locks o → Wants v ≡ expectsOf (frameStep (codeOf s) (bindingsIn b) (getD (framesIn s b) i (awaits 0 0)) v)
     frame-locks v o k = rw (← frame-known, k)
@@ -75,7 +78,7 @@ pub record Climbed (s b before table : List ℕ) (from n : ℕ) (want : Want) (k
 pub climb-begun : (s b table : List ℕ) (from n : ℕ) (want : Want) → Climbed s b table table from n want 0 want
 climb-begun s b table from n want = record { within = omega arith; same = refl; so-far = refl }
 
-module _ {s starts forks before table b : List ℕ} (y : Ready s starts forks before b) {from n : ℕ} (l : from + n ≤ counted b Frames) {want : Want} {k : ℕ} {w : Want} (x : Climbed s b before table from n want k w) where
+module _ {s starts facts before table b : List ℕ} (y : Ready s starts facts before b) {from n : ℕ} (l : from + n ≤ counted b Frames) {want : Want} {k : ℕ} {w : Want} (x : Climbed s b before table from n want k w) where
   module _ (h : k < n) where
     pub climb-place : from + k < counted b Frames
     climb-place = omega arith

@@ -5,3 +5,4 @@ pub mod StepLaws
 pub mod StoresPassed
 pub mod TreeLaws
 pub mod AwaitedLaws
+pub mod MemoLaws

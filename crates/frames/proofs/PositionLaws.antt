@@ -41,7 +41,7 @@ frame-number (returning v fs) = refl
 frame-number failed = refl
 frame-number (join fs p e l r) = refl
 
-module _ {s starts forks table b : List ℕ} (y : Ready s starts forks table b) where
+module _ {s starts facts table b : List ℕ} (y : Ready s starts facts table b) where
   pub places-many : counted b Positions ≡ length (preorder (configOf s b .tree))
   places-many =
       ap (λ (x : List ℕ). counted x Positions) (in-block y)
@@ -113,7 +113,7 @@ module _ (s : Code) (st : Stores) (v : Want) where
   node-fits (join fs a e l r) u k j f = rw f
 
 -- one law for each answer
-module _ {s starts forks table b : List ℕ} (y : Ready s starts forks table b) (i : ℕ) (h : i < counted b Positions) (v : Want) (kind : ℕ) (ek : kind ≡ wordIn b Positions i 0) where
+module _ {s starts facts table b : List ℕ} (y : Ready s starts facts table b) (i : ℕ) (h : i < counted b Positions) (v : Want) (kind : ℕ) (ek : kind ≡ wordIn b Positions i 0) where
   abbrev Tests : Bool → Type 0
   Tests m = m ≡ positionTest (codeOf s) (configOf s b .stores) v (placeAt s b i)
 

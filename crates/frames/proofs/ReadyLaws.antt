@@ -3,11 +3,15 @@ use mathlib.Core.Path.{_≡_, sym}
 use mathlib.Core.Bool.{Bool, true, false, cond}
 use mathlib.Core.List.{List, _∷_, map, List·Memᴰ·cases-cons, List·Memᴰ·not-nil}
 use mathlib.Core.Logic.{⊎-elim}
-use Prim.Native.Nat.{ℕ, zero, suc, _<_, _≤_}
+use Prim.Native.Nat.{ℕ, zero, suc, _+_, _<_, _≤_}
 use native.Mathlib.Omega.{arith}
 use lib.Dec.{eqb}
 use lib.ListN.{length}
+use Rattle.words.specs.Word.{WORD}
+use Rattle.limits.specs.Limits.{NODES}
+use Rattle.script.specs.declared.Section.the-variants.{Nodes as nodes}
 use Rattle.script.specs.Lists.{_∈_}
+use Rattle.script.specs.Section.{countOf}
 use Rattle.script.specs.Syntax.{Slot, Program}
 use Rattle.script.specs.Reading.{programOf}
 use Rattle.script.specs.Regular.{IsType}
@@ -23,7 +27,9 @@ use Rattle.block.proofs.Decode.{encode-decode}
 use Rattle.representation.proofs.InOrder.{in-order-decodes}
 use Rattle.areas.proofs.Laws.{frames-counted}
 use Rattle.environments.specs.Chains.{bindingCount, bindingAt, newest, bindingsIn, Chain, Typed}
+use Rattle.environments.specs.Known.{Asked}
 use Rattle.environments.proofs.ChainLaws.{length-newest}
+use Rattle.environments.proofs.KnownLaws.{asked}
 use Rattle.frames.specs.Expecting.{configOf, Ready, framesIn}
 
 -- the bindings of an environment are some of the block's
@@ -42,7 +48,7 @@ pub bindings-length : (b : List ℕ) → length (bindingsIn b) ≡ bindingCount 
 unfolding bindingsIn
 bindings-length b = length-newest (bindingAt b) (bindingCount b)
 
-module _ {s starts forks table b : List ℕ} (y : Ready s starts forks table b) where
+module _ {s starts facts table b : List ℕ} (y : Ready s starts facts table b) where
   pub chain : (e : ℕ) → e ≤ bindingCount b → Chain b e
   chain e h = record { long = y .in-order .long; few = y .in-order .areas Bindings .few; links = y .links; within = h }
 
@@ -53,8 +59,17 @@ module _ {s starts forks table b : List ℕ} (y : Ready s starts forks table b) 
   unfolding bindingsIn
   well e = WF-ENV (λ d m. type-wf (programOf s) (d .type) .0 (scope-types (programOf s) (bindingAt b) (bindingCount b) (y .types) e d m))
 
+  pub asked-at : {n e : ℕ} → n < countOf s nodes → e ≤ bindingCount b → Asked s starts b e n
+  asked-at {e = e} h l = asked (y .blank) h (chain e l) (well e)
+
+  pub small-node : {n : ℕ} → n < countOf s nodes → n < NODES
+  small-node h = omega (arith, y .blank .within .counts-are .within nodes)
+
+  pub small-environment : {e : ℕ} → e ≤ bindingCount b → e + 1 < WORD
+  small-environment l = omega (arith, y .in-order .areas Bindings .few)
+
   -- the table as it was
-  pub still-ready : {after : List ℕ} → after ≡ table → Ready s starts forks after b
+  pub still-ready : {after : List ℕ} → after ≡ table → Ready s starts facts after b
   still-ready e = rw e y
 
   -- the configuration in the block, and its frames

@@ -12,21 +12,21 @@ use Rattle.script.specs.declared.Question.{Question}
 use Rattle.script.specs.declared.Section.the-variants.{Nodes as nodes}
 use Rattle.script.specs.Section.{countOf, nodeWord}
 use Rattle.script.specs.Syntax.{Point, Expr, isNull, build}
-use Rattle.script.specs.Reading.{unknown-kind, kindOf, nodeOf, viewAt, exprAt, programOf}
+use Rattle.script.specs.Reading.{unknown-kind, kindOf, nodeOf, exprAt, programOf}
 use Rattle.script.specs.Statements.{WithinLayout}
-use Rattle.script.proofs.Reading.{expr-at, in-order, known}
+use Rattle.script.proofs.Reading.{known}
 use Rattle.typing.specs.declared.Answer.{Answer}
 use Rattle.typing.specs.declared.Answer.the-variants.{Typed, Faulty}
 use Rattle.typing.specs.Typing.{inferred}
-use Rattle.inference.proofs.InferLaws.{nodeBy}
 use Rattle.machine.specs.declared.Want.{Want}
 use Rattle.machine.specs.Config.{codeOf}
 use Rattle.machine.specs.Machine.{context}
-use Rattle.machine.specs.Decide.{meetsTest, answerTest, wants, awaited, castType}
+use Rattle.machine.specs.Decide.{meetsTest, answerTest, castType}
 use Rattle.environments.specs.Chains.{bindingCount, bindingsIn}
-use Rattle.frames.specs.declared.awaited.Expects.{Expects}
-use Rattle.frames.specs.declared.awaited.Expects.the-variants.{No}
-use Rattle.frames.specs.Expecting.{expectsOf, awaitsStep, castsStep, nodeTest}
+use Rattle.environments.proofs.KnownLaws.{expr-is}
+use Rattle.frames.specs.declared.awaited.Waits.{Waits}
+use Rattle.frames.specs.declared.awaited.Waits.the-variants.{Never, For}
+use Rattle.frames.specs.Expecting.{WaitsAs, AwaitsAs, CastsAs, nodeTest}
 use Rattle.frames.proofs.ReadyLaws.{bindings-length}
 use Rattle.frames.proofs.AwaitedLaws.{view-by}
 
@@ -39,16 +39,16 @@ module _ (b : List ℕ) (e : ℕ) where
   env-not h = lt-leb e (length (bindingsIn b)) (omega (arith, bindings-length b))
 
 -- a frame that awaits a value
-module _ (s b : List ℕ) (n : Point) (e : ℕ) (v : Want) where
-  pub awaits-outside : countOf s nodes ≤ n → No ≡ expectsOf (awaitsStep (codeOf s) (bindingsIn b) n e v)
-  awaits-outside h = rw (le-ltb n (countOf s nodes) h)
+module _ (s b : List ℕ) (n : Point) (e : ℕ) where
+  pub awaits-outside : countOf s nodes ≤ n → AwaitsAs s b n e Never
+  awaits-outside h v = rw (le-ltb n (countOf s nodes) h)
 
   module _ (h : n < countOf s nodes) where
-    pub awaits-unbound : bindingCount b < e → No ≡ expectsOf (awaitsStep (codeOf s) (bindingsIn b) n e v)
-    awaits-unbound l = rw (lt-ltb n (countOf s nodes) h, env-not b e l)
+    pub awaits-unbound : bindingCount b < e → AwaitsAs s b n e Never
+    awaits-unbound l v = rw (lt-ltb n (countOf s nodes) h, env-not b e l)
 
-    pub awaits-awaited : e ≤ bindingCount b → (r : Expects) → r ≡ expectsOf (awaited (codeOf s) (context (bindingsIn b) e) (viewAt s n) v) → r ≡ expectsOf (awaitsStep (codeOf s) (bindingsIn b) n e v)
-    awaits-awaited l r k = rw (lt-ltb n (countOf s nodes) h, env-there b e l) k
+    pub awaits-awaited : e ≤ bindingCount b → (r : Waits) → WaitsAs s b n e r → AwaitsAs s b n e r
+    awaits-awaited l r k v = rw (lt-ltb n (countOf s nodes) h, env-there b e l) (k v)
 
 -- only a cast has a cast's type
 no-cast : (k a b c : ℕ) → (k ≡ 7 → ⊥) → castType (nodeOf (kindOf k) a b c) ≡ none
@@ -65,17 +65,17 @@ no-cast (suc (suc (suc (suc (suc (suc (suc (suc zero)))))))) a b c h = refl
 no-cast (suc (suc (suc (suc (suc (suc (suc (suc (suc zero))))))))) a b c h = refl
 no-cast (suc (suc (suc (suc (suc (suc (suc (suc (suc (suc k)))))))))) a b c h = refl
 
-module _ (s : List ℕ) (n : Point) (v : Want) where
-  pub casts-outside : countOf s nodes ≤ n → No ≡ expectsOf (castsStep (codeOf s) n v)
-  casts-outside h = rw (le-ltb n (countOf s nodes) h)
+module _ (s : List ℕ) (n : Point) where
+  pub casts-outside : countOf s nodes ≤ n → CastsAs s n Never
+  casts-outside h v = rw (le-ltb n (countOf s nodes) h)
 
   module _ (h : n < countOf s nodes) (k : ℕ) (ek : k ≡ nodeWord s n 0) where
-    pub casts-other : (k ≡ 7 → ⊥) → No ≡ expectsOf (castsStep (codeOf s) n v)
-    casts-other f = rw (lt-ltb n (countOf s nodes) h, view-by s n k (sym ek), no-cast k (nodeWord s n 1) (nodeWord s n 2) (nodeWord s n 3) f)
+    pub casts-other : (k ≡ 7 → ⊥) → CastsAs s n Never
+    casts-other f v = rw (lt-ltb n (countOf s nodes) h, view-by s n k (sym ek), no-cast k (nodeWord s n 1) (nodeWord s n 2) (nodeWord s n 3) f)
 
-    pub casts-waits : k ≡ 7 → (t : ℕ) → t ≡ nodeWord s n 1 → (r : Expects) → r ≡ expectsOf (wants (codeOf s) t v t) → r ≡ expectsOf (castsStep (codeOf s) n v)
+    pub casts-waits : k ≡ 7 → (t : ℕ) → t ≡ nodeWord s n 1 → CastsAs s n (For t t)
     unfolding kindOf
-    casts-waits f t et r er = rw (lt-ltb n (countOf s nodes) h, view-by s n 7 (sym ek ∙ f), ← et) er
+    casts-waits f t et v = rw (lt-ltb n (countOf s nodes) h, view-by s n 7 (sym ek ∙ f), ← et)
 
 -- a node is a null just if its kind is 0
 solid : (n : Point) (f : Point → Expr) (k a b c : ℕ) → (k ≡ 0 → ⊥) → (kindOf k ≡ unknown-kind → ⊥) → isNull (build n f (nodeOf (kindOf k) a b c)) ≡ false
@@ -101,18 +101,15 @@ module _ (s b : List ℕ) (n : Point) (e : ℕ) (v : Want) where
   node-unbound l = rw (env-not b e l)
 
   module _ (w : WithinLayout s) (h : n < countOf s nodes) (l : e ≤ bindingCount b) (k : ℕ) (ek : k ≡ nodeWord s n 0) where
-    expr-is : exprAt s n ≡ build n (exprAt s) (nodeBy s n k)
-    expr-is = expr-at s n h (in-order s w n h) ∙ ap (build n (exprAt s)) (view-by s n k (sym ek))
-
     pub node-null : k ≡ 0 → true ≡ nodeTest (codeOf s) (bindingsIn b) n e v
     unfolding kindOf
-    node-null z = rw (env-there b e l, lt-ltb n (countOf s nodes) h, expr-is, z)
+    node-null z = rw (env-there b e l, lt-ltb n (countOf s nodes) h, expr-is w h k (sym ek), z)
 
     module _ (z : k ≡ 0 → ⊥) (r : Answer) (er : r ≡ inferred (programOf s) (context (bindingsIn b) e) (exprAt s n)) where
       test-is : nodeTest (codeOf s) (bindingsIn b) n e v ≡ answerTest (codeOf s) r v
       test-is =
           let full : isNull (exprAt s n) ≡ false =
-          ap isNull expr-is ∙ solid n (exprAt s) k (nodeWord s n 1) (nodeWord s n 2) (nodeWord s n 3) z (rw ek (known s w n h))
+          ap isNull (expr-is w h k (sym ek)) ∙ solid n (exprAt s) k (nodeWord s n 1) (nodeWord s n 2) (nodeWord s n 3) z (rw ek (known s w n h))
           in
           rw (env-there b e l, lt-ltb n (countOf s nodes) h, full, er)
 

@@ -92,7 +92,7 @@ pub pass-begun : (s b table : List ℕ) (w : Want) → Passed s b table table w 
 unfolding sumBelow
 pass-begun s b table w = record { within = omega arith; same = refl; begins = refl; expected = refl; each = λ k h. absurd (omega arith) }
 
-module _ {s starts forks before table b : List ℕ} (y : Ready s starts forks before b) {w want : Want} {from i : ℕ} (x : Passed s b before table w from i want) where
+module _ {s starts facts before table b : List ℕ} (y : Ready s starts facts before b) {w want : Want} {from i : ℕ} (x : Passed s b before table w from i want) where
   pub pass-room : i < counted b Positions → (n : ℕ) → n ≡ wordIn b Positions i 4 → from + n ≤ FRAMES
   pass-room h n en = omega (arith, frames-within y i h from n (x .begins) en, y .in-order .areas Frames .few)
 

@@ -8,10 +8,9 @@ use mathlib.Core.Option.{Option, none, some}
 use lib.Dec.{leb, ltb}
 use lib.ListN.{length, getD, take, drop}
 use Rattle.script.specs.Lists.{sumBelow}
-use Rattle.script.specs.Syntax.{Point, Slot}
+use Rattle.script.specs.Syntax.{Point}
 use Rattle.script.specs.Reading.{viewAt, programOf}
 use Rattle.script.specs.Regular.{IsType}
-use Rattle.inference.specs.Tables.{EnvIs}
 use Rattle.inference.specs.At.{Blank}
 use Rattle.machine.specs.declared.Frame.{Frame}
 use Rattle.machine.specs.declared.Frame.the-variants.{Awaits as awaits, Casts as casts, Locks as locks}
@@ -25,26 +24,33 @@ use Rattle.block.specs.Layout.{wordIn, TYPE, LINK, WAITING}
 use Rattle.block.specs.Block.{preorder, framesOf}
 use Rattle.block.specs.Decode.{configIn}
 use Rattle.representation.specs.InOrder.{InOrder}
-use Rattle.environments.specs.Chains.{bindingCount}
+use Rattle.environments.specs.Chains.{bindingCount, bindingsIn}
 use Rattle.frames.specs.declared.awaited.Expects.{Expects}
 use Rattle.frames.specs.declared.awaited.Expects.the-variants.{No, Wants}
+use Rattle.frames.specs.declared.awaited.Waits.{Waits}
+use Rattle.frames.specs.declared.awaited.Waits.the-variants.{Never, For}
 
 -- What is expected, as the code says it.
 abbrev pub expectsOf : Option Want → Expects
 expectsOf none = No
 expectsOf (some w) = Wants w
 
--- The answer for node n in every environment that the table is of, where v is expected beneath its frame.
-abbrev pub AwaitedIs : List ℕ → List ℕ → Point → Want → Expects → Type 0
-AwaitedIs s env n v r = (Γ : List Slot) → EnvIs (programOf s) env Γ → r ≡ expectsOf (awaited (codeOf s) Γ (viewAt s n) v)
+-- What is expected above a frame that waits so, where v is expected beneath it.
+abbrev pub wantsOf : Code → Want → Waits → Option Want
+wantsOf s v Never = none
+wantsOf s v (For t u) = wants s u v t
+
+-- What node n waits for in the environment e of the block b, whatever is expected beneath its frame.
+abbrev pub WaitsAs : List ℕ → List ℕ → Point → ℕ → Waits → Type 0
+WaitsAs s b n e r = (v : Want) → awaited (codeOf s) (context (bindingsIn b) e) (viewAt s n) v ≡ wantsOf (codeOf s) v r
 
 -- The configuration that is read from the block b.
 abbrev pub configOf : List ℕ → List ℕ → Config
 configOf s b = configIn (fieldCount s) b
 
 -- What the code is lent: the script's tables, an empty one for an environment, and a block in order whose bindings link to earlier ones and have types.
-pub record Ready (s starts forks table b : List ℕ) : Type 0 where
-  pub blank : Blank s starts forks table
+pub record Ready (s starts facts table b : List ℕ) : Type 0 where
+  pub blank : Blank s starts facts table
   pub in-order : InOrder (fieldCount s) b
   pub links : (i : ℕ) → i < bindingCount b → wordIn b Bindings i LINK ≤ i
   pub types : (i : ℕ) → i < bindingCount b → IsType (programOf s) (wordIn b Bindings i TYPE)
@@ -55,6 +61,13 @@ awaitsStep s bs n e v = only (ltb n (s .size)) (only (leb e (length bs)) (awaite
 
 abbrev pub castsStep : Code → Point → Want → Option Want
 castsStep s n v = only (ltb n (s .size)) (given (castType (s .view n)) (λ t. wants s t v t))
+
+-- What the frame of a node that awaits, and of a cast, waits for, whatever is expected beneath it.
+abbrev pub AwaitsAs : List ℕ → List ℕ → Point → ℕ → Waits → Type 0
+AwaitsAs s b n e r = (v : Want) → awaitsStep (codeOf s) (bindingsIn b) n e v ≡ wantsOf (codeOf s) v r
+
+abbrev pub CastsAs : List ℕ → Point → Waits → Type 0
+CastsAs s n r = (v : Want) → castsStep (codeOf s) n v ≡ wantsOf (codeOf s) v r
 
 abbrev pub frameStep : Code → List Binding → Frame → Want → Option Want
 frameStep s bs (awaits n e) v = awaitsStep s bs n e v

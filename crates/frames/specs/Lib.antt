@@ -1,1 +1,2 @@
 pub mod Expecting
+pub mod Memo

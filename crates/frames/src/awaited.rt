@@ -1,4 +1,4 @@
-// What a waiting node waits for: a write, a call or a let.
+// What a waiting node waits for and gives: a write, a call or a let.
 use machine::Want;
 use members::Member;
 use script::Found;
@@ -6,13 +6,14 @@ use sections::node_word;
 use typing::Answer;
 use values::meets;
 ghost use mathlib.Core.Path.{_≡_};
-ghost use Rattle.script.specs.Section.{nodeWord};
+ghost use Prim.Native.Nat.{_<_, _≤_};
+ghost use Rattle.script.specs.declared.Section.the-variants.{Nodes as nodes};
+ghost use Rattle.script.specs.Section.{countOf, nodeWord};
 ghost use Rattle.script.specs.Statements.{WithinLayout};
-ghost use Rattle.members.specs.Tables.{Starts};
-ghost use Rattle.inference.specs.At.{Target, At};
 ghost use Rattle.machine.specs.Config.{codeOf};
-ghost use Rattle.machine.specs.Decide.{wants};
-ghost use Rattle.frames.specs.Expecting.{AwaitedIs, expectsOf};
+ghost use Rattle.environments.specs.Chains.{bindingCount};
+ghost use Rattle.environments.specs.Known.{Asked};
+ghost use Rattle.frames.specs.Expecting.{Ready, expectsOf, wantsOf, WaitsAs};
 
 // What is expected of the value that goes on above some frames, where they are typed.
 pub enum Expects {
@@ -20,11 +21,20 @@ pub enum Expects {
     Wants(Want),
 }
 
-// A value of type t is expected, if one of type u, which is given then, meets `want`.
-pub fn expected(s: &[u8], u: u16, want: Want, t: u16) -> Expects
+// The type of the value that a frame waits for, and of the one that it then gives, where it is typed.
+pub enum Waits {
+    Never,
+    For(u16, u16),
+}
+
+// What is expected above a frame that waits so: a value of the type that it waits for, if what it then gives meets `want`.
+pub fn expected(s: &[u8], w: Waits, want: Want) -> Expects
     requires { ⌜ WithinLayout (now s) ⌝ }
-    ensures { λ r. ⌜ r ≡ expectsOf (wants (codeOf (now (s .entry))) u want t) ⌝ }
+    ensures { λ r. ⌜ r ≡ expectsOf (wantsOf (codeOf (now (s .entry))) want w) ⌝ }
 {
+    let Waits::For(t, u) = w else {
+        return Expects::No;
+    };
     if !meets(s, u, want) {
         return Expects::No;
     }
@@ -32,81 +42,59 @@ pub fn expected(s: &[u8], u: u16, want: Want, t: u16) -> Expects
 }
 
 // A write waits for a value of its field's type, and gives Unit.
-fn write_awaits(s: &[u8], starts: &[u16], table: &[u16], n: u16, want: Want) -> Expects
-    requires { ⌜ Target (now s) (now table) n × Starts (now s) (now starts) × (nodeWord (now s) n 0 ≡ 3) ⌝ }
-    ensures { λ r. ⌜ AwaitedIs (now (s .entry)) (now (table .entry)) n want r ⌝ }
+pub fn write_waits(s: &[u8], starts: &[u16], block: &[u8], n: u16, e: u16) -> Waits
+    requires { ⌜ Asked (now s) (now starts) (now block) e n × (nodeWord (now s) n 0 ≡ 3) ⌝ }
+    ensures { λ r. ⌜ WaitsAs (now (s .entry)) (now (block .entry)) n e r ⌝ }
 {
     let x = node_word(s, n, 1);
-    let word = table[x as usize];
-    if word == 0 {
-        return Expects::No;
-    }
-    let f = node_word(s, n, 2);
-    let Found::At(t) = members::field_type(s, starts, word - 1, f) else {
-        return Expects::No;
+    let Found::At(c) = environments::variable_type(block, e, x) else {
+        return Waits::Never;
     };
-    expected(s, 0, want, t as u16)
+    let f = node_word(s, n, 2);
+    let Found::At(t) = members::field_type(s, starts, c as u16, f) else {
+        return Waits::Never;
+    };
+    Waits::For(t as u16, 0)
 }
 
 // A call waits for a value of its method's parameter type, and gives one of the result type.
-fn call_awaits(s: &[u8], starts: &[u16], table: &[u16], n: u16, want: Want) -> Expects
-    requires { ⌜ Target (now s) (now table) n × Starts (now s) (now starts) × (nodeWord (now s) n 0 ≡ 4) ⌝ }
-    ensures { λ r. ⌜ AwaitedIs (now (s .entry)) (now (table .entry)) n want r ⌝ }
+pub fn call_waits(s: &[u8], starts: &[u16], block: &[u8], n: u16, e: u16) -> Waits
+    requires { ⌜ Asked (now s) (now starts) (now block) e n × (nodeWord (now s) n 0 ≡ 4) ⌝ }
+    ensures { λ r. ⌜ WaitsAs (now (s .entry)) (now (block .entry)) n e r ⌝ }
 {
     let x = node_word(s, n, 1);
-    let word = table[x as usize];
-    if word == 0 {
-        return Expects::No;
-    }
-    let m = node_word(s, n, 2);
-    let Member::Types(param, result) = members::method_of(s, starts, word - 1, m) else {
-        return Expects::No;
+    let Found::At(c) = environments::variable_type(block, e, x) else {
+        return Waits::Never;
     };
-    expected(s, result, want, param)
+    let m = node_word(s, n, 2);
+    let Member::Types(param, result) = members::method_of(s, starts, c as u16, m) else {
+        return Waits::Never;
+    };
+    Waits::For(param, result)
 }
 
 // "what a let frame waits for fits the type inferred for the let's first part under the frame's bindings (there must be one)"; it gives what the whole let
-// does.
-fn let_awaits(
+// does. Where the whole let has a type, so has its first part.
+pub fn let_waits(
     s: &[u8],
     starts: &[u16],
-    forks: &[u8],
+    facts: &[u16],
     table: &mut [u16],
+    block: &[u8],
     n: u16,
-    want: Want,
-) -> Expects
-    requires { ⌜ At (now s) (now starts) (now forks) (now table) n × (nodeWord (now s) n 0 ≡ 5) ⌝ }
-    ensures { λ r. ⌜ AwaitedIs (now (s .entry)) (now (table .entry)) n want r ⌝ }
+    e: u16,
+) -> Waits
+    requires { ⌜ Ready (now s) (now starts) (now facts) (now table) (now block) ⌝ }
+    requires { ⌜ (n < countOf (now s) nodes) × (e ≤ bindingCount (now block)) × (nodeWord (now s) n 0 ≡ 5) ⌝ }
+    ensures { λ r. ⌜ WaitsAs (now (s .entry)) (now (block .entry)) n e r ⌝ }
     ensures { λ r. ⌜ now (table .exit) ≡ now (table .entry) ⌝ }
 {
-    let value = node_word(s, n, 2);
-    let Answer::Typed(t) = inference::infer(s, starts, forks, table, value) else {
-        return Expects::No;
+    let Answer::Typed(u) = environments::infer_under(s, starts, facts, table, block, e, n) else {
+        return Waits::Never;
     };
-    let Answer::Typed(u) = inference::infer(s, starts, forks, table, n) else {
-        return Expects::No;
+    let a = node_word(s, n, 2);
+    let Answer::Typed(t) = environments::first_type(s, starts, facts, table, block, e, a) else {
+        return Waits::Never;
     };
-    expected(s, u, want, t)
-}
-
-// What node n waits for, as a frame: a write, a call or a let.
-pub fn awaited_of(
-    s: &[u8],
-    starts: &[u16],
-    forks: &[u8],
-    table: &mut [u16],
-    n: u16,
-    want: Want,
-) -> Expects
-    requires { ⌜ At (now s) (now starts) (now forks) (now table) n ⌝ }
-    ensures { λ r. ⌜ AwaitedIs (now (s .entry)) (now (table .entry)) n want r ⌝ }
-    ensures { λ r. ⌜ now (table .exit) ≡ now (table .entry) ⌝ }
-{
-    let kind = node_word(s, n, 0);
-    match kind {
-        3 => write_awaits(s, starts, table, n, want),
-        4 => call_awaits(s, starts, table, n, want),
-        5 => let_awaits(s, starts, forks, table, n, want),
-        _ => Expects::No,
-    }
+    Waits::For(t, u)
 }

@@ -1,8 +1,11 @@
 // What the frames of a position expect, and whether a node meets it: "frames are typed up to the start's type or below at the root and to any type at an
 // async".
 use crate::awaited::Expects;
-use crate::awaited::awaited_of;
+use crate::awaited::Waits;
+use crate::awaited::call_waits;
 use crate::awaited::expected;
+use crate::awaited::write_waits;
+use crate::memo::let_recalled;
 use block::Area;
 use machine::Frame;
 use machine::Want;
@@ -14,80 +17,115 @@ use values::meets;
 ghost use mathlib.Core.Path.{_≡_};
 ghost use Prim.Native.Nat.{_+_, _<_, _≤_};
 ghost use lib.ListN.{getD};
+ghost use Rattle.script.specs.declared.Section.the-variants.{Nodes as nodes};
+ghost use Rattle.script.specs.Section.{countOf};
 ghost use Rattle.script.specs.Statements.{WithinLayout};
 ghost use Rattle.machine.specs.declared.Frame.the-variants.{Awaits as awaits};
 ghost use Rattle.machine.specs.Config.{codeOf};
 ghost use Rattle.machine.specs.Decide.{expects};
 ghost use Rattle.block.specs.declared.Area.the-variants.{Frames};
 ghost use Rattle.block.specs.Layout.{counted};
-ghost use Rattle.environments.specs.Chains.{bindingsIn};
-ghost use Rattle.frames.specs.Expecting.{expectsOf, Ready, awaitsStep, castsStep, frameStep, framesIn, framesFrom, nodeTest};
+ghost use Rattle.environments.specs.Chains.{bindingCount, bindingsIn};
+ghost use Rattle.frames.specs.Expecting.{expectsOf, WaitsAs, AwaitsAs, CastsAs, Ready, frameStep, framesIn, framesFrom, nodeTest};
+ghost use Rattle.frames.specs.Memo.{Remembers};
 
-// What the frame of node n in the environment e expects, where `want` is expected beneath it: the node must be one of the script's and the environment one of
-// the block's, and what the node gives must meet `want`.
-fn awaits_want(
+// What node n waits for in the environment e, as a frame: a write, a call or a let.
+fn node_waits(
     s: &[u8],
     starts: &[u16],
-    forks: &[u8],
+    facts: &[u16],
     table: &mut [u16],
     block: &[u8],
+    memo: &mut [u16],
     n: u16,
     e: u16,
-    want: Want,
-) -> Expects
-    requires { ⌜ Ready (now s) (now starts) (now forks) (now table) (now block) ⌝ }
-    ensures { λ r. ⌜ r ≡ expectsOf (awaitsStep (codeOf (now (s .entry))) (bindingsIn (now (block .entry))) n e want) ⌝ }
+) -> Waits
+    requires { ⌜ Ready (now s) (now starts) (now facts) (now table) (now block) × Remembers (now s) (now block) (now memo) ⌝ }
+    requires { ⌜ (n < countOf (now s) nodes) × (e ≤ bindingCount (now block)) ⌝ }
+    ensures { λ r. ⌜ WaitsAs (now (s .entry)) (now (block .entry)) n e r ⌝ }
     ensures { λ r. ⌜ now (table .exit) ≡ now (table .entry) ⌝ }
+    ensures { λ r. ⌜ Remembers (now (s .entry)) (now (block .entry)) (now (memo .exit)) ⌝ }
 {
-    if count_of(s, Section::Nodes) <= n as usize {
-        return Expects::No;
+    let kind = node_word(s, n, 0);
+    match kind {
+        3 => write_waits(s, starts, block, n, e),
+        4 => call_waits(s, starts, block, n, e),
+        5 => let_recalled(s, starts, facts, table, block, memo, n, e),
+        _ => Waits::Never,
     }
-    if areas::count(block, Area::Bindings) < e as usize {
-        return Expects::No;
-    }
-    environments::fill(block, e, table);
-    let r = awaited_of(s, starts, forks, table, n, want);
-    environments::empty(block, e, table);
-    r
 }
 
-// What the frame of the cast n expects: its type, which must meet `want`.
-fn cast_want(s: &[u8], n: u16, want: Want) -> Expects
-    requires { ⌜ WithinLayout (now s) ⌝ }
-    ensures { λ r. ⌜ r ≡ expectsOf (castsStep (codeOf (now (s .entry))) n want) ⌝ }
+// What the frame of node n in the environment e waits for: the node must be one of the script's and the environment one of the block's.
+fn awaits_waits(
+    s: &[u8],
+    starts: &[u16],
+    facts: &[u16],
+    table: &mut [u16],
+    block: &[u8],
+    memo: &mut [u16],
+    n: u16,
+    e: u16,
+) -> Waits
+    requires { ⌜ Ready (now s) (now starts) (now facts) (now table) (now block) × Remembers (now s) (now block) (now memo) ⌝ }
+    ensures { λ r. ⌜ AwaitsAs (now (s .entry)) (now (block .entry)) n e r ⌝ }
+    ensures { λ r. ⌜ now (table .exit) ≡ now (table .entry) ⌝ }
+    ensures { λ r. ⌜ Remembers (now (s .entry)) (now (block .entry)) (now (memo .exit)) ⌝ }
 {
     if count_of(s, Section::Nodes) <= n as usize {
-        return Expects::No;
+        return Waits::Never;
+    }
+    if areas::count(block, Area::Bindings) < e as usize {
+        return Waits::Never;
+    }
+    node_waits(s, starts, facts, table, block, memo, n, e)
+}
+
+// The frame of the cast n waits for a value of its type, and gives it.
+fn cast_waits(s: &[u8], n: u16) -> Waits
+    requires { ⌜ WithinLayout (now s) ⌝ }
+    ensures { λ r. ⌜ CastsAs (now (s .entry)) n r ⌝ }
+{
+    if count_of(s, Section::Nodes) <= n as usize {
+        return Waits::Never;
     }
     let kind = node_word(s, n, 0);
     if kind != 7 {
-        return Expects::No;
+        return Waits::Never;
     }
     let t = node_word(s, n, 1);
-    expected(s, t, want, t)
+    Waits::For(t, t)
 }
 
 // What frame i expects, where `want` is expected beneath it. A lock frame lets its value through.
 fn frame_want(
     s: &[u8],
     starts: &[u16],
-    forks: &[u8],
+    facts: &[u16],
     table: &mut [u16],
     block: &[u8],
+    memo: &mut [u16],
     i: usize,
     want: Want,
 ) -> Expects
-    requires { ⌜ Ready (now s) (now starts) (now forks) (now table) (now block) × (i < counted (now block) Frames) ⌝ }
+    requires { ⌜ Ready (now s) (now starts) (now facts) (now table) (now block) × Remembers (now s) (now block) (now memo) ⌝ }
+    requires { ⌜ i < counted (now block) Frames ⌝ }
     ensures { λ r. ⌜
         r ≡ expectsOf
         (frameStep (codeOf (now (s .entry))) (bindingsIn (now (block .entry))) (getD (framesIn (now (s .entry)) (now (block .entry))) i (awaits 0 0)) want)
         ⌝ }
     ensures { λ r. ⌜ now (table .exit) ≡ now (table .entry) ⌝ }
+    ensures { λ r. ⌜ Remembers (now (s .entry)) (now (block .entry)) (now (memo .exit)) ⌝ }
 {
     let f = areas::frame(block, i);
     match f {
-        Frame::Awaits(n, e) => awaits_want(s, starts, forks, table, block, n, e, want),
-        Frame::Casts(n) => cast_want(s, n, want),
+        Frame::Awaits(n, e) => {
+            let w = awaits_waits(s, starts, facts, table, block, memo, n, e);
+            expected(s, w, want)
+        }
+        Frame::Casts(n) => {
+            let w = cast_waits(s, n);
+            expected(s, w, want)
+        }
         Frame::Locks(_) => Expects::Wants(want),
     }
 }
@@ -96,24 +134,27 @@ fn frame_want(
 pub fn frames_want(
     s: &[u8],
     starts: &[u16],
-    forks: &[u8],
+    facts: &[u16],
     table: &mut [u16],
     block: &[u8],
+    memo: &mut [u16],
     from: usize,
     n: usize,
     want: Want,
 ) -> Expects
-    requires { ⌜ Ready (now s) (now starts) (now forks) (now table) (now block) × (from + n ≤ counted (now block) Frames) ⌝ }
+    requires { ⌜ Ready (now s) (now starts) (now facts) (now table) (now block) × Remembers (now s) (now block) (now memo) ⌝ }
+    requires { ⌜ from + n ≤ counted (now block) Frames ⌝ }
     ensures { λ r. ⌜
         r ≡ expectsOf
         (expects (codeOf (now (s .entry))) (bindingsIn (now (block .entry))) want (framesFrom (now (s .entry)) (now (block .entry)) from n))
         ⌝ }
     ensures { λ r. ⌜ now (table .exit) ≡ now (table .entry) ⌝ }
+    ensures { λ r. ⌜ Remembers (now (s .entry)) (now (block .entry)) (now (memo .exit)) ⌝ }
 {
     let mut w = want;
     let mut k: usize = 0;
     while k < n {
-        let Expects::Wants(v) = frame_want(s, starts, forks, table, block, from + k, w) else {
+        let Expects::Wants(v) = frame_want(s, starts, facts, table, block, memo, from + k, w) else {
             return Expects::No;
         };
         w = v;
@@ -126,14 +167,14 @@ pub fn frames_want(
 pub fn node_fits(
     s: &[u8],
     starts: &[u16],
-    forks: &[u8],
+    facts: &[u16],
     table: &mut [u16],
     block: &[u8],
     n: u16,
     e: u16,
     want: Want,
 ) -> bool
-    requires { ⌜ Ready (now s) (now starts) (now forks) (now table) (now block) ⌝ }
+    requires { ⌜ Ready (now s) (now starts) (now facts) (now table) (now block) ⌝ }
     ensures { λ r. ⌜ r ≡ nodeTest (codeOf (now (s .entry))) (bindingsIn (now (block .entry))) n e want ⌝ }
     ensures { λ r. ⌜ now (table .exit) ≡ now (table .entry) ⌝ }
 {
@@ -147,7 +188,7 @@ pub fn node_fits(
     if kind == 0 {
         return true;
     }
-    let Answer::Typed(t) = environments::infer_under(s, starts, forks, table, block, e, n) else {
+    let Answer::Typed(t) = environments::infer_under(s, starts, facts, table, block, e, n) else {
         return false;
     };
     meets(s, t, want)

@@ -2,6 +2,7 @@
 use crate::awaited::Expects;
 use crate::frames::frames_want;
 use crate::frames::node_fits;
+use crate::memo::MEMO;
 use block::Area;
 use block::Layout;
 use machine::Want;
@@ -14,31 +15,35 @@ ghost use Rattle.machine.specs.Decide.{treeTest};
 ghost use Rattle.block.specs.declared.Area.the-variants.{Positions};
 ghost use Rattle.block.specs.Layout.{counted};
 ghost use Rattle.frames.specs.Expecting.{configOf, Ready, framesBefore, placeAt, positionTest};
+ghost use Rattle.frames.specs.Memo.{Remembers};
 
 // Are the frames of position i typed, and does its node or value meet what they expect? A failed thread always fits. `from` is the number of its first frame.
 fn position_fits(
     s: &[u8],
     starts: &[u16],
-    forks: &[u8],
+    facts: &[u16],
     table: &mut [u16],
     block: &[u8],
+    memo: &mut [u16],
     i: usize,
     from: usize,
     want: Want,
 ) -> bool
-    requires { ⌜ Ready (now s) (now starts) (now forks) (now table) (now block) × (i < counted (now block) Positions) × (from ≡ framesBefore (now block) i) ⌝ }
+    requires { ⌜ Ready (now s) (now starts) (now facts) (now table) (now block) × Remembers (now s) (now block) (now memo) ⌝ }
+    requires { ⌜ (i < counted (now block) Positions) × (from ≡ framesBefore (now block) i) ⌝ }
     ensures { λ r. ⌜
         r ≡ positionTest (codeOf (now (s .entry))) (configOf (now (s .entry)) (now (block .entry)) .stores) want
         (placeAt (now (s .entry)) (now (block .entry)) i)
         ⌝ }
     ensures { λ r. ⌜ now (table .exit) ≡ now (table .entry) ⌝ }
+    ensures { λ r. ⌜ Remembers (now (s .entry)) (now (block .entry)) (now (memo .exit)) ⌝ }
 {
     let kind = areas::word(block, Area::Positions, i, Layout::KIND);
     if kind == Layout::FAILED {
         return true;
     }
     let n = areas::word(block, Area::Positions, i, Layout::WAITING) as usize;
-    let Expects::Wants(v) = frames_want(s, starts, forks, table, block, from, n, want) else {
+    let Expects::Wants(v) = frames_want(s, starts, facts, table, block, memo, from, n, want) else {
         return false;
     };
     if kind == Layout::RETURNING {
@@ -47,7 +52,7 @@ fn position_fits(
     }
     let a = areas::word(block, Area::Positions, i, Layout::NODE);
     let e = areas::word(block, Area::Positions, i, Layout::ENV);
-    node_fits(s, starts, forks, table, block, a, e, v)
+    node_fits(s, starts, facts, table, block, a, e, v)
 }
 
 // Are all positions typed, "up to the start's type or below at the root and to any type at an async"? The table is lent as zeros, and is zeros again
@@ -55,12 +60,12 @@ fn position_fits(
 pub fn tree_fits(
     s: &[u8],
     starts: &[u16],
-    forks: &[u8],
+    facts: &[u16],
     table: &mut [u16],
     block: &[u8],
     t: u16,
 ) -> bool
-    requires { ⌜ Ready (now s) (now starts) (now forks) (now table) (now block) ⌝ }
+    requires { ⌜ Ready (now s) (now starts) (now facts) (now table) (now block) ⌝ }
     ensures { λ r. ⌜
         r ≡ treeTest (codeOf (now (s .entry))) (configOf (now (s .entry)) (now (block .entry)) .stores) (upto t)
         (configOf (now (s .entry)) (now (block .entry)) .tree)
@@ -68,11 +73,12 @@ pub fn tree_fits(
     ensures { λ r. ⌜ now (table .exit) ≡ now (table .entry) ⌝ }
 {
     let count = areas::count(block, Area::Positions);
+    let mut memo = [0u16; MEMO];
     let mut want = Want::Upto(t);
     let mut from: usize = 0;
     let mut i: usize = 0;
     while i < count {
-        if !position_fits(s, starts, forks, table, block, i, from, want) {
+        if !position_fits(s, starts, facts, table, block, &mut memo, i, from, want) {
             return false;
         }
         want = Want::Any;

@@ -31,9 +31,10 @@ use Rattle.members.specs.declared.Member.{Member}
 use Rattle.members.specs.declared.Member.the-variants.{Types, Missing}
 use Rattle.typing.specs.Members.{below, typeIn, fieldIn, methodIn}
 use Rattle.typing.specs.Typing.{fv, shares, andThen, orFaulty, unlessShared, answer, inferred, checked}
-use Rattle.sharing.specs.Tables.{flagOf}
+use Rattle.names.specs.Ranks.{RANKS, nameIn, Names, RankOf, of-node, Ranked}
+use Rattle.names.specs.Facts.{flagOf, Facts}
 use Rattle.members.specs.Tables.{memberOf}
-use Rattle.inference.specs.Tables.{boundWord, EnvIs, NamesBelow}
+use Rattle.inference.specs.Tables.{boundWord, EnvIs}
 use Rattle.inference.specs.At.{Target, At, Inferred, Checked}
 use Rattle.typing.proofs.Members.{field-in, field-type}
 use Rattle.typing.proofs.Rules.{checked-as, env-more, infer-type, inferred-typed}
@@ -70,31 +71,35 @@ module _ (p : Program) (Γ : List Slot) (n x : ℕ) where
   lock-is e = found-then Variables n (typeIn Γ x) _
 
 -- The table of an environment: a variable's word, and one more variable.
-module _ {p : Program} {env : List ℕ} {Γ : List Slot} (g : EnvIs p env Γ) where
+module _ {s facts env : List ℕ} {Γ : List Slot} (g : EnvIs s facts env Γ) where
   -- a word of 0 says that the variable has no type, and any other is the type and 1 more
-  pub unbound : (n x y : ℕ) → x ≡ y → y < length env → getD env x 0 ≡ 0 → Faulty Variables n ≡ inferred p Γ (var n y)
-  unfolding answer
-  unbound n x y e h z = go (typeIn Γ y) (sym (g .holds y h) ∙ (rw e at z))
-    where
-      go : (o : Option ℕ) → boundWord o ≡ 0 → Faulty Variables n ≡ orFaulty Variables n o (λ t. Typed t)
-      go none k = refl
-      go (some t) k = absurd (omega arith)
+  module _ (n : Point) (x k : ℕ) (h : RankOf s facts x k) where
+    pub unbound : getD env k 0 ≡ 0 → Faulty Variables n ≡ inferred (programOf s) Γ (var n x)
+    unfolding answer
+    unbound z = go (typeIn Γ x) (sym (g .holds h) ∙ z)
+      where
+        go : (o : Option ℕ) → boundWord o ≡ 0 → Faulty Variables n ≡ orFaulty Variables n o (λ t. Typed t)
+        go none e = refl
+        go (some t) e = absurd (omega arith)
 
-  pub bound : (n x y : ℕ) → x ≡ y → y < length env → (getD env x 0 ≡ 0 → ⊥) → Typed (getD env x 0 - 1) ≡ inferred p Γ (var n y)
-  unfolding answer
-  bound n x y e h z = go (typeIn Γ y) (rw e (g .holds y h))
-    where
-      go : (o : Option ℕ) → getD env x 0 ≡ boundWord o → Typed (getD env x 0 - 1) ≡ orFaulty Variables n o (λ t. Typed t)
-      go none k = absurd (z k)
-      go (some t) k = ap Typed (omega arith)
+    pub bound : (getD env k 0 ≡ 0 → ⊥) → Typed (getD env k 0 - 1) ≡ inferred (programOf s) Γ (var n x)
+    unfolding answer
+    bound z = go (typeIn Γ x) (g .holds h)
+      where
+        go : (o : Option ℕ) → getD env k 0 ≡ boundWord o → Typed (getD env k 0 - 1) ≡ orFaulty Variables n o (λ t. Typed t)
+        go none e = absurd (z e)
+        go (some t) e = ap Typed (omega arith)
 
-  pub env-bind : (x t : ℕ) → x < length env → IsType p t → EnvIs p (set env x (t + 1)) (record { name = x; type = t } ∷ Γ)
+  pub env-bind : {count : ℕ} (x k t : ℕ) → Ranked s facts count → RankOf s facts x k → k < length env → IsType (programOf s) t → EnvIs s facts (set env k (t + 1)) (record { name = x; type = t } ∷ Γ)
   unfolding typeIn named
-  env-bind x t h i = record { types = env-more p Γ x t (g .types) i; holds = λ y k. at y (eqb x y) refl (rw length-set at k) }
+  env-bind x k t r h l i = record { types = env-more (programOf s) Γ x t (g .types) i; holds = λ {x = y} {k = m} j. at y m (eqb x y) refl j }
     where
-      at : (y : ℕ) (b : Bool) → eqb x y ≡ b → y < length env → getD (set env x (t + 1)) y 0 ≡ boundWord (typeIn (record { name = x; type = t } ∷ Γ) y)
-      at y true e k = let q : x ≡ y = eqb-true x y e in rw (e, ← q, getD-set-same env x (t + 1) 0 h) (omega arith)
-      at y false e k = rw (e, getD-set-other env x y (t + 1) 0 (λ q. eqb-false x y e (sym q))) (g .holds y k)
+      at : (y m : ℕ) (b : Bool) → eqb x y ≡ b → RankOf s facts y m → getD (set env k (t + 1)) m 0 ≡ boundWord (typeIn (record { name = x; type = t } ∷ Γ) y)
+      at y m true e j =
+          let q : x ≡ y = eqb-true x y e in
+          let same : k ≡ m = r .same h (rw q j) in
+          rw (e, ← same, getD-set-same env k (t + 1) 0 l) (omega arith)
+      at y m false e j = rw (e, getD-set-other env k m (t + 1) 0 (λ q. eqb-false x y e (r .apart h (rw (sym q) j)))) (g .holds j)
 
 -- A variable's word is stored over, and put back after a walk that left the table as it was.
 pub word-there : {x : ℕ} {env env₁ : List ℕ} → env₁ ≡ env → x < length env → x < length env₁
@@ -105,6 +110,17 @@ word-still x v {env₁ = env₁} e₁ h e₂ = rw (e₂, length-set env₁ x v, 
 
 pub word-back : (x v : ℕ) {env env₁ env₂ : List ℕ} → env₁ ≡ env → env₂ ≡ set env₁ x v → set env₂ x (getD env₁ x 0) ≡ env
 word-back x v {env₁ = env₁} e₁ e₂ = rw (e₂, set-set env₁ x v (getD env₁ x 0), set-getD env₁ x 0) e₁
+
+-- A node has a word in the table of facts, and the variable that it names one in the table of an environment.
+module _ {s facts : List ℕ} (f : Facts s facts) where
+  pub fact-there : {n : Point} → WithinLayout s → n < countOf s nodes → n < length facts
+  fact-there w h = omega (arith, f .ranked .size, h, w .counts-are .within nodes)
+
+  pub rank-small : {x k : ℕ} → RankOf s facts x k → k < RANKS
+  rank-small r = omega (arith, f .ranked .below r, f .ranked .few)
+
+pub target-there : {s facts env : List ℕ} {n : Point} → Target s facts env n → getD facts n 0 < length env
+target-there a = rw (a .size) (rank-small (a .known) (of-node (a .named)))
 
 -- The node n, read as one of kind k.
 abbrev pub nodeBy : List ℕ → Point → ℕ → Node
@@ -136,8 +152,8 @@ module _ {s : List ℕ} (w : WithinLayout s) where
     part-kind q m = in-order s w n h q (rw view-kind m)
 
   -- What is inferred for a node is a type.
-  inferred-type : (n : Point) → n < countOf s nodes → (env : List ℕ) (Γ : List Slot) → EnvIs (programOf s) env Γ → (t : ℕ) → inferred (programOf s) Γ (exprAt s n) ≡ Typed t → IsType (programOf s) t
-  inferred-type n h env Γ g t e = infer-type (programOf s) (regular s w) (inferred-typed (programOf s) (regular s w) Γ (exprAt s n) t (g .types) (formed s w n h) e)
+  inferred-type : (n : Point) → n < countOf s nodes → (facts env : List ℕ) (Γ : List Slot) → EnvIs s facts env Γ → (t : ℕ) → inferred (programOf s) Γ (exprAt s n) ≡ Typed t → IsType (programOf s) t
+  inferred-type n h facts env Γ g t e = infer-type (programOf s) (regular s w) (inferred-typed (programOf s) (regular s w) Γ (exprAt s n) t (g .types) (formed s w n h) e)
 
 -- What a look-up found, and did not find.
 module _ (n : Point) where
@@ -166,14 +182,14 @@ module _ (n : Point) where
   apart-is false r e = refl
 
 -- A field that is read or written.
-module _ (s env : List ℕ) (n : Point) (x f : ℕ) (v : Answer) (ev : Inferred s env (var n x) v) where
-  pub select-unbound : (q : Question) (m : Point) → v ≡ Faulty q m → Inferred s env (select n x f) v
+module _ (s facts env : List ℕ) (n : Point) (x f : ℕ) (v : Answer) (ev : Inferred s facts env (var n x) v) where
+  pub select-unbound : (q : Question) (m : Point) → v ≡ Faulty q m → Inferred s facts env (select n x f) v
   select-unbound q m k Γ g = rw (select-is (programOf s) Γ n x f, ← ev Γ g, k)
 
-  pub select-missing : (t f′ : ℕ) (r : Found) → v ≡ Typed t → f′ ≡ f → r ≡ foundOf (fieldIn (programOf s) t f′) → r ≡ Nothing → Inferred s env (select n x f) (Faulty Members n)
+  pub select-missing : (t f′ : ℕ) (r : Found) → v ≡ Typed t → f′ ≡ f → r ≡ foundOf (fieldIn (programOf s) t f′) → r ≡ Nothing → Inferred s facts env (select n x f) (Faulty Members n)
   select-missing t f′ r k ef e m Γ g = rw (select-is (programOf s) Γ n x f, ← ev Γ g, k, ← ef, found-nothing n (fieldIn (programOf s) t f′) r _ e m)
 
-  pub select-found : (t f′ u : ℕ) (r : Found) → v ≡ Typed t → f′ ≡ f → r ≡ foundOf (fieldIn (programOf s) t f′) → r ≡ Is u → Inferred s env (select n x f) (Typed u)
+  pub select-found : (t f′ u : ℕ) (r : Found) → v ≡ Typed t → f′ ≡ f → r ≡ foundOf (fieldIn (programOf s) t f′) → r ≡ Is u → Inferred s facts env (select n x f) (Typed u)
   select-found t f′ u r k ef e m Γ g = rw (select-is (programOf s) Γ n x f, ← ev Γ g, k, ← ef, found-at n (fieldIn (programOf s) t f′) r u _ e m)
 
 -- kinds 1 to 9 are not null, and every other one is read as null
@@ -220,222 +236,223 @@ module _ (n : Point) (f : Point → Expr) where
   point-of (n-lock x p) = refl
 
 -- The same answer, where the table is as it was.
-pub same-env : (s : List ℕ) {env env′ : List ℕ} (e : Expr) {r : Answer} → env′ ≡ env → Inferred s env′ e r → Inferred s env e r
-same-env s e k h Γ g = h Γ (rw k g)
+pub same-env : (s facts : List ℕ) {env env′ : List ℕ} (e : Expr) {r : Answer} → env′ ≡ env → Inferred s facts env′ e r → Inferred s facts env e r
+same-env s facts e k h Γ g = h Γ (rw k g)
 
-module _ {s starts forks env : List ℕ} {n : Point} (a : At s starts forks env n) where
+module _ {s starts facts env : List ℕ} {n : Point} (a : At s starts facts env n) where
   -- A part of the node, and what a call there asks.
   pub part : (k q′ q : ℕ) → nodeWord s n 0 ≡ k → q′ ≡ q → q ∈ parts (nodeBy s n k) → Part s n q′
   part k q′ q e eq m = rw eq (part-kind (a .within) n (a .there) k e q m)
 
-  pub down : (q : Point) (env′ : List ℕ) → Part s n q → env′ ≡ env → At s starts forks env′ q
+  pub down : (q : Point) (env′ : List ℕ) → Part s n q → env′ ≡ env → At s starts facts env′ q
   down q env′ h e =
       record {
         within = a .within;
         runs = a .runs;
-        sharing = a .sharing;
-        names = rw e (a .names);
+        known = a .known;
+        size = rw e (a .size);
         there = h .there;
         variables = a .variables;
         environment = rw e (a .environment);
       }
 
-  pub still-at : {env′ : List ℕ} → env′ ≡ env → At s starts forks env′ n
-  still-at e = rw e a
+  -- The variable that the node names, and its rank.
+  named-by : (k : ℕ) → nodeWord s n 0 ≡ k → nameIn (nodeBy s n k) ≡ some (nodeWord s n 1) → Names s n (nodeWord s n 1)
+  named-by k e h = record { there = a .there; name = rw (view-kind (a .within) n (a .there) k e) h }
 
-  -- The variable that the node names has a word in the table.
-  named-by : (k : ℕ) → nodeWord s n 0 ≡ k → NamesBelow (length env) (nodeBy s n k)
-  named-by k e = rw (view-kind (a .within) n (a .there) k e) at (a .names .names n (a .there))
+  target : Names s n (nodeWord s n 1) → Target s facts env n
+  target h = record { within = a .within; known = a .known; size = a .size; named = h }
 
-  target : nodeWord s n 1 < length env → Target s env n
-  target h = record { within = a .within; there = a .there; named = h }
-
-  pub var-target : nodeWord s n 0 ≡ 1 → Target s env n
+  pub var-target : nodeWord s n 0 ≡ 1 → Target s facts env n
   unfolding kindOf
-  var-target e = target (named-by 1 e)
+  var-target e = target (named-by 1 e refl)
 
-  pub select-target : nodeWord s n 0 ≡ 2 → Target s env n
+  pub select-target : nodeWord s n 0 ≡ 2 → Target s facts env n
   unfolding kindOf
-  select-target e = target (named-by 2 e)
+  select-target e = target (named-by 2 e refl)
 
-  pub update-target : nodeWord s n 0 ≡ 3 → Target s env n
+  pub update-target : nodeWord s n 0 ≡ 3 → Target s facts env n
   unfolding kindOf
-  update-target e = target (named-by 3 e)
+  update-target e = target (named-by 3 e refl)
 
-  pub call-target : nodeWord s n 0 ≡ 4 → Target s env n
+  pub call-target : nodeWord s n 0 ≡ 4 → Target s facts env n
   unfolding kindOf
-  call-target e = target (named-by 4 e)
+  call-target e = target (named-by 4 e refl)
 
-  pub let-named : {x : ℕ} → nodeWord s n 0 ≡ 5 → x ≡ nodeWord s n 1 → x < length env
+  pub lock-target : nodeWord s n 0 ≡ 9 → Target s facts env n
   unfolding kindOf
-  let-named e ex = rw ex (named-by 5 e)
+  lock-target e = target (named-by 9 e refl)
 
-  pub lock-target : nodeWord s n 0 ≡ 9 → Target s env n
+  pub let-rank : nodeWord s n 0 ≡ 5 → RankOf s facts (nodeWord s n 1) (getD facts n 0)
   unfolding kindOf
-  lock-target e = target (named-by 9 e)
+  let-rank e = of-node (named-by 5 e refl)
+
+  pub let-there : nodeWord s n 0 ≡ 5 → getD facts n 0 < length env
+  let-there e = rw (a .size) (rank-small (a .known) (let-rank e))
 
   -- The expression at the node.
   expr-by : (k : ℕ) → nodeWord s n 0 ≡ k → exprAt s n ≡ build n (exprAt s) (nodeBy s n k)
   expr-by k e = expr-kind (a .within) n (a .there) k e
 
   -- A variable, a read, a new object and a null.
-  pub at-var : (r : Answer) → nodeWord s n 0 ≡ 1 → Inferred s env (var n (nodeWord s n 1)) r → Inferred s env (exprAt s n) r
+  pub at-var : (r : Answer) → nodeWord s n 0 ≡ 1 → Inferred s facts env (var n (nodeWord s n 1)) r → Inferred s facts env (exprAt s n) r
   unfolding kindOf
   at-var r e h Γ g = rw (expr-by 1 e) (h Γ g)
 
-  pub at-select : (r : Answer) → nodeWord s n 0 ≡ 2 → Inferred s env (select n (nodeWord s n 1) (nodeWord s n 2)) r → Inferred s env (exprAt s n) r
+  pub at-select : (r : Answer) → nodeWord s n 0 ≡ 2 → Inferred s facts env (select n (nodeWord s n 1) (nodeWord s n 2)) r → Inferred s facts env (exprAt s n) r
   unfolding kindOf
   at-select r e h Γ g = rw (expr-by 2 e) (h Γ g)
 
-  pub at-new : (c : ℕ) → nodeWord s n 0 ≡ 6 → c ≡ nodeWord s n 1 → Inferred s env (exprAt s n) (Typed c)
+  pub at-new : (c : ℕ) → nodeWord s n 0 ≡ 6 → c ≡ nodeWord s n 1 → Inferred s facts env (exprAt s n) (Typed c)
   unfolding kindOf answer
   at-new c e ec Γ g = rw (expr-by 6 e, ec)
 
   pub at-null :
       (k : ℕ) → k ≡ nodeWord s n 0
       → (k ≡ 1 → ⊥) → (k ≡ 2 → ⊥) → (k ≡ 3 → ⊥) → (k ≡ 4 → ⊥) → (k ≡ 5 → ⊥) → (k ≡ 6 → ⊥) → (k ≡ 7 → ⊥) → (k ≡ 8 → ⊥) → (k ≡ 9 → ⊥)
-      → Inferred s env (exprAt s n) (Faulty Nulls n)
+      → Inferred s facts env (exprAt s n) (Faulty Nulls n)
   unfolding answer
   at-null k e h1 h2 h3 h4 h5 h6 h7 h8 h9 Γ g =
       rw (expr-by k (sym e), only-null k (nodeWord s n 1) (nodeWord s n 2) (nodeWord s n 3) h1 h2 h3 h4 h5 h6 h7 h8 h9)
 
   -- A write: its field, and its value.
-  module _ (e : nodeWord s n 0 ≡ 3) (v : Answer) (ev : Inferred s env (select n (nodeWord s n 1) (nodeWord s n 2)) v) where
-    pub update-field : (q : Question) (m : Point) → v ≡ Faulty q m → Inferred s env (exprAt s n) v
+  module _ (e : nodeWord s n 0 ≡ 3) (v : Answer) (ev : Inferred s facts env (select n (nodeWord s n 1) (nodeWord s n 2)) v) where
+    pub update-field : (q : Question) (m : Point) → v ≡ Faulty q m → Inferred s facts env (exprAt s n) v
     unfolding kindOf
     update-field q m k Γ g = rw (expr-by 3 e, update-is (programOf s) Γ n (nodeWord s n 1) (nodeWord s n 2) (exprAt s (nodeWord s n 3)), ← ev Γ g, k)
 
-    module _ (t b : ℕ) (r : Answer) (k : v ≡ Typed t) (eb : b ≡ nodeWord s n 3) (er : Checked s env (exprAt s b) t r) where
-      updated : (Γ : List Slot) → EnvIs (programOf s) env Γ → inferred (programOf s) Γ (exprAt s n) ≡ andThen r (λ u. Typed 0)
+    module _ (t b : ℕ) (r : Answer) (k : v ≡ Typed t) (eb : b ≡ nodeWord s n 3) (er : Checked s facts env (exprAt s b) t r) where
+      updated : (Γ : List Slot) → EnvIs s facts env Γ → inferred (programOf s) Γ (exprAt s n) ≡ andThen r (λ u. Typed 0)
       unfolding kindOf
       updated Γ g = rw (expr-by 3 e, update-is (programOf s) Γ n (nodeWord s n 1) (nodeWord s n 2) (exprAt s (nodeWord s n 3)), ← ev Γ g, k, ← eb, er Γ g)
 
-      pub update-value : (q : Question) (m : Point) → r ≡ Faulty q m → Inferred s env (exprAt s n) r
+      pub update-value : (q : Question) (m : Point) → r ≡ Faulty q m → Inferred s facts env (exprAt s n) r
       update-value q m f Γ g = rw (updated Γ g, f)
 
-      pub update-done : (u : ℕ) → r ≡ Typed u → Inferred s env (exprAt s n) (Typed 0)
+      pub update-done : (u : ℕ) → r ≡ Typed u → Inferred s facts env (exprAt s n) (Typed 0)
       update-done u f Γ g = rw (updated Γ g, f)
 
   -- A call: its target, its method, and its argument.
-  module _ (e : nodeWord s n 0 ≡ 4) (v : Answer) (ev : Inferred s env (var n (nodeWord s n 1)) v) where
-    pub call-unbound : (q : Question) (m : Point) → v ≡ Faulty q m → Inferred s env (exprAt s n) v
+  module _ (e : nodeWord s n 0 ≡ 4) (v : Answer) (ev : Inferred s facts env (var n (nodeWord s n 1)) v) where
+    pub call-unbound : (q : Question) (m : Point) → v ≡ Faulty q m → Inferred s facts env (exprAt s n) v
     unfolding kindOf
     call-unbound q m k Γ g = rw (expr-by 4 e, call-is (programOf s) Γ n (nodeWord s n 1) (nodeWord s n 2) (exprAt s (nodeWord s n 3)), ← ev Γ g, k)
 
     module _ (t m : ℕ) (z : Member) (k : v ≡ Typed t) (em : m ≡ nodeWord s n 2) (ez : z ≡ memberOf (methodIn (programOf s) t m)) where
-      pub call-missing : z ≡ Missing → Inferred s env (exprAt s n) (Faulty Members n)
+      pub call-missing : z ≡ Missing → Inferred s facts env (exprAt s n) (Faulty Members n)
       unfolding kindOf
       call-missing f Γ g =
           rw (expr-by 4 e, call-is (programOf s) Γ n (nodeWord s n 1) (nodeWord s n 2) (exprAt s (nodeWord s n 3)), ← ev Γ g, k, ← em, member-missing n (methodIn (programOf s) t m) z _ ez f)
 
-      module _ (param result b : ℕ) (r : Answer) (f : z ≡ Types param result) (eb : b ≡ nodeWord s n 3) (er : Checked s env (exprAt s b) param r) where
-        called : (Γ : List Slot) → EnvIs (programOf s) env Γ → inferred (programOf s) Γ (exprAt s n) ≡ andThen r (λ u. Typed result)
+      module _ (param result b : ℕ) (r : Answer) (f : z ≡ Types param result) (eb : b ≡ nodeWord s n 3) (er : Checked s facts env (exprAt s b) param r) where
+        called : (Γ : List Slot) → EnvIs s facts env Γ → inferred (programOf s) Γ (exprAt s n) ≡ andThen r (λ u. Typed result)
         unfolding kindOf
         called Γ g =
             rw
             (expr-by 4 e, call-is (programOf s) Γ n (nodeWord s n 1) (nodeWord s n 2) (exprAt s (nodeWord s n 3)), ← ev Γ g, k, ← em, ← eb, er Γ g)
             (member-types n (methodIn (programOf s) t m) z param result (λ x y. andThen (checked (programOf s) Γ (exprAt s b) x) (λ u. Typed y)) ez f)
 
-        pub call-argument : (q : Question) (o : Point) → r ≡ Faulty q o → Inferred s env (exprAt s n) r
+        pub call-argument : (q : Question) (o : Point) → r ≡ Faulty q o → Inferred s facts env (exprAt s n) r
         call-argument q o y Γ g = rw (called Γ g, y)
 
-        pub call-done : (u : ℕ) → r ≡ Typed u → Inferred s env (exprAt s n) (Typed result)
+        pub call-done : (u : ℕ) → r ≡ Typed u → Inferred s facts env (exprAt s n) (Typed result)
         call-done u y Γ g = rw (called Γ g, y)
 
   -- A let: its value, whose type fits a word with 1 more, and its body, under one more variable.
-  module _ (b : ℕ) (r : Answer) (e : nodeWord s n 0 ≡ 5) (eb : b ≡ nodeWord s n 2) (er : Inferred s env (exprAt s b) r) where
-    pub let-first : (q : Question) (m : Point) → r ≡ Faulty q m → Inferred s env (exprAt s n) r
+  module _ (b : ℕ) (r : Answer) (e : nodeWord s n 0 ≡ 5) (eb : b ≡ nodeWord s n 2) (er : Inferred s facts env (exprAt s b) r) where
+    pub let-first : (q : Question) (m : Point) → r ≡ Faulty q m → Inferred s facts env (exprAt s n) r
     unfolding kindOf answer
     let-first q m k Γ g = rw (expr-by 5 e, ← eb, ← er Γ g, k)
 
     module _ (t : ℕ) (k : r ≡ Typed t) where
-      pub let-body : (Γ : List Slot) → EnvIs (programOf s) env Γ
+      pub let-body : (Γ : List Slot) → EnvIs s facts env Γ
           → inferred (programOf s) Γ (exprAt s n) ≡ inferred (programOf s) (record { name = nodeWord s n 1; type = t } ∷ Γ) (exprAt s (nodeWord s n 3))
       unfolding kindOf answer
       let-body Γ g = rw (expr-by 5 e, ← eb, ← er Γ g, k)
 
-      value-type : (Γ : List Slot) → EnvIs (programOf s) env Γ → IsType (programOf s) t
+      value-type : (Γ : List Slot) → EnvIs s facts env Γ → IsType (programOf s) t
       unfolding kindOf
-      value-type Γ g = inferred-type (a .within) b (part 5 b (nodeWord s n 2) e eb first .there) env Γ g t (sym (er Γ g) ∙ k)
+      value-type Γ g = inferred-type (a .within) b (part 5 b (nodeWord s n 2) e eb first .there) facts env Γ g t (sym (er Γ g) ∙ k)
 
       pub let-small : t ≤ INTERFACES + CLASSES
       let-small = type-small (a .within) t (value-type (a .variables) (a .environment))
 
-      module _ (x : ℕ) (env₁ : List ℕ) (ex : x ≡ nodeWord s n 1) (e₁ : env₁ ≡ env) where
-        pub let-under : (c : Point) → Part s n c → At s starts forks (set env₁ x (t + 1)) c
+      bound-let : (Γ : List Slot) → EnvIs s facts env Γ → EnvIs s facts (set env (getD facts n 0) (t + 1)) (record { name = nodeWord s n 1; type = t } ∷ Γ)
+      bound-let Γ g = env-bind g (nodeWord s n 1) (getD facts n 0) t (a .known .ranked) (let-rank e) (let-there e) (value-type Γ g)
+
+      module _ (env₁ : List ℕ) (e₁ : env₁ ≡ env) where
+        pub let-under : (c : Point) → Part s n c → At s starts facts (set env₁ (getD facts n 0) (t + 1)) c
         let-under c h =
             record {
               within = a .within;
               runs = a .runs;
-              sharing = a .sharing;
-              names = rw (length-set env₁ x (t + 1), e₁) (a .names);
+              known = a .known;
+              size = rw (length-set env₁ (getD facts n 0) (t + 1), e₁) (a .size);
               there = h .there;
-              variables = record { name = x; type = t } ∷ a .variables;
-              environment = rw e₁ (env-bind (a .environment) x t (let-named e ex) (value-type (a .variables) (a .environment)));
+              variables = record { name = nodeWord s n 1; type = t } ∷ a .variables;
+              environment = rw e₁ (bound-let (a .variables) (a .environment));
             }
 
-        pub let-last : (c : Point) (o : Answer) → c ≡ nodeWord s n 3 → Inferred s (set env₁ x (t + 1)) (exprAt s c) o → Inferred s env (exprAt s n) o
-        let-last c o ec eo Γ g =
-            rw (let-body Γ g, ← ex, ← ec)
-            (eo (record { name = x; type = t } ∷ Γ) (rw e₁ (env-bind g x t (let-named e ex) (value-type Γ g))))
+        pub let-last : (c : Point) (o : Answer) → c ≡ nodeWord s n 3 → Inferred s facts (set env₁ (getD facts n 0) (t + 1)) (exprAt s c) o → Inferred s facts env (exprAt s n) o
+        let-last c o ec eo Γ g = rw (let-body Γ g, ← ec) (eo (record { name = nodeWord s n 1; type = t } ∷ Γ) (rw e₁ (bound-let Γ g)))
 
   -- A cast is its operand, checked.
-  pub at-cast : (t b : ℕ) (r : Answer) → nodeWord s n 0 ≡ 7 → t ≡ nodeWord s n 1 → b ≡ nodeWord s n 2 → Checked s env (exprAt s b) t r → Inferred s env (exprAt s n) r
+  pub at-cast : (t b : ℕ) (r : Answer) → nodeWord s n 0 ≡ 7 → t ≡ nodeWord s n 1 → b ≡ nodeWord s n 2 → Checked s facts env (exprAt s b) t r → Inferred s facts env (exprAt s n) r
   unfolding kindOf answer
   at-cast t b r e et eb er Γ g = rw (expr-by 7 e, ← et, ← eb) (er Γ g)
 
   -- A fork: the flag of its node, and its three parts.
   module _ (e : nodeWord s n 0 ≡ 8) where
-    flag : getD forks n 0 ≡ flagOf (shares (fv (exprAt s (nodeWord s n 1))) (fv (exprAt s (nodeWord s n 2))))
+    flag : getD facts n 0 ≡ flagOf (shares (fv (exprAt s (nodeWord s n 1))) (fv (exprAt s (nodeWord s n 2))))
     unfolding kindOf
-    flag = a .sharing .flags n (nodeWord s n 1) (nodeWord s n 2) (nodeWord s n 3) (a .there) (view-kind (a .within) n (a .there) 8 e)
+    flag = a .known .forks .flags n (nodeWord s n 1) (nodeWord s n 2) (nodeWord s n 3) (a .there) (view-kind (a .within) n (a .there) 8 e)
 
-    pub fork-shared : getD forks n 0 ≡ 1 → Inferred s env (exprAt s n) (Faulty Sharing n)
+    pub fork-shared : getD facts n 0 ≡ 1 → Inferred s facts env (exprAt s n) (Faulty Sharing n)
     unfolding kindOf answer
     fork-shared k Γ g = rw (expr-by 8 e) (shared-is n (shares (fv (exprAt s (nodeWord s n 1))) (fv (exprAt s (nodeWord s n 2)))) _ (sym flag ∙ k))
 
-    module _ (k : getD forks n 0 ≡ 1 → ⊥) (b : ℕ) (r : Answer) (eb : b ≡ nodeWord s n 1) (er : Inferred s env (exprAt s b) r) where
-      forked : (Γ : List Slot) → EnvIs (programOf s) env Γ → inferred (programOf s) Γ (exprAt s n) ≡ andThen r (λ t. andThen (inferred (programOf s) Γ (exprAt s (nodeWord s n 2))) (λ u. inferred (programOf s) Γ (exprAt s (nodeWord s n 3))))
+    module _ (k : getD facts n 0 ≡ 1 → ⊥) (b : ℕ) (r : Answer) (eb : b ≡ nodeWord s n 1) (er : Inferred s facts env (exprAt s b) r) where
+      forked : (Γ : List Slot) → EnvIs s facts env Γ → inferred (programOf s) Γ (exprAt s n) ≡ andThen r (λ t. andThen (inferred (programOf s) Γ (exprAt s (nodeWord s n 2))) (λ u. inferred (programOf s) Γ (exprAt s (nodeWord s n 3))))
       unfolding kindOf answer
       forked Γ g = rw (expr-by 8 e, er Γ g, eb) (apart-is n (shares (fv (exprAt s (nodeWord s n 1))) (fv (exprAt s (nodeWord s n 2)))) _ (λ z. k (flag ∙ z)))
 
-      pub fork-left : (q : Question) (m : Point) → r ≡ Faulty q m → Inferred s env (exprAt s n) r
+      pub fork-left : (q : Question) (m : Point) → r ≡ Faulty q m → Inferred s facts env (exprAt s n) r
       fork-left q m f Γ g = rw (forked Γ g, f)
 
-      module _ (t : ℕ) (f : r ≡ Typed t) (c : ℕ) (o : Answer) (ec : c ≡ nodeWord s n 2) (eo : Inferred s env (exprAt s c) o) where
-        pub fork-right : (q : Question) (m : Point) → o ≡ Faulty q m → Inferred s env (exprAt s n) o
+      module _ (t : ℕ) (f : r ≡ Typed t) (c : ℕ) (o : Answer) (ec : c ≡ nodeWord s n 2) (eo : Inferred s facts env (exprAt s c) o) where
+        pub fork-right : (q : Question) (m : Point) → o ≡ Faulty q m → Inferred s facts env (exprAt s n) o
         fork-right q m y Γ g = rw (forked Γ g, f, ← ec, ← eo Γ g, y)
 
-        pub fork-last : (u d : ℕ) (l : Answer) → o ≡ Typed u → d ≡ nodeWord s n 3 → Inferred s env (exprAt s d) l → Inferred s env (exprAt s n) l
+        pub fork-last : (u d : ℕ) (l : Answer) → o ≡ Typed u → d ≡ nodeWord s n 3 → Inferred s facts env (exprAt s d) l → Inferred s facts env (exprAt s n) l
         fork-last u d l y ed el Γ g = rw (forked Γ g, f, ← ec, ← eo Γ g, y, ← ed) (el Γ g)
 
   -- A lock: its target, and its part.
-  module _ (e : nodeWord s n 0 ≡ 9) (v : Answer) (ev : Inferred s env (var n (nodeWord s n 1)) v) where
-    pub lock-unbound : (q : Question) (m : Point) → v ≡ Faulty q m → Inferred s env (exprAt s n) v
+  module _ (e : nodeWord s n 0 ≡ 9) (v : Answer) (ev : Inferred s facts env (var n (nodeWord s n 1)) v) where
+    pub lock-unbound : (q : Question) (m : Point) → v ≡ Faulty q m → Inferred s facts env (exprAt s n) v
     unfolding kindOf
     lock-unbound q m k Γ g = rw (expr-by 9 e, lock-is (programOf s) Γ n (nodeWord s n 1) (exprAt s (nodeWord s n 2)), ← ev Γ g, k)
 
-    pub lock-part : (t b : ℕ) (r : Answer) → v ≡ Typed t → b ≡ nodeWord s n 2 → Inferred s env (exprAt s b) r → Inferred s env (exprAt s n) r
+    pub lock-part : (t b : ℕ) (r : Answer) → v ≡ Typed t → b ≡ nodeWord s n 2 → Inferred s facts env (exprAt s b) r → Inferred s facts env (exprAt s n) r
     unfolding kindOf
     lock-part t b r k eb er Γ g = rw (expr-by 9 e, lock-is (programOf s) Γ n (nodeWord s n 1) (exprAt s (nodeWord s n 2)), ← ev Γ g, k, ← eb) (er Γ g)
 
   -- A check: of a null, and of what is inferred.
-  pub check-null : (t : ℕ) → nodeWord s n 0 ≡ 0 → Checked s env (exprAt s n) t (Typed t)
+  pub check-null : (t : ℕ) → nodeWord s n 0 ≡ 0 → Checked s facts env (exprAt s n) t (Typed t)
   unfolding kindOf answer
   check-null t e Γ g = rw (expr-by 0 e)
 
-  module _ (k t : ℕ) (r : Answer) (e : k ≡ nodeWord s n 0) (z : k ≡ 0 → ⊥) (er : Inferred s env (exprAt s n) r) where
+  module _ (k t : ℕ) (r : Answer) (e : k ≡ nodeWord s n 0) (z : k ≡ 0 → ⊥) (er : Inferred s facts env (exprAt s n) r) where
     solid : isNull (exprAt s n) ≡ false
     solid = rw (expr-by k (sym e)) (not-null n (exprAt s) k (nodeWord s n 1) (nodeWord s n 2) (nodeWord s n 3) z (rw e (known s (a .within) n (a .there))))
 
     place : pointOf (exprAt s n) ≡ n
     place = rw (expr-by k (sym e)) (point-of n (exprAt s) (nodeBy s n k))
 
-    pub check-fault : (q : Question) (m : Point) → r ≡ Faulty q m → Checked s env (exprAt s n) t r
+    pub check-fault : (q : Question) (m : Point) → r ≡ Faulty q m → Checked s facts env (exprAt s n) t r
     check-fault q m f Γ g = rw (checked-as (programOf s) Γ (exprAt s n) t solid, ← er Γ g, f)
 
-    pub check-no : (u : ℕ) → r ≡ Typed u → below (programOf s) u t ≡ false → Checked s env (exprAt s n) t (Faulty Fits n)
+    pub check-no : (u : ℕ) → r ≡ Typed u → below (programOf s) u t ≡ false → Checked s facts env (exprAt s n) t (Faulty Fits n)
     check-no u f y Γ g = rw (checked-as (programOf s) Γ (exprAt s n) t solid, place, ← er Γ g, f, y)
 
-    pub check-yes : (u : ℕ) → r ≡ Typed u → below (programOf s) u t ≡ true → Checked s env (exprAt s n) t (Typed t)
+    pub check-yes : (u : ℕ) → r ≡ Typed u → below (programOf s) u t ≡ true → Checked s facts env (exprAt s n) t (Typed t)
     check-yes u f y Γ g = rw (checked-as (programOf s) Γ (exprAt s n) t solid, ← er Γ g, f, y)

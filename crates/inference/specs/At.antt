@@ -1,7 +1,7 @@
 -- What the walk over expressions asks where it stands, and what it answers there.
 use Prim.Native.Nat.{ℕ, _<_}
 use mathlib.Core.Path.{_≡_}
-use mathlib.Core.List.{List, [], _++_, map}
+use mathlib.Core.List.{List, _++_, map}
 use lib.ListN.{length}
 use Rattle.script.specs.declared.Section.the-variants.{Nodes as nodes}
 use Rattle.script.specs.Section.{countOf, nodeWord}
@@ -12,39 +12,41 @@ use Rattle.typing.specs.declared.Answer.{Answer}
 use Rattle.typing.specs.Environments.{bodyEnv}
 use Rattle.typing.specs.Typing.{andThen, inferred, checked, Body, walk}
 use Rattle.members.specs.Tables.{Starts}
-use Rattle.sharing.specs.Tables.{Forks}
-use Rattle.inference.specs.Tables.{EnvIs, Named}
+use Rattle.names.specs.Ranks.{RANKS, Names}
+use Rattle.names.specs.Facts.{Facts}
+use Rattle.inference.specs.Tables.{EnvIs, Zeros}
 
--- Node n whose first word names a variable that the table of the environment has a word for.
-pub record Target (s env : List ℕ) (n : Point) : Type 0 where
+-- Node n whose first word names a variable, with the table of an environment.
+pub record Target (s facts env : List ℕ) (n : Point) : Type 0 where
   pub within : WithinLayout s
-  pub there : n < countOf s nodes
-  pub named : nodeWord s n 1 < length env
+  pub known : Facts s facts
+  pub size : length env ≡ RANKS
+  pub named : Names s n (nodeWord s n 1)
 
 -- Node n, with the script's tables and an environment.
-pub record At (s starts forks env : List ℕ) (n : Point) : Type 0 where
+pub record At (s starts facts env : List ℕ) (n : Point) : Type 0 where
   pub within : WithinLayout s
   pub runs : Starts s starts
-  pub sharing : Forks s forks
-  pub names : Named s (length env)
+  pub known : Facts s facts
+  pub size : length env ≡ RANKS
   pub there : n < countOf s nodes
   pub variables : List Slot
-  pub environment : EnvIs (programOf s) env variables
+  pub environment : EnvIs s facts env variables
 
 -- The answer where an expression is inferred, and where it is checked against the type t, in every environment that the table is of.
-abbrev pub Inferred : List ℕ → List ℕ → Expr → Answer → Type 0
-Inferred s env e r = (Γ : List Slot) → EnvIs (programOf s) env Γ → r ≡ inferred (programOf s) Γ e
+abbrev pub Inferred : List ℕ → List ℕ → List ℕ → Expr → Answer → Type 0
+Inferred s facts env e r = (Γ : List Slot) → EnvIs s facts env Γ → r ≡ inferred (programOf s) Γ e
 
-abbrev pub Checked : List ℕ → List ℕ → Expr → ℕ → Answer → Type 0
-Checked s env e t r = (Γ : List Slot) → EnvIs (programOf s) env Γ → r ≡ checked (programOf s) Γ e t
+abbrev pub Checked : List ℕ → List ℕ → List ℕ → Expr → ℕ → Answer → Type 0
+Checked s facts env e t r = (Γ : List Slot) → EnvIs s facts env Γ → r ≡ checked (programOf s) Γ e t
 
 -- The script's tables, with no variable bound.
-pub record Blank (s starts forks env : List ℕ) : Type 0 where
+pub record Blank (s starts facts env : List ℕ) : Type 0 where
   pub within : WithinLayout s
   pub runs : Starts s starts
-  pub sharing : Forks s forks
-  pub names : Named s (length env)
-  pub empty : EnvIs (programOf s) env []
+  pub known : Facts s facts
+  pub size : length env ≡ RANKS
+  pub zeros : Zeros env
 
 -- The bodies of these methods, in the class with type t, and the answer for one of them.
 abbrev pub bodiesIn : ℕ → List Method → List Body

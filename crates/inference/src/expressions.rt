@@ -15,12 +15,12 @@ ghost use Rattle.members.specs.Tables.{Starts};
 ghost use Rattle.inference.specs.At.{Target, At, Inferred, Checked};
 
 // The type of the variable that node n names first.
-fn infer_var(s: &[u8], env: &[u16], n: u16) -> Answer
-    requires { ⌜ Target (now s) (now env) n ⌝ }
-    ensures { λ r. ⌜ Inferred (now (s .entry)) (now (env .entry)) (var n (nodeWord (now (s .entry)) n 1)) r ⌝ }
+fn infer_var(s: &[u8], facts: &[u16], env: &[u16], n: u16) -> Answer
+    requires { ⌜ Target (now s) (now facts) (now env) n ⌝ }
+    ensures { λ r. ⌜ Inferred (now (s .entry)) (now (facts .entry)) (now (env .entry)) (var n (nodeWord (now (s .entry)) n 1)) r ⌝ }
 {
-    let x = node_word(s, n, 1);
-    let word = env[x as usize];
+    let rank = facts[n as usize] as usize;
+    let word = env[rank];
     if word == 0 {
         return Answer::Faulty(Question::Variables, n);
     }
@@ -28,11 +28,13 @@ fn infer_var(s: &[u8], env: &[u16], n: u16) -> Answer
 }
 
 // The type of the field that node n reads or writes.
-fn infer_select(s: &[u8], starts: &[u16], env: &[u16], n: u16) -> Answer
-    requires { ⌜ Target (now s) (now env) n × Starts (now s) (now starts) ⌝ }
-    ensures { λ r. ⌜ Inferred (now (s .entry)) (now (env .entry)) (select n (nodeWord (now (s .entry)) n 1) (nodeWord (now (s .entry)) n 2)) r ⌝ }
+fn infer_select(s: &[u8], starts: &[u16], facts: &[u16], env: &[u16], n: u16) -> Answer
+    requires { ⌜ Target (now s) (now facts) (now env) n × Starts (now s) (now starts) ⌝ }
+    ensures { λ r. ⌜
+        Inferred (now (s .entry)) (now (facts .entry)) (now (env .entry)) (select n (nodeWord (now (s .entry)) n 1) (nodeWord (now (s .entry)) n 2)) r
+        ⌝ }
 {
-    let target = infer_var(s, env, n);
+    let target = infer_var(s, facts, env, n);
     let Answer::Typed(t) = target else {
         return target;
     };
@@ -44,17 +46,17 @@ fn infer_select(s: &[u8], starts: &[u16], env: &[u16], n: u16) -> Answer
 }
 
 // A write has type Unit, after its value is checked against the field's type.
-fn infer_update(s: &[u8], starts: &[u16], forks: &[u8], env: &mut [u16], n: u16) -> Answer
-    requires { ⌜ At (now s) (now starts) (now forks) (now env) n × (nodeWord (now s) n 0 ≡ 3) ⌝ }
-    ensures { λ r. ⌜ Inferred (now (s .entry)) (now (env .entry)) (exprAt (now (s .entry)) n) r ⌝ }
+fn infer_update(s: &[u8], starts: &[u16], facts: &[u16], env: &mut [u16], n: u16) -> Answer
+    requires { ⌜ At (now s) (now starts) (now facts) (now env) n × (nodeWord (now s) n 0 ≡ 3) ⌝ }
+    ensures { λ r. ⌜ Inferred (now (s .entry)) (now (facts .entry)) (now (env .entry)) (exprAt (now (s .entry)) n) r ⌝ }
     ensures { λ r. ⌜ now (env .exit) ≡ now (env .entry) ⌝ }
 {
-    let field = infer_select(s, starts, env, n);
+    let field = infer_select(s, starts, facts, env, n);
     let Answer::Typed(t) = field else {
         return field;
     };
     let value = node_word(s, n, 3);
-    let r = check(s, starts, forks, env, value, t);
+    let r = check(s, starts, facts, env, value, t);
     let Answer::Typed(_) = r else {
         return r;
     };
@@ -62,12 +64,12 @@ fn infer_update(s: &[u8], starts: &[u16], forks: &[u8], env: &mut [u16], n: u16)
 }
 
 // A call has the method's result type, after its argument is checked against the parameter's type.
-fn infer_call(s: &[u8], starts: &[u16], forks: &[u8], env: &mut [u16], n: u16) -> Answer
-    requires { ⌜ At (now s) (now starts) (now forks) (now env) n × (nodeWord (now s) n 0 ≡ 4) ⌝ }
-    ensures { λ r. ⌜ Inferred (now (s .entry)) (now (env .entry)) (exprAt (now (s .entry)) n) r ⌝ }
+fn infer_call(s: &[u8], starts: &[u16], facts: &[u16], env: &mut [u16], n: u16) -> Answer
+    requires { ⌜ At (now s) (now starts) (now facts) (now env) n × (nodeWord (now s) n 0 ≡ 4) ⌝ }
+    ensures { λ r. ⌜ Inferred (now (s .entry)) (now (facts .entry)) (now (env .entry)) (exprAt (now (s .entry)) n) r ⌝ }
     ensures { λ r. ⌜ now (env .exit) ≡ now (env .entry) ⌝ }
 {
-    let target = infer_var(s, env, n);
+    let target = infer_var(s, facts, env, n);
     let Answer::Typed(t) = target else {
         return target;
     };
@@ -76,7 +78,7 @@ fn infer_call(s: &[u8], starts: &[u16], forks: &[u8], env: &mut [u16], n: u16) -
         return Answer::Faulty(Question::Members, n);
     };
     let argument = node_word(s, n, 3);
-    let r = check(s, starts, forks, env, argument, param);
+    let r = check(s, starts, facts, env, argument, param);
     let Answer::Typed(_) = r else {
         return r;
     };
@@ -84,105 +86,105 @@ fn infer_call(s: &[u8], starts: &[u16], forks: &[u8], env: &mut [u16], n: u16) -
 }
 
 // A let has the type of its last part, in which its variable has the type of the first; the variable's old word is put back.
-fn infer_let(s: &[u8], starts: &[u16], forks: &[u8], env: &mut [u16], n: u16) -> Answer
-    requires { ⌜ At (now s) (now starts) (now forks) (now env) n × (nodeWord (now s) n 0 ≡ 5) ⌝ }
-    ensures { λ r. ⌜ Inferred (now (s .entry)) (now (env .entry)) (exprAt (now (s .entry)) n) r ⌝ }
+fn infer_let(s: &[u8], starts: &[u16], facts: &[u16], env: &mut [u16], n: u16) -> Answer
+    requires { ⌜ At (now s) (now starts) (now facts) (now env) n × (nodeWord (now s) n 0 ≡ 5) ⌝ }
+    ensures { λ r. ⌜ Inferred (now (s .entry)) (now (facts .entry)) (now (env .entry)) (exprAt (now (s .entry)) n) r ⌝ }
     ensures { λ r. ⌜ now (env .exit) ≡ now (env .entry) ⌝ }
 {
     let value = node_word(s, n, 2);
-    let first = infer(s, starts, forks, env, value);
+    let first = infer(s, starts, facts, env, value);
     let Answer::Typed(t) = first else {
         return first;
     };
-    let x = node_word(s, n, 1) as usize;
-    let outer = env[x];
-    env[x] = t + 1;
+    let rank = facts[n as usize] as usize;
+    let outer = env[rank];
+    env[rank] = t + 1;
     let body = node_word(s, n, 3);
-    let last = infer(s, starts, forks, env, body);
-    env[x] = outer;
+    let last = infer(s, starts, facts, env, body);
+    env[rank] = outer;
     last
 }
 
 // A cast has its type, after its operand is checked against it.
-fn infer_cast(s: &[u8], starts: &[u16], forks: &[u8], env: &mut [u16], n: u16) -> Answer
-    requires { ⌜ At (now s) (now starts) (now forks) (now env) n × (nodeWord (now s) n 0 ≡ 7) ⌝ }
-    ensures { λ r. ⌜ Inferred (now (s .entry)) (now (env .entry)) (exprAt (now (s .entry)) n) r ⌝ }
+fn infer_cast(s: &[u8], starts: &[u16], facts: &[u16], env: &mut [u16], n: u16) -> Answer
+    requires { ⌜ At (now s) (now starts) (now facts) (now env) n × (nodeWord (now s) n 0 ≡ 7) ⌝ }
+    ensures { λ r. ⌜ Inferred (now (s .entry)) (now (facts .entry)) (now (env .entry)) (exprAt (now (s .entry)) n) r ⌝ }
     ensures { λ r. ⌜ now (env .exit) ≡ now (env .entry) ⌝ }
 {
     let t = node_word(s, n, 1);
     let operand = node_word(s, n, 2);
-    check(s, starts, forks, env, operand, t)
+    check(s, starts, facts, env, operand, t)
 }
 
 // A fork has the type of its last part, where its asyncs share no variable and have types.
-fn infer_fork(s: &[u8], starts: &[u16], forks: &[u8], env: &mut [u16], n: u16) -> Answer
-    requires { ⌜ At (now s) (now starts) (now forks) (now env) n × (nodeWord (now s) n 0 ≡ 8) ⌝ }
-    ensures { λ r. ⌜ Inferred (now (s .entry)) (now (env .entry)) (exprAt (now (s .entry)) n) r ⌝ }
+fn infer_fork(s: &[u8], starts: &[u16], facts: &[u16], env: &mut [u16], n: u16) -> Answer
+    requires { ⌜ At (now s) (now starts) (now facts) (now env) n × (nodeWord (now s) n 0 ≡ 8) ⌝ }
+    ensures { λ r. ⌜ Inferred (now (s .entry)) (now (facts .entry)) (now (env .entry)) (exprAt (now (s .entry)) n) r ⌝ }
     ensures { λ r. ⌜ now (env .exit) ≡ now (env .entry) ⌝ }
 {
-    if forks[n as usize] == 1 {
+    if facts[n as usize] == 1 {
         return Answer::Faulty(Question::Sharing, n);
     }
     let a = node_word(s, n, 1);
-    let left = infer(s, starts, forks, env, a);
+    let left = infer(s, starts, facts, env, a);
     let Answer::Typed(_) = left else {
         return left;
     };
     let b = node_word(s, n, 2);
-    let right = infer(s, starts, forks, env, b);
+    let right = infer(s, starts, facts, env, b);
     let Answer::Typed(_) = right else {
         return right;
     };
     let c = node_word(s, n, 3);
-    infer(s, starts, forks, env, c)
+    infer(s, starts, facts, env, c)
 }
 
 // A lock has the type of its part, where its variable has a type.
-fn infer_lock(s: &[u8], starts: &[u16], forks: &[u8], env: &mut [u16], n: u16) -> Answer
-    requires { ⌜ At (now s) (now starts) (now forks) (now env) n × (nodeWord (now s) n 0 ≡ 9) ⌝ }
-    ensures { λ r. ⌜ Inferred (now (s .entry)) (now (env .entry)) (exprAt (now (s .entry)) n) r ⌝ }
+fn infer_lock(s: &[u8], starts: &[u16], facts: &[u16], env: &mut [u16], n: u16) -> Answer
+    requires { ⌜ At (now s) (now starts) (now facts) (now env) n × (nodeWord (now s) n 0 ≡ 9) ⌝ }
+    ensures { λ r. ⌜ Inferred (now (s .entry)) (now (facts .entry)) (now (env .entry)) (exprAt (now (s .entry)) n) r ⌝ }
     ensures { λ r. ⌜ now (env .exit) ≡ now (env .entry) ⌝ }
 {
-    let target = infer_var(s, env, n);
+    let target = infer_var(s, facts, env, n);
     let Answer::Typed(_) = target else {
         return target;
     };
     let part = node_word(s, n, 2);
-    infer(s, starts, forks, env, part)
+    infer(s, starts, facts, env, part)
 }
 
 // The type of node n. A null is inferred never.
-pub fn infer(s: &[u8], starts: &[u16], forks: &[u8], env: &mut [u16], n: u16) -> Answer
-    requires { ⌜ At (now s) (now starts) (now forks) (now env) n ⌝ }
-    ensures { λ r. ⌜ Inferred (now (s .entry)) (now (env .entry)) (exprAt (now (s .entry)) n) r ⌝ }
+pub fn infer(s: &[u8], starts: &[u16], facts: &[u16], env: &mut [u16], n: u16) -> Answer
+    requires { ⌜ At (now s) (now starts) (now facts) (now env) n ⌝ }
+    ensures { λ r. ⌜ Inferred (now (s .entry)) (now (facts .entry)) (now (env .entry)) (exprAt (now (s .entry)) n) r ⌝ }
     ensures { λ r. ⌜ now (env .exit) ≡ now (env .entry) ⌝ }
 {
     let kind = node_word(s, n, 0);
     match kind {
-        1 => infer_var(s, env, n),
-        2 => infer_select(s, starts, env, n),
-        3 => infer_update(s, starts, forks, env, n),
-        4 => infer_call(s, starts, forks, env, n),
-        5 => infer_let(s, starts, forks, env, n),
+        1 => infer_var(s, facts, env, n),
+        2 => infer_select(s, starts, facts, env, n),
+        3 => infer_update(s, starts, facts, env, n),
+        4 => infer_call(s, starts, facts, env, n),
+        5 => infer_let(s, starts, facts, env, n),
         6 => Answer::Typed(node_word(s, n, 1)),
-        7 => infer_cast(s, starts, forks, env, n),
-        8 => infer_fork(s, starts, forks, env, n),
-        9 => infer_lock(s, starts, forks, env, n),
+        7 => infer_cast(s, starts, facts, env, n),
+        8 => infer_fork(s, starts, facts, env, n),
+        9 => infer_lock(s, starts, facts, env, n),
         _ => Answer::Faulty(Question::Nulls, n),
     }
 }
 
 // Has node n the type t? A null has every type, and any other node the types that its own is below.
-pub fn check(s: &[u8], starts: &[u16], forks: &[u8], env: &mut [u16], n: u16, t: u16) -> Answer
-    requires { ⌜ At (now s) (now starts) (now forks) (now env) n ⌝ }
-    ensures { λ r. ⌜ Checked (now (s .entry)) (now (env .entry)) (exprAt (now (s .entry)) n) t r ⌝ }
+pub fn check(s: &[u8], starts: &[u16], facts: &[u16], env: &mut [u16], n: u16, t: u16) -> Answer
+    requires { ⌜ At (now s) (now starts) (now facts) (now env) n ⌝ }
+    ensures { λ r. ⌜ Checked (now (s .entry)) (now (facts .entry)) (now (env .entry)) (exprAt (now (s .entry)) n) t r ⌝ }
     ensures { λ r. ⌜ now (env .exit) ≡ now (env .entry) ⌝ }
 {
     let kind = node_word(s, n, 0);
     if kind == 0 {
         return Answer::Typed(t);
     }
-    let r = infer(s, starts, forks, env, n);
+    let r = infer(s, starts, facts, env, n);
     let Answer::Typed(u) = r else {
         return r;
     };

@@ -3,8 +3,4 @@ mod expressions;
 mod program;
 
 pub use expressions::infer;
-pub use program::name_bound;
 pub use program::walk_script;
-
-// As many variable names as most scripts are content with.
-pub const FEW_NAMES: usize = 1024;

@@ -20,9 +20,9 @@ use Rattle.machine.specs.Config.{Object, Tree, running, returning, failed, join
 use Rattle.machine.specs.Machine.{object, oneIf, lockFrames}
 use Rattle.machine.specs.WellFormed.{lockCount, failures, shutAt}
 use Rattle.machine.specs.Decide.{lockList, distinctTest, numbersBelow}
-use Rattle.machine.proofs.Ends.{frames-append}
+use Rattle.soundness.proofs.Ends.{frames-append}
 use Rattle.machine.proofs.Locks.{lock-listed}
-use Rattle.machine.proofs.Stores.{shutAt-object}
+use Rattle.soundness.proofs.Stores.{shutAt-object}
 use Rattle.block.specs.declared.Area.{Area}
 use Rattle.block.specs.declared.Area.the-variants.{Objects, Positions, Frames}
 use Rattle.block.specs.Layout.{width, counted, wordIn, rowsIn, SHUT}

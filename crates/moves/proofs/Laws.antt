@@ -19,32 +19,24 @@ use Rattle.block.specs.declared.Area.the-variants.{Objects}
 use Rattle.block.specs.Layout.{counted}
 use Rattle.block.specs.Block.{preorder, framesOf, Parts, laid}
 use Rattle.representation.specs.Changed.{withObjects}
-use Rattle.tree.specs.declared.Tree.{Tree}
 use Rattle.tree.specs.declared.Fold.{Fold}
 use Rattle.tree.specs.declared.Fold.the-variants.{GoesOn as goes-on}
-use Rattle.tree.specs.Parts.{Stands}
 use Rattle.tree.specs.Phases.{outcomeOf, FoldAt}
 use Rattle.environments.specs.declared.Lookup.{Lookup}
 use Rattle.environments.specs.declared.Lookup.the-variants.{Unbound, Bound}
 use Rattle.environments.specs.Chains.{bindingsIn, lookupOf}
 use Rattle.moves.proofs.FieldValues.{initials-are}
 use Rattle.environments.proofs.LaidLaws.{bindings-read}
-use Rattle.state.specs.Represents.{partsIn, Rest, StateAt, SomeState}
-use Rattle.state.proofs.Seeing.{lying, objects-counted, seen-inside}
-use Rattle.state.proofs.Moves.{seen-objects}
-use Rattle.moves.specs.declared.Step.{Step}
+use Rattle.state.specs.Represents.{partsIn, Rest, StateAt}
+use Rattle.state.specs.Positions.{entriesIn}
+use Rattle.state.proofs.Seeing.{objects-counted, seen-part}
+use Rattle.state.proofs.Moves.{lies, seen-objects}
+use Rattle.moves.specs.declared.Effect.{Effect}
 use Rattle.moves.specs.Performs.{Performs}
 
 -- the environment in the block is that of the stores
-pub scope-read : {b : List ℕ} {self : Tree} {i : ℕ} {x : Rest} {st : Stores} {u : machine.Tree} → StateAt b self i x st u → bindingsIn b ≡ st .bindings
-scope-read {x = x} {st = st} {u = u} s = bindings-read (partsIn st (x .positions) (x .outer ++ (framesOf u ++ x .later))) (s .block) (s .few) (st .bindings) refl
-
--- something is seen, so a part stands there
-pub stands : {b : List ℕ} {self : Tree} {i : ℕ} → SomeState b self i → Stands self i
-stands s = record { before = s .rest .before; part = s .part; after = s .rest .after; there = s .seen .there }
-
-pub inside : {b : List ℕ} {self : Tree} {i : ℕ} → SomeState b self i → i < self .len
-inside s = seen-inside (s .seen)
+pub scope-read : {b : List ℕ} {i : ℕ} {x : Rest} {st : Stores} {u : machine.Tree} → StateAt b i x st u → bindingsIn b ≡ st .bindings
+scope-read {x = x} {st = st} {u = u} s = bindings-read (partsIn st (s .positions) (x .outer ++ (framesOf u ++ x .later))) (s .block) (s .few) (st .bindings) refl
 
 busy-not : busy ≡ finished → ⊥
 busy-not e = let z : _≡_ {A = ℕ} 0 1 = ap told e in omega arith
@@ -83,7 +75,7 @@ bound none found v e h = absurd (unbound-not (sym e ∙ h))
 bound (some y) found v e h = record { binding = y; there = refl; is = bound-same (sym e ∙ h) }
 
 -- the look-up in the block is that in the stores
-pub looked : {b : List ℕ} {self : Tree} {i : ℕ} {x : Rest} {st : Stores} {u : machine.Tree} (env n : ℕ) (found : Lookup) → StateAt b self i x st u
+pub looked : {b : List ℕ} {i : ℕ} {x : Rest} {st : Stores} {u : machine.Tree} (env n : ℕ) (found : Lookup) → StateAt b i x st u
     → found ≡ lookupOf (find (scope (bindingsIn b) env) n) → found ≡ lookupOf (find (scope (st .bindings) env) n)
 looked env n found s e = e ∙ ap (λ (bs : List Binding). lookupOf (find (scope bs env) n)) (scope-read s)
 
@@ -116,7 +108,7 @@ both-finished st fs a e busy broken h = let z : _≡_ {A = ℕ} 4 2 = ap outcome
 both-finished st fs a e busy busy h = let z : _≡_ {A = ℕ} 0 2 = ap outcomeNumber h in absurd (omega arith)
 
 -- a move comes to what its outcome is
-pub performs-as : {b after : List ℕ} {self : Tree} {i : ℕ} {x : Rest} {r : Step} {o q : Outcome} → o ≡ q → Performs b self i x q after r → Performs b self i x o after r
+pub performs-as : {b after : List ℕ} {i : ℕ} {x : Rest} {r : Effect} {o q : Outcome} → o ≡ q → Performs b i x q after r → Performs b i x o after r
 performs-as e came = rw e came
 
 -- the places left in a store that has n records of at most `most`: none, or one at least
@@ -127,7 +119,7 @@ pub some-room : {most n k : ℕ} → n ≡ k → n < most → most - k ≡ suc (
 some-room h l = omega arith
 
 -- a variable's value
-module _ {b : List ℕ} {self : Tree} {i : ℕ} {x : Rest} {st : Stores} {u : machine.Tree} (fs : List Frame) (env n : ℕ) (found : Lookup) (s : StateAt b self i x st u)
+module _ {b : List ℕ} {i : ℕ} {x : Rest} {st : Stores} {u : machine.Tree} (fs : List Frame) (env n : ℕ) (found : Lookup) (s : StateAt b i x st u)
     (e : found ≡ lookupOf (find (scope (bindingsIn b) env) n)) where
   pub gives-not : found ≡ Unbound → give st fs (find (scope (st .bindings) env) n) ≡ still
   gives-not h = rw (not-bound (find (scope (st .bindings) env) n) found (looked env n found s e) h)
@@ -142,10 +134,10 @@ pub makes : (st : Stores) (fs : List Frame) (s : Code) (c n k : ℕ) → n ≡ k
 makes st fs s c n k h l m = rw (some-room h l, ← m)
 
 -- a join, by how its sides stand
-module _ {b : List ℕ} {self : Tree} {i : ℕ} {x : Rest} {st : Stores} {fs : List Frame} {a e : ℕ} {l r : machine.Tree} {how k : Fold} (at : FoldAt self i how) (told : how ≡ k)
-    (s : StateAt b self i x st (join fs a e l r)) where
+module _ {b : List ℕ} {i : ℕ} {x : Rest} {st : Stores} {fs : List Frame} {a e : ℕ} {l r : machine.Tree} {how k : Fold} (at : FoldAt (entriesIn b) i how) (told : how ≡ k)
+    (s : StateAt b i x st (join fs a e l r)) where
   pub folds : fold st fs a e (phase l) (phase r) ≡ outcomeOf k st fs a e
-  folds = at .joins (s .there) st ∙ ap (λ (f : Fold). outcomeOf f st fs a e) told
+  folds = at .joins (seen-part s) st ∙ ap (λ (f : Fold). outcomeOf f st fs a e) told
 
   pub sides-empty : k ≡ goes-on → (framesOf l ≡ []) × (framesOf r ≡ [])
   sides-empty g =
@@ -154,15 +146,15 @@ module _ {b : List ℕ} {self : Tree} {i : ℕ} {x : Rest} {st : Stores} {fs : L
 
 -- one object more, as `new` makes it
 pub objects-more :
-    {b after : List ℕ} {self : Tree} {i : ℕ} {x : Rest} {st : Stores} {u : machine.Tree} (s : Code) (c n : ℕ)
-    → StateAt b self i x st u
+    {b after : List ℕ} {i : ℕ} {x : Rest} {st : Stores} {u : machine.Tree} (s : Code) (c n : ℕ)
+    → StateAt b i x st u
     → n ≡ counted b Objects
     → n < OBJECTS
     → ((p : Parts) (m : ℕ) → b ≡ bytes (laid p) → after ≡ bytes (laid (withObjects p (p .objects ++ record { class = c; shut = false; fields = replicate m nil } ∷ []))))
-    → StateAt after self i x (record { objects = st .objects ++ record { class = c; shut = false; fields = initials (s .program) (fieldsOf (s .program) c) } ∷ []; bindings = st .bindings }) u
+    → StateAt after i x (record { objects = st .objects ++ record { class = c; shut = false; fields = initials (s .program) (fieldsOf (s .program) c) } ∷ []; bindings = st .bindings }) u
 objects-more {x = x} {st = st} {u = u} s c n seen h l made =
     let ds = fieldsOf (s .program) c in
     let y : Object = record { class = c; shut = false; fields = initials (s .program) ds } in
     seen-objects seen (st .objects ++ y ∷ [])
     (omega (arith, length-append (st .objects) (y ∷ []), objects-counted seen))
-    (rw (initials-are (s .program) ds) (made (lying x st (framesOf u)) (length ds) (seen .block)))
+    (rw (initials-are (s .program) ds) (made (lies seen) (length ds) (seen .block)))

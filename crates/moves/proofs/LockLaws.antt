@@ -15,13 +15,12 @@ use Rattle.machine.specs.Config.{Object, Stores, running}
 use Rattle.machine.specs.Machine.{object, setShut, lockFrames, still, moved, withShut as shutIn, enter, shutAndEnter, lockObject}
 use Rattle.block.specs.declared.Area.the-variants.{Objects, Frames}
 use Rattle.block.specs.Layout.{counted, wordIn}
-use Rattle.block.specs.Block.{shutWord, framesOf, Parts, laid}
+use Rattle.block.specs.Block.{shutWord, Parts, laid}
 use Rattle.representation.specs.Changed.{withObjects, withShut}
-use Rattle.tree.specs.declared.Tree.{Tree}
 use Rattle.environments.proofs.LaidLaws.{shut-set}
 use Rattle.state.specs.Represents.{Rest, StateAt}
-use Rattle.state.proofs.Seeing.{lying, objects-counted, frames-counted, seen-few}
-use Rattle.state.proofs.Moves.{seen-objects}
+use Rattle.state.proofs.Seeing.{objects-counted, frames-counted, seen-few}
+use Rattle.state.proofs.Moves.{lies, seen-objects}
 use Rattle.moves.specs.declared.Access.{Access}
 use Rattle.moves.specs.declared.Access.the-variants.{Stays, Null, Open, Held}
 use Rattle.moves.proofs.TargetLaws.{blank-object, object-word}
@@ -34,26 +33,26 @@ some-held m e = omega (arith, ltb-true 0 m e)
 
 -- an object shut or opened in the block
 pub shut-changes :
-    {b after : List ℕ} {self : Tree} {i : ℕ} {x : Rest} {st : Stores} {u : machine.Tree} (o : ℕ) (q : Bool)
-    → StateAt b self i x st u
+    {b after : List ℕ} {i : ℕ} {x : Rest} {st : Stores} {u : machine.Tree} (o : ℕ) (q : Bool)
+    → StateAt b i x st u
     → o < counted b Objects
     → ((p : Parts) (d : Object) → b ≡ bytes (laid p) → o < length (p .objects) → after ≡ bytes (laid (withObjects p (set (p .objects) o (withShut (getD (p .objects) o d) q)))))
-    → StateAt after self i x (shutIn q st o) u
+    → StateAt after i x (shutIn q st o) u
 shut-changes {x = x} {st = st} {u = u} o q seen l put =
     let e = shut-set q (st .objects) o blank-object in
     let m : length (setShut q (st .objects) o) ≡ length (st .objects) = ap length e ∙ length-set (st .objects) o (withShut (getD (st .objects) o blank-object) q) in
     seen-objects seen (setShut q (st .objects) o) (omega (arith, m, objects-counted seen, seen-few seen Objects))
-    (rw e (put (lying x st (framesOf u)) blank-object (seen .block) (omega (arith, objects-counted seen))))
+    (rw e (put (lies seen) blank-object (seen .block) (omega (arith, objects-counted seen))))
 
 -- the frames are as many as before
-pub frames-kept : {b after : List ℕ} {self r : Tree} {i : ℕ} {x : Rest} {st su : Stores} {u : machine.Tree} → StateAt b self i x st u → StateAt after r i x su u → counted after Frames ≡ counted b Frames
+pub frames-kept : {b after : List ℕ} {i : ℕ} {x : Rest} {st su : Stores} {u : machine.Tree} → StateAt b i x st u → StateAt after i x su u → counted after Frames ≡ counted b Frames
 frames-kept s t = frames-counted t ∙ sym (frames-counted s)
 
 -- a lock on the object o, which is y: open, or shut and held by this thread or not
-module _ {b : List ℕ} {self : Tree} {i : ℕ} {x : Rest} {st : Stores} {u : machine.Tree} (above fs : List Frame) (a env k o : ℕ) (y : Object) (seen : StateAt b self i x st u)
+module _ {b : List ℕ} {i : ℕ} {x : Rest} {st : Stores} {u : machine.Tree} (above fs : List Frame) (a env k o : ℕ) (y : Object) (seen : StateAt b i x st u)
     (there : object (st .objects) o ≡ some y) (word : ℕ) (w : word ≡ wordIn b Objects o 1) where
   told : word ≡ shutWord (y .shut)
-  told = object-word (lying x st (framesOf u)) y o 1 word (seen .block) (seen .few) there (omega arith) w
+  told = object-word (lies seen) y o 1 word (seen .block) (seen .few) there (omega arith) w
 
   is-open : (q : Bool) → word ≡ shutWord q → word ≡ 0 → q ≡ false
   is-open true e z = absurd (omega arith)

@@ -4,22 +4,21 @@ use mathlib.Core.Option.{some}
 use mathlib.Core.List.{List}
 use Prim.Native.Nat.{ℕ, _<_}
 use native.Mathlib.Omega.{arith}
-use lib.ListN.{length, getD}
 use Rattle.machine.specs.Config as machine
 use Rattle.machine.specs.Config.{running, returning, failed, join, Config}
-use Rattle.machine.specs.Machine.{Path, left, right, size}
+use Rattle.machine.specs.Machine.{Path}
+use Rattle.block.specs.declared.Area.the-variants.{Positions}
+use Rattle.block.specs.Layout.{counted}
 use Rattle.block.specs.Block.{waiting}
 use Rattle.representation.proofs.Preorder.{named-below, named}
 use Rattle.tree.specs.declared.Cell.{Cell}
 use Rattle.tree.specs.declared.Cell.the-variants.{Failed, Running, Returning, Join}
 use Rattle.tree.specs.declared.Entry.{Entry}
-use Rattle.tree.specs.declared.Tree.{Tree}
-use Rattle.tree.specs.Entries.{cellOf, blank}
-use Rattle.tree.proofs.Trees.{entries-length}
-use Rattle.tree.proofs.Parts.{used-length}
+use Rattle.tree.specs.Entries.{cellOf}
 use Rattle.state.specs.Represents.{Represents}
+use Rattle.state.specs.Positions.{entryAt}
 use Rattle.state.proofs.Seeing.{seen-entry}
-use Rattle.state.proofs.Glue.{around, seen-there}
+use Rattle.state.proofs.Glue.{around, seen-there, positions-many}
 use Rattle.moves.specs.Performs.{AtPosition}
 
 pub same-part : {t u : machine.Tree} → some t ≡ some u → t ≡ u
@@ -43,30 +42,25 @@ root-is (returning v fs) = refl
 root-is failed = refl
 root-is (join fs a e l r) = record { left = l; right = r; is = refl }
 
--- there are as many positions as entries
-pub hand-size : {b : List ℕ} {self : Tree} {c : Config} → Represents b self c → size (c .tree) ≡ self .len
-hand-size {self = self} {c = c} h = omega (arith, used-length self (h .tree .tidy), ap length (h .tree .same), entries-length (c .tree))
-
 -- the part that choice n names
-pub record ChosenPart {b : List ℕ} {self : Tree} {c : Config} (h : Represents b self c) (n : ℕ) : Type 0 where
+pub record ChosenPart (b : List ℕ) (c : Config) (n : ℕ) : Type 0 where
   pub place : Path
   pub tree : machine.Tree
-  pub is : AtPosition b self n c place tree (around h n tree)
+  pub is : AtPosition b n c place tree (around c n tree)
 
-module _ {b : List ℕ} {self : Tree} {c : Config} (n : ℕ) (h : Represents b self c) where
-  pub chosen-at : n < self .len → ChosenPart h n
-  chosen-at l =
-      let q = named-below (c .tree) n .1 (omega (arith, hand-size h)) in
-      let y = named (c .tree) n (q .0) (q .1) in
-      record {
-        place = q .0;
-        tree = y .tree;
-        is = record { represents = h; named = q .1; there = y .there; seen = seen-there h n (q .0) (y .tree) (q .1) (y .there) };
-      }
+pub chosen-at : {b : List ℕ} {c : Config} (n : ℕ) → Represents b c → n < counted b Positions → ChosenPart b c n
+chosen-at {c = c} n h l =
+    let q = named-below (c .tree) n .1 (omega (arith, positions-many h)) in
+    let y = named (c .tree) n (q .0) (q .1) in
+    record {
+      place = q .0;
+      tree = y .tree;
+      is = record { represents = h; named = q .1; there = y .there; seen = seen-there c n (q .0) (y .tree) (q .1) (y .there) h };
+    }
 
-module _ {b : List ℕ} {self : Tree} {c : Config} {h : Represents b self c} {n : ℕ} (t : ChosenPart h n) where
-  pub root-told : {k : Cell} → getD (self .entries) n blank .cell ≡ k → RootIs k (t .tree)
+module _ {b : List ℕ} {c : Config} {n : ℕ} (t : ChosenPart b c n) where
+  pub root-told : {k : Cell} → entryAt b n .cell ≡ k → RootIs k (t .tree)
   root-told e = subst (λ (k : Cell). RootIs k (t .tree)) (sym (ap (λ (y : Entry). y .cell) (seen-entry (t .is .seen))) ∙ e) (root-is (t .tree))
 
-  pub here-told : {u : machine.Tree} → t .tree ≡ u → AtPosition b self n c (t .place) u (around h n (t .tree))
-  here-told e = subst (λ (u : machine.Tree). AtPosition b self n c (t .place) u (around h n (t .tree))) e (t .is)
+  pub here-told : {u : machine.Tree} → t .tree ≡ u → AtPosition b n c (t .place) u (around c n (t .tree))
+  here-told e = subst (λ (u : machine.Tree). AtPosition b n c (t .place) u (around c n (t .tree))) e (t .is)

@@ -1,53 +1,48 @@
 -- What a well-formed configuration gives the moves' contracts, where it is seen in a block.
-use mathlib.Core.Path.{_≡_}
-use mathlib.Core.List.{List, List·Memᴰ·not-nil}
+use mathlib.Core.Path.{_≡_, refl}
+use mathlib.Core.Bool.{Bool, true, false, cond}
+use mathlib.Core.List.{List, [], _∷_}
+use mathlib.Core.Option.{Option, some, Option·none-ne-some}
 use Prim.Native.Nat.{ℕ, zero, suc, _<_, _≤_}
 use native.Mathlib.Omega.{arith}
 use native.Mathlib.Decide.{decLt}
+use lib.Dec.{eqb}
 use lib.ListN.{length}
 use Rattle.script.specs.declared.Section.the-variants.{Interfaces as interfaces, Classes as classes, Nodes as nodes}
 use Rattle.script.specs.Section.{countOf}
-use Rattle.script.specs.Lists.{named}
+use Rattle.script.specs.Lists.{Every, named}
 use Rattle.script.specs.Syntax.{n-bind}
 use Rattle.script.specs.Reading.{viewAt, programOf}
 use Rattle.script.specs.Statements.{WithinLayout}
 use Rattle.script.proofs.Reading.{first, in-order}
 use Rattle.script.proofs.Declarations.{length-interfaces, length-classes}
-use Rattle.typing.specs.Members.{typeIn}
-use Rattle.typing.specs.Published.{WfEnv, WF-ENV}
+use Rattle.typing.specs.Published.{WfEnv}
 use Rattle.members.specs.Tables.{Starts}
-use Rattle.sharing.specs.Tables.{Forks}
-use Rattle.inference.specs.Tables.{Named}
+use Rattle.names.specs.Ranks.{RANKS}
+use Rattle.names.specs.Facts.{Facts}
+use Rattle.inference.specs.Tables.{Zeros}
 use Rattle.inference.specs.At.{Blank}
 use Rattle.machine.specs.declared.Value.{Value}
 use Rattle.machine.specs.declared.Want.{Want}
+use Rattle.machine.specs.declared.Want.the-variants.{Upto as upto}
 use Rattle.machine.specs.Config as machine
 use Rattle.machine.specs.Config.{Code, codeOf, Object, Binding, Stores}
-use Rattle.machine.specs.Machine.{context}
-use Rattle.machine.specs.WellFormed.{ValueFits, fits-nil, fits-ref, BindingOk, BindingsOk, a-binding, StoresOk}
-use Rattle.machine.proofs.Stores.{object-below, fields-long}
+use Rattle.machine.specs.Machine.{scope, context, find}
+use Rattle.machine.specs.WellFormed.{ValueFits, fits-nil, fits-ref, BindingOk, BindingsOk, no-bindings, a-binding, StoresOk}
+use Rattle.soundness.proofs.Stores.{object-below, fields-long}
 use Rattle.machine.proofs.Decide.{context-wf}
 use Rattle.block.specs.declared.Area.the-variants.{Objects, Bindings}
 use Rattle.block.specs.Values.{Storable}
-use Rattle.tree.specs.declared.Tree.{Tree}
-use Rattle.environments.specs.Chains.{bindingCount, bindingAt, newest, bindingsIn, Chain, Typed, Zeros}
+use Rattle.environments.specs.Chains.{bindingCount, bindingAt, newest, bindingsIn, lookupOf, Chain, Typed}
 use Rattle.environments.proofs.ChainLaws.{length-newest}
 use Rattle.state.specs.Represents.{Rest, StateAt}
 use Rattle.state.proofs.Seeing.{seen-length, seen-few, objects-counted, bindings-counted}
-use Rattle.moves.specs.Performs.{OwnFields}
-use Rattle.moves.proofs.Laws.{scope-read}
+use Rattle.moves.specs.Performs.{OwnFields, WordBound}
+use Rattle.moves.proofs.Laws.{scope-read, bound, looked}
 
 -- the script's tables, with no variable bound
-pub blank-tables : {s starts forks table : List ℕ} → WithinLayout s → Starts s starts → Forks s forks → Named s (length table) → Zeros table → Blank s starts forks table
-unfolding typeIn named
-blank-tables w r f n z =
-    record {
-      within = w;
-      runs = r;
-      sharing = f;
-      names = n;
-      empty = record { types = WF-ENV (λ b m. absurd (List·Memᴰ·not-nil m)); holds = λ x l. z x };
-    }
+pub blank-tables : {s starts facts table : List ℕ} → WithinLayout s → Starts s starts → Facts s facts → length table ≡ RANKS → Zeros table → Blank s starts facts table
+blank-tables w r f n z = record { within = w; runs = r; known = f; size = n; zeros = z }
 
 -- the first part of a let is a node
 pub let-part : {s : List ℕ} (n x a b : ℕ) → WithinLayout s → n < countOf s nodes → viewAt s n ≡ n-bind x a b → a < countOf s nodes
@@ -66,7 +61,28 @@ newest-ok f (suc n) i h (a-binding k ok) =
       | no l ↦ let e : i ≡ n = omega arith in rw e (rw (length-newest f n) at k)
     ]
 
-module _ {b : List ℕ} {self : Tree} {i : ℕ} {x : Rest} {st : Stores} {u : machine.Tree} (seen : StateAt b self i x st u) where
+-- what a variable holds fits a type
+abbrev Fitting : Code → List Object → Binding → Type 0
+Fitting s xs y = ValueFits s xs (y .value) (upto (y .type))
+
+every-either : {A : Type 0} (P : A → Type 0) (q : Bool) (l m : List A) → Every P l → Every P m → Every P (cond q l m)
+every-either P true l m p r = p
+every-either P false l m p r = r
+
+scope-fits : {s : Code} {xs : List Object} {bs : List Binding} → BindingsOk s xs bs → (e : ℕ) → Every (Fitting s xs) (scope bs e)
+scope-fits no-bindings e = _
+scope-fits {s} {xs} (a-binding {b = b} {bs = bs} h ok) e = every-either (Fitting s xs) (eqb e (suc (length bs))) (b ∷ scope bs (b .link)) (scope bs e) (h .value, scope-fits ok (b .link)) (scope-fits ok e)
+
+found-first : (P : Binding → Type 0) (q : Bool) (d y : Binding) (r : Option Binding) → P d → (r ≡ some y → P y) → cond q (some d) r ≡ some y → P y
+found-first P true d y r p k e = let same : d ≡ y = cc in rw same at p
+found-first P false d y r p k e = k e
+
+found-every : (P : Binding → Type 0) (l : List Binding) (x : ℕ) (y : Binding) → Every P l → find l x ≡ some y → P y
+unfolding named
+found-every P [] x y p e = absurd (Option·none-ne-some _ e)
+found-every P (d ∷ l) x y p e = found-first P (eqb (d .name) x) d y (find l x) (p .0) (found-every P l x y (p .1)) e
+
+module _ {b : List ℕ} {i : ℕ} {x : Rest} {st : Stores} {u : machine.Tree} (seen : StateAt b i x st u) where
   -- a value of the stores is a word
   pub value-word : {s : Code} {v : Value} {w : Want} → ValueFits s (st .objects) v w → Storable v
   value-word (fits-nil m) = omega arith
@@ -94,3 +110,9 @@ module _ {b : List ℕ} {self : Tree} {i : ℕ} {x : Rest} {st : Stores} {u : ma
 
     pub seen-env : (e : ℕ) → WfEnv (programOf s) (context (bindingsIn b) e)
     seen-env e = rw (scope-read seen) (context-wf ok e)
+
+    -- what a variable holds is a word
+    pub seen-words : (e : ℕ) → WordBound b e
+    seen-words e n v q =
+        let y = bound (find (scope (st .bindings) e) n) (lookupOf (find (scope (bindingsIn b) e) n)) v (looked e n (lookupOf (find (scope (bindingsIn b) e) n)) seen refl) q in
+        rw (y .is) at (value-word (found-every (Fitting (codeOf s) (st .objects)) (scope (st .bindings) e) n (y .binding) (scope-fits ok e) (y .there)))

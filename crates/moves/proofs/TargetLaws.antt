@@ -18,7 +18,6 @@ use Rattle.block.specs.declared.Area.the-variants.{Objects}
 use Rattle.block.specs.Layout.{width, counted, wordIn}
 use Rattle.block.specs.Block.{objectWords, Parts, laid}
 use Rattle.block.specs.Fits.{Few}
-use Rattle.tree.specs.declared.Tree.{Tree}
 use Rattle.environments.specs.declared.Lookup.{Lookup}
 use Rattle.environments.specs.declared.Lookup.the-variants.{Unbound, Bound}
 use Rattle.environments.specs.Chains.{lookupOf}
@@ -44,7 +43,7 @@ object-word p y o j word is few there l w =
     w ∙ object-cell p is few o j blank-object (r .0) l ∙ ap (λ (z : Object). getD (objectWords z) j 0) (r .1)
 
 -- what the code finds, q being the binding of the target variable
-module _ {b : List ℕ} {self : Tree} {i : ℕ} {x : Rest} {st : Stores} {u : machine.Tree} (seen : StateAt b self i x st u) (q : Option Binding) (found : Lookup) (e : found ≡ lookupOf q) where
+module _ {b : List ℕ} {i : ℕ} {x : Rest} {st : Stores} {u : machine.Tree} (seen : StateAt b i x st u) (q : Option Binding) (found : Lookup) (e : found ≡ lookupOf q) where
   pub finds-nothing : found ≡ Unbound → TargetIs (st .objects) q Unbound
   finds-nothing h = rw (not-bound q found e h) target-unbound
 
@@ -107,7 +106,7 @@ object-found (target-null v) h k = absurd (null-not (bound-same h ∙ k))
 object-found (target-object {d = d} v there) h k = record { object = d; there = rw (← ref-same (bound-same h ∙ k)) there }
 
 -- it is one of the block
-pub found-below : {b : List ℕ} {self : Tree} {i : ℕ} {x : Rest} {st : Stores} {u : machine.Tree} {o : ℕ} → StateAt b self i x st u → FoundObject (st .objects) o
+pub found-below : {b : List ℕ} {i : ℕ} {x : Rest} {st : Stores} {u : machine.Tree} {o : ℕ} → StateAt b i x st u → FoundObject (st .objects) o
     → (o < counted b Objects) × (o < OBJECTS)
 found-below {st = st} {o = o} seen a =
     let l = object-is (st .objects) o (a .object) blank-object (a .there) .0 in

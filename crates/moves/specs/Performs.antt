@@ -1,4 +1,4 @@
--- What a move of one position comes to in the block and the tree.
+-- What a move of one position comes to in the block.
 use Prim.Native.Nat.{ℕ}
 use mathlib.Core.Path.{_≡_}
 use mathlib.Core.List.{List}
@@ -11,40 +11,46 @@ use Rattle.machine.specs.declared.Store.{Store}
 use Rattle.machine.specs.Config as machine
 use Rattle.machine.specs.Config.{Code, codeOf, Object, Stores, returning, Config}
 use Rattle.typing.specs.Members.{fieldsOf}
-use Rattle.machine.specs.Machine.{object, Outcome, still, full, moved, Path, locate, part}
+use Rattle.machine.specs.Machine.{scope, find, object, Outcome, still, full, moved, Path, locate, part}
+use Rattle.machine.specs.Accepted.{AcceptedCode}
 use Rattle.machine.specs.WellFormed.{StoresOk, TreeOk}
-use Rattle.tree.specs.declared.Tree.{Tree}
+use Rattle.block.specs.Values.{Storable}
 use Rattle.environments.specs.declared.Lookup.{Lookup}
 use Rattle.environments.specs.declared.Lookup.the-variants.{Unbound, Bound}
+use Rattle.environments.specs.Chains.{bindingsIn, lookupOf}
 use Rattle.state.specs.Represents.{Represents, Rest, StateAt}
+use Rattle.moves.specs.declared.Effect.{Effect}
 use Rattle.moves.specs.declared.Effect.the-variants.{Still, Moved, Full}
-use Rattle.moves.specs.declared.Step.{Step}
 
--- The block and the answer after the machine's outcome for the part at position i, where the block was b and the tree `self`; all else is x and stays. "that
--- move not made"
-pub data Performs (b : List ℕ) (self : Tree) (i : ℕ) (x : Rest) : Outcome → List ℕ → Step → Type 0 where
-  performs-still : Performs b self i x still b (record { effect = Still; tree = self })
-  performs-full : {k : Store} → Performs b self i x (full k) b (record { effect = Full k; tree = self })
-  performs-moved : {after : List ℕ} {tree : Tree} {st : Stores} {w : machine.Tree} → StateAt after tree i x st w
-      → Performs b self i x (moved st w) after (record { effect = Moved; tree = tree })
+-- The block and the answer after the machine's outcome for the part at position i, where the block was b; all else is x and stays. "that move not made"
+pub data Performs (b : List ℕ) (i : ℕ) (x : Rest) : Outcome → List ℕ → Effect → Type 0 where
+  performs-still : Performs b i x still b Still
+  performs-full : {k : Store} → Performs b i x (full k) b (Full k)
+  performs-moved : {after : List ℕ} {st : Stores} {w : machine.Tree} → StateAt after i x st w → Performs b i x (moved st w) after Moved
 
--- The block b and the tree `self` are the configuration c, and choice i names the place p of the part u; all else is x.
-pub record AtPosition (b : List ℕ) (self : Tree) (i : ℕ) (c : Config) (p : Path) (u : machine.Tree) (x : Rest) : Type 0 where
-  pub represents : Represents b self c
+-- The block b is the configuration c, and choice i names the place p of the part u; all else is x.
+pub record AtPosition (b : List ℕ) (i : ℕ) (c : Config) (p : Path) (u : machine.Tree) (x : Rest) : Type 0 where
+  pub represents : Represents b c
   pub named : locate (c .tree) i ≡ some p
   pub there : part (c .tree) p ≡ some u
-  pub seen : StateAt b self i x (c .stores) u
+  pub seen : StateAt b i x (c .stores) u
 
--- The part at position i is a thread with the value v, in a configuration of the script s that is formed.
-pub record Resumes (s b : List ℕ) (self : Tree) (i : ℕ) (v : Value) : Type 0 where
+-- The part at position i is a thread with the value v, in a configuration of the accepted script s that is formed.
+pub record Resumes (s b : List ℕ) (i : ℕ) (v : Value) : Type 0 where
   pub config : Config
   pub path : Path
   pub frames : List Frame
   pub rest : Rest
   pub want : Want
-  pub here : AtPosition b self i config path (returning v frames) rest
+  pub here : AtPosition b i config path (returning v frames) rest
   pub stores : StoresOk (codeOf s) (config .stores)
   pub formed : TreeOk (codeOf s) (config .stores) want (returning v frames)
+  pub type : ℕ
+  pub accepted : AcceptedCode (codeOf s) type
+
+-- "All words are unsigned 16-bit": what a variable of the environment holds is one.
+abbrev pub WordBound : List ℕ → ℕ → Type 0
+WordBound b env = (x : ℕ) (v : Value) → lookupOf (find (scope (bindingsIn b) env) x) ≡ Bound v → Storable v
 
 -- Every object has a value for each field of its class.
 abbrev pub OwnFields : Code → List Object → Type 0

@@ -1,4 +1,4 @@
-// What a thread at a node does when it is chosen, and a join, in the block and the tree.
+// What a thread at a node does when it is chosen, and a join, in the block.
 mod control;
 mod fields;
 mod locking;
@@ -14,11 +14,7 @@ pub use locking::enter_lock;
 pub use locking::lock_access;
 use machine::Store;
 pub use steps::fails;
-pub use steps::full;
-pub use steps::moved;
-pub use steps::stays;
 pub use targets::target_of;
-use tree::Tree;
 pub use values::become_null;
 pub use values::give_value;
 pub use values::make_object;
@@ -28,12 +24,6 @@ pub enum Effect {
     Still,
     Moved,
     Full(Store),
-}
-
-// The tree after it.
-pub struct Step {
-    pub effect: Effect,
-    pub tree: Tree,
 }
 
 // What a thread finds at a lock: it cannot move, the target is null, or an object that is open or that it holds.

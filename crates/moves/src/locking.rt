@@ -1,10 +1,7 @@
 // The move of a lock.
 use crate::Access;
-use crate::Step;
+use crate::Effect;
 use crate::fails;
-use crate::full;
-use crate::moved;
-use crate::stays;
 use crate::target_of;
 use block::Area;
 use block::Layout;
@@ -14,7 +11,6 @@ use machine::Frame;
 use machine::Store;
 use machine::Value;
 use tree::Cell;
-use tree::Tree;
 ghost use mathlib.Core.Path.{_≡_};
 ghost use mathlib.Core.List.{List, []};
 ghost use Prim.Native.Nat.{ℕ, _-_, _<_};
@@ -32,27 +28,28 @@ ghost use Rattle.moves.specs.Performs.{Performs, AtPosition};
 ghost use Rattle.moves.specs.Targets.{entered};
 
 // "open shuts and leaves a lock frame"
-fn shut_object(block: &mut [u8], tree: Tree, i: usize, env: u16, a: u16, o: u16) -> Step
-    requires { ⌜ SomeState (now block) tree i × (o < counted (now block) Objects) ⌝ }
+fn shut_object(block: &mut [u8], i: usize, env: u16, a: u16, o: u16) -> Effect
+    requires { ⌜ SomeState (now block) i × (o < counted (now block) Objects) ⌝ }
     ensures { λ r. ⌜
         ((x : Rest) (st : Stores) (a₀ : ℕ) (fs : List Frame) →
-        StateAt (now (block .entry)) tree i x st (running a₀ env fs) →
-        Performs (now (block .entry)) tree i x (shutAndEnter st fs a env o (FRAMES - counted (now (block .entry)) Frames)) (now (block .exit)) r)
+        StateAt (now (block .entry)) i x st (running a₀ env fs) →
+        Performs (now (block .entry)) i x (shutAndEnter st fs a env o (FRAMES - counted (now (block .entry)) Frames)) (now (block .exit)) r)
         ⌝ }
 {
     if Limits::FRAMES <= areas::count(block, Area::Frames) {
-        return full(tree, Store::Frames);
+        return Effect::Full(Store::Frames);
     }
     areas::set_shut(block, o as usize, true);
-    moved(state::push(block, tree, i, Frame::Locks(o), a, env))
+    state::push(block, i, Frame::Locks(o), a, env);
+    Effect::Moved
 }
 
 // What the thread at i finds at a lock on variable x: may it enter? The move and the look ask the same.
-pub fn lock_access(block: &[u8], tree: Tree, i: usize, env: u16, x: u16) -> Access
-    requires { ⌜ SomeState (now block) tree i × Chain (now block) env ⌝ }
+pub fn lock_access(block: &[u8], i: usize, env: u16, x: u16) -> Access
+    requires { ⌜ SomeState (now block) i × Chain (now block) env ⌝ }
     ensures { λ r. ⌜
         ((c : Config) (p : Path) (rest : Rest) (a₀ a k : ℕ) (fs : List Frame) →
-        AtPosition (now (block .entry)) tree i c p (running a₀ env fs) rest →
+        AtPosition (now (block .entry)) i c p (running a₀ env fs) rest →
         lockTarget (c .stores) (framesAbove [] (c .tree) p) fs a env k (find (scope (c .stores .bindings) env) x) ≡ entered (c .stores) fs a env k r)
         ⌝ }
     ensures { λ r. ⌜ ((o : ℕ) → r ≡ Open o → o < counted (now (block .entry)) Objects) ⌝ }
@@ -68,28 +65,31 @@ pub fn lock_access(block: &[u8], tree: Tree, i: usize, env: u16, x: u16) -> Acce
     if shut == 0 {
         return Access::Open(o);
     }
-    if state::holds(block, tree, i, o) {
+    if state::holds(block, i, o) {
         return Access::Held;
     }
     Access::Stays
 }
 
 // "Lock: null fails; open shuts and leaves a lock frame; held by this thread enters with no frame; shut and not held by this thread cannot move."
-pub fn enter_lock(block: &mut [u8], tree: Tree, i: usize, env: u16, x: u16, a: u16) -> Step
-    requires { ⌜ SomeState (now block) tree i × Chain (now block) env ⌝ }
+pub fn enter_lock(block: &mut [u8], i: usize, env: u16, x: u16, a: u16) -> Effect
+    requires { ⌜ SomeState (now block) i × Chain (now block) env ⌝ }
     ensures { λ r. ⌜
         ((c : Config) (p : Path) (rest : Rest) (a₀ : ℕ) (fs : List Frame) →
-        AtPosition (now (block .entry)) tree i c p (running a₀ env fs) rest →
-        Performs (now (block .entry)) tree i rest
+        AtPosition (now (block .entry)) i c p (running a₀ env fs) rest →
+        Performs (now (block .entry)) i rest
         (lockTarget (c .stores) (framesAbove [] (c .tree) p) fs a env (FRAMES - counted (now (block .entry)) Frames) (find (scope (c .stores .bindings) env) x))
         (now (block .exit)) r)
         ⌝ }
 {
-    let access = lock_access(block, tree, i, env, x);
+    let access = lock_access(block, i, env, x);
     match access {
-        Access::Stays => stays(tree),
-        Access::Null => fails(block, tree, i),
-        Access::Open(o) => shut_object(block, tree, i, env, a, o),
-        Access::Held => moved(state::set_cell(tree, i, Cell::Running(a, env))),
+        Access::Stays => Effect::Still,
+        Access::Null => fails(block, i),
+        Access::Open(o) => shut_object(block, i, env, a, o),
+        Access::Held => {
+            state::set_cell(block, i, Cell::Running(a, env));
+            Effect::Moved
+        }
     }
 }

@@ -6,7 +6,6 @@ ghost use Prim.Native.Nat.{ℕ};
 ghost use Rattle.machine.specs.Config as machine;
 ghost use Rattle.machine.specs.Config.{Stores};
 ghost use Rattle.machine.specs.Machine.{scope, find};
-ghost use Rattle.tree.specs.declared.Tree as threads;
 ghost use Rattle.environments.specs.Chains.{Chain};
 ghost use Rattle.state.specs.Represents.{Rest, StateAt};
 ghost use Rattle.moves.specs.Targets.{TargetIs};
@@ -15,8 +14,8 @@ ghost use Rattle.moves.specs.Targets.{TargetIs};
 pub fn target_of(block: &[u8], env: u16, x: u16) -> Lookup
     requires { ⌜ Chain (now block) env ⌝ }
     ensures { λ r. ⌜
-        ((tree : threads.Tree) (i : ℕ) (rest : Rest) (st : Stores) (u : machine.Tree) →
-        StateAt (now (block .entry)) tree i rest st u →
+        ((i : ℕ) (rest : Rest) (st : Stores) (u : machine.Tree) →
+        StateAt (now (block .entry)) i rest st u →
         TargetIs (st .objects) (find (scope (st .bindings) env) x) r)
         ⌝ }
 {

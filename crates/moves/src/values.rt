@@ -1,16 +1,13 @@
 // Moves that give a value: null, a variable, a new object. A field is read in `fields`.
-use crate::Step;
-use crate::full;
-use crate::stays;
+use crate::Effect;
 use crate::steps::gives;
 use block::Area;
 use environments::Lookup;
 use limits::Limits;
 use machine::Store;
 use machine::Value;
-use tree::Tree;
 ghost use mathlib.Core.List.{List};
-ghost use Prim.Native.Nat.{ℕ, _-_, _<_};
+ghost use Prim.Native.Nat.{ℕ, _-_};
 ghost use Rattle.limits.specs.Limits.{OBJECTS};
 ghost use Rattle.machine.specs.declared.Value.the-variants.{Null as nil};
 ghost use Rattle.machine.specs.declared.Frame.{Frame};
@@ -18,52 +15,51 @@ ghost use Rattle.machine.specs.Config.{Stores, running, returning, codeOf};
 ghost use Rattle.machine.specs.Machine.{scope, find, moved, give, make};
 ghost use Rattle.block.specs.declared.Area.the-variants.{Objects};
 ghost use Rattle.block.specs.Layout.{counted};
-ghost use Rattle.tree.specs.Entries.{Tidy};
 ghost use Rattle.environments.specs.Chains.{Chain};
 ghost use Rattle.state.specs.Represents.{Rest, StateAt, SomeState};
-ghost use Rattle.moves.specs.Performs.{Performs};
+ghost use Rattle.moves.specs.Performs.{Performs, WordBound};
 
 // "null becomes a value"
-pub fn become_null(tree: Tree, i: usize) -> Step
-    requires { ⌜ Tidy tree × (i < tree .len) ⌝ }
+pub fn become_null(block: &mut [u8], i: usize) -> Effect
+    requires { ⌜ SomeState (now block) i ⌝ }
     ensures { λ r. ⌜
-        ((b : List ℕ) (x : Rest) (st : Stores) (a e : ℕ) (fs : List Frame) →
-        StateAt b tree i x st (running a e fs) →
-        Performs b tree i x (moved st (returning nil fs)) b r)
+        ((x : Rest) (st : Stores) (a e : ℕ) (fs : List Frame) →
+        StateAt (now (block .entry)) i x st (running a e fs) →
+        Performs (now (block .entry)) i x (moved st (returning nil fs)) (now (block .exit)) r)
         ⌝ }
 {
-    gives(tree, i, Value::Null)
+    gives(block, i, Value::Null)
 }
 
 // "a variable gives its value"
-pub fn give_value(block: &[u8], tree: Tree, i: usize, env: u16, x: u16) -> Step
-    requires { ⌜ Tidy tree × (i < tree .len) × Chain (now block) env ⌝ }
+pub fn give_value(block: &mut [u8], i: usize, env: u16, x: u16) -> Effect
+    requires { ⌜ SomeState (now block) i × Chain (now block) env × WordBound (now block) env ⌝ }
     ensures { λ r. ⌜
         ((rest : Rest) (st : Stores) (a : ℕ) (fs : List Frame) →
-        StateAt (now (block .entry)) tree i rest st (running a env fs) →
-        Performs (now (block .entry)) tree i rest (give st fs (find (scope (st .bindings) env) x)) (now (block .entry)) r)
+        StateAt (now (block .entry)) i rest st (running a env fs) →
+        Performs (now (block .entry)) i rest (give st fs (find (scope (st .bindings) env) x)) (now (block .exit)) r)
         ⌝ }
 {
     let found = environments::variable(block, env, x);
     let Lookup::Bound(v) = found else {
-        return stays(tree);
+        return Effect::Still;
     };
-    gives(tree, i, v)
+    gives(block, i, v)
 }
 
 // "new makes an open object with null fields"
-pub fn make_object(block: &mut [u8], tree: Tree, i: usize, class: u16) -> Step
-    requires { ⌜ SomeState (now block) tree i ⌝ }
+pub fn make_object(block: &mut [u8], i: usize, class: u16) -> Effect
+    requires { ⌜ SomeState (now block) i ⌝ }
     ensures { λ r. ⌜
         ((s : List ℕ) (x : Rest) (st : Stores) (a e : ℕ) (fs : List Frame) →
-        StateAt (now (block .entry)) tree i x st (running a e fs) →
-        Performs (now (block .entry)) tree i x (make (codeOf s) st fs class (OBJECTS - counted (now (block .entry)) Objects)) (now (block .exit)) r)
+        StateAt (now (block .entry)) i x st (running a e fs) →
+        Performs (now (block .entry)) i x (make (codeOf s) st fs class (OBJECTS - counted (now (block .entry)) Objects)) (now (block .exit)) r)
         ⌝ }
 {
     let n = areas::count(block, Area::Objects);
     if Limits::OBJECTS <= n {
-        return full(tree, Store::Objects);
+        return Effect::Full(Store::Objects);
     }
     areas::new_object(block, class);
-    gives(tree, i, Value::Ref(n as u16))
+    gives(block, i, Value::Ref(n as u16))
 }

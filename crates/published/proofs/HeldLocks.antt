@@ -17,9 +17,9 @@ use Rattle.machine.specs.WellFormed.{failures, shutAt, WfConfig}
 use Rattle.machine.specs.Ends.{heldBy}
 use Rattle.published.specs.ReadAs.{read, reading}
 use Rattle.published.specs.HeldLocks.{SetAt, set-here, set-left, set-right, InSet, Locked, LocksOk}
-use Rattle.machine.proofs.Stores.{shutAt-le, shutAt-object}
-use Rattle.machine.proofs.Ends.{frames-append, Holder, holder}
-use Rattle.machine.proofs.Positions.{held-bound, exclusive}
+use Rattle.soundness.proofs.Stores.{shutAt-le, shutAt-object}
+use Rattle.soundness.proofs.Ends.{frames-append, Holder, holder}
+use Rattle.soundness.proofs.Positions.{held-bound, exclusive}
 use Rattle.machine.proofs.Locks.{in-held, held-in}
 
 -- the set of a thread is that of the lock frames by which it holds objects

@@ -19,8 +19,8 @@ use Rattle.machine.specs.WellFormed.{lockCount, shutAt, WfConfig}
 use Rattle.published.specs.Steps.{PVar, static, PExpr, p-value, p-locked, shadow, close, fill, PTree, p-thread, remove}
 use Rattle.published.specs.ReadAs.{names, gap, hole, plug, said, read, reading}
 use Rattle.published.specs.LockRules.{lockedList, asSet, DistinctLocks, heldLocks, LeftmostFailed, leftmost-here, leftmost-left, WfLocks, WF-L-THREAD, WF-L-ASYNC, WF-L-EXN, leftmost-failed, allLocked, LockFramesOk}
-use Rattle.machine.proofs.Stores.{shutAt-le, shutAt-object}
-use Rattle.machine.proofs.Ends.{frames-append}
+use Rattle.soundness.proofs.Stores.{shutAt-le, shutAt-object}
+use Rattle.soundness.proofs.Ends.{frames-append}
 use Rattle.machine.proofs.Locks.{count-head, count-append, count-in, in-count, frames-held, held-in, in-held}
 use Rattle.published.proofs.HeldLocks.{shut-locked}
 

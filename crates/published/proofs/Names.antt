@@ -18,7 +18,7 @@ use Rattle.machine.specs.declared.Want.{Want}
 use Rattle.machine.specs.WellFormed.{FramesOk, no-frames, a-node, a-cast, a-lock, TreeOk, running-ok, returning-ok, failed-ok, join-ok}
 use Rattle.published.specs.Steps.{PVar, static, fresh, PExpr, p-let, p-cast, p-fork, p-lock, p-update, p-call, shadow, close, renameVar, rename, entryValue, fill, p-join, p-thread}
 use Rattle.published.specs.ReadAs.{entries, names, gap, plug, said, read}
-use Rattle.machine.proofs.Grow.{Grows}
+use Rattle.soundness.proofs.Grow.{Grows}
 
 names-older : (b : Binding) (bs : List Binding) (e : ℕ) → e ≤ length bs → names (b ∷ bs) e ≡ names bs e
 names-older b bs e h = fun-ext (λ x. rw (ne-eqb e (suc (length bs)) (λ p. omega arith)))

@@ -30,11 +30,11 @@ use Rattle.published.specs.ReadAs.{names, hole, plug, world, said, read}
 use Rattle.machine.specs.Silent.{quiet, quietIn}
 use Rattle.published.specs.Reach.{site, Near, itself, left-side, right-side, in-left, in-right}
 use Rattle.machine.proofs.Types.{null-meets, check-gives, let-type}
-use Rattle.machine.proofs.Stores.{shutAt-object}
-use Rattle.machine.proofs.Grow.{Grows, grows-same}
-use Rattle.machine.proofs.Move.{Judged, no-move, a-move, run-good, resume-good}
-use Rattle.machine.proofs.Trees.{fold-broken}
-use Rattle.machine.proofs.Ends.{frames-append}
+use Rattle.soundness.proofs.Stores.{shutAt-object}
+use Rattle.soundness.proofs.Grow.{Grows, grows-same}
+use Rattle.soundness.proofs.Move.{Judged, no-move, a-move, run-good, resume-good}
+use Rattle.soundness.proofs.Trees.{fold-broken}
+use Rattle.soundness.proofs.Ends.{frames-append}
 use Rattle.published.proofs.Names.{variable, read-grow}
 use Rattle.machine.proofs.Locks.{in-held}
 use Rattle.published.proofs.Steps.{thread-join, site-thread, Exact, published, give-step, make-step, spawn-step, lock-step, select-step, resume-step, last-grow}

@@ -19,12 +19,12 @@ use Rattle.published.specs.Means.{Means, silently}
 use Rattle.machine.specs.Silent.{due, quietIn, samePlace}
 use Rattle.machine.specs.Runs.{look, Report, passed, made, report, stopped, Runs, makes, fills}
 use Rattle.published.specs.Reach.{visits, Quietly, no-choice, a-choice, site, Near, OneRun}
-use Rattle.machine.proofs.Trees.{preservation}
-use Rattle.machine.proofs.Positions.{positions, move-located}
+use Rattle.soundness.proofs.Trees.{preservation}
+use Rattle.soundness.proofs.Positions.{positions, move-located}
 use Rattle.published.proofs.Steps.{moves-published}
-use Rattle.machine.proofs.Within.{within}
-use Rattle.machine.proofs.Run.{able-look, run-runs, runs-report}
-use Rattle.machine.proofs.Silent.{due-told, on-node, move-counts, others-due}
+use Rattle.soundness.proofs.Within.{within}
+use Rattle.soundness.proofs.Run.{able-look, run-runs, runs-report}
+use Rattle.soundness.proofs.Silent.{due-told, on-node, move-counts, others-due}
 use Rattle.published.proofs.Reach.{Silently, at-once, after, Landed, Reached, reach}
 
 moved-still : {st : Stores} {t : Tree} → moved st t ≡ still → ⊥

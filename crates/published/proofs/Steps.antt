@@ -31,13 +31,13 @@ use Rattle.published.specs.Means.{Means, silently, publicly}
 use Rattle.published.specs.Reach.{site}
 use Rattle.published.specs.Traces.{Transition, published-step, silent-move}
 use Rattle.machine.proofs.Types.{below-class, below-method, infer-computes, field-declared, Defined, defined}
-use Rattle.machine.proofs.Stores.{fit-binding, fit-field, shutAt-le, shutAt-object}
-use Rattle.machine.proofs.Grow.{Grows, grows-binding, grows-call}
-use Rattle.machine.proofs.Move.{Judged, a-move}
-use Rattle.machine.proofs.Trees.{move-good, is-broken}
-use Rattle.machine.proofs.Ends.{frames-append}
+use Rattle.soundness.proofs.Stores.{fit-binding, fit-field, shutAt-le, shutAt-object}
+use Rattle.soundness.proofs.Grow.{Grows, grows-binding, grows-call}
+use Rattle.soundness.proofs.Move.{Judged, a-move}
+use Rattle.soundness.proofs.Trees.{move-good, is-broken}
+use Rattle.soundness.proofs.Ends.{frames-append}
 use Rattle.machine.proofs.Locks.{held-in, in-held}
-use Rattle.machine.proofs.Silent.{silent-at}
+use Rattle.soundness.proofs.Silent.{silent-at}
 use Rattle.published.proofs.Names.{variable, entry-new, entry-count, let-reading, call-reading, entry-older, plug-grow, read-grow, said-grow}
 
 -- a step inside frames

@@ -11,9 +11,9 @@ use Rattle.machine.specs.Machine.{Places, full, moved, Path, locate, chosen, ch
 use Rattle.machine.specs.WellFormed.{WellFormed}
 use Rattle.machine.specs.Accepted.{AcceptedCode}
 use Rattle.machine.specs.Runs.{Report, report, Runs, ends, spends, passes, makes, fills}
-use Rattle.machine.proofs.Run.{run-runs, moved-choice}
-use Rattle.machine.proofs.CannotMove.{still-exactly}
-use Rattle.machine.proofs.FullStore.{full-exactly}
+use Rattle.soundness.proofs.Run.{run-runs, moved-choice}
+use Rattle.soundness.proofs.CannotMove.{still-exactly}
+use Rattle.soundness.proofs.FullStore.{full-exactly}
 use Rattle.published.specs.ReadAs.{reading, initialReading}
 use Rattle.published.specs.Traces.{Trace, trace-none, trace-passes, trace-moves, trace-full}
 use Rattle.published.proofs.Steps.{moves-transitions}

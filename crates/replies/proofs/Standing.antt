@@ -3,25 +3,15 @@ use mathlib.Core.Path.{_≡_}
 use mathlib.Core.Bool.{Bool, true, false, not}
 use mathlib.Core.List.{List}
 use mathlib.Core.Option.{none, some}
-use Prim.Native.Nat.{ℕ, _<_, _≤_}
-use native.Mathlib.Omega.{arith}
+use Prim.Native.Nat.{ℕ, _<_}
 use borrow.Author.Tests.{not-true, not-false}
 use lib.ListN.{getD}
-use Rattle.limits.specs.Limits.{POSITIONS}
 use Rattle.typing.specs.declared.Verdict.the-variants.{Accepted}
 use Rattle.typing.specs.Check.{checkOf}
 use Rattle.machine.specs.Config.{Config}
 use Rattle.machine.specs.Machine.{fieldCount}
 use Rattle.machine.specs.Decide.{only}
-use Rattle.block.specs.declared.Area.the-variants.{Positions}
-use Rattle.block.specs.Layout.{counted}
-use Rattle.block.specs.Block.{partsOf}
-use Rattle.block.specs.Fits.{Few}
 use Rattle.block.specs.Decode.{configIn}
-use Rattle.block.proofs.Words.{count-is}
-use Rattle.tree.specs.declared.Tree.{Tree}
-use Rattle.state.specs.Represents.{Represents}
-use Rattle.state.specs.Positions.{Taken}
 use Rattle.enabled.specs.Looks.{Standing}
 use Rattle.calls.specs.Calls.{configOf}
 use Rattle.calls.specs.Answers.{Holds}
@@ -40,16 +30,12 @@ module _ (s : List ℕ) (bytes : (i : ℕ) → getD s i 0 < 256) (t : ℕ) (acc 
   pub held : Holds s t b c
   held = config-holds s bytes t acc b c e
 
-  few : Few (partsOf c)
-  few = holds-fits s bytes t acc held .few
-
-  -- the tree can be taken out of the block
-  pub few-positions : counted b Positions ≤ POSITIONS
-  few-positions = rw (held .is) (omega (arith, count-is (partsOf c) Positions, few Positions))
-
-  -- and what block and tree represent then stands
-  pub in-hand : {r : Tree} → Taken b r → Represents b r c
-  in-hand taken = taken c (held .is) few
-
-  abbrev pub stands : {r : Tree} → Represents b r c → Standing s b r
-  stands represents = record { config = c; type = t; represents = represents; accepted = accepts s bytes t acc; formed = held .well }
+  abbrev pub stands : Standing s b
+  stands =
+      record {
+        config = c;
+        type = t;
+        represents = record { block = held .is; few = holds-fits s bytes t acc held .few };
+        accepted = accepts s bytes t acc;
+        formed = held .well;
+      }

@@ -1,12 +1,12 @@
--- Changes to a block, by area: words of a record put, one record more, one record fewer; and what these come to for objects, bindings and frames.
+-- Changes to a block, by area: words of a record put, one record more; and what these come to for objects, bindings and frames.
 use mathlib.Core.Path.{_≡_, refl, sym, ap, _∙_}
 use mathlib.Core.Bool.{Bool, false}
 use mathlib.Core.List.{List, [], _∷_, _++_, append-nil, map, map-append, flatten}
 use Prim.Native.Nat.{ℕ, zero, suc, _+_, _*_, _<_, _≤_}
 use native.Mathlib.Nat.{mul-suc, mul-le-mul-left}
 use native.Mathlib.Omega.{arith}
-use lib.ListN.{length, getD, set, take, replicate, length-append, length-map, length-set, length-replicate, drop-of-length-le}
-use lib.Seq.{sets, sets-eq, set-append-left, set-append-seam, getD-append-seam, set-set, take-suc, take-all, length-take-le}
+use lib.ListN.{length, getD, set, replicate, length-append, length-map, length-set, length-replicate, drop-of-length-le}
+use lib.Seq.{sets, sets-eq, set-append-left, set-append-seam, getD-append-seam, set-set}
 use Rattle.slices.specs.Put.{putWord}
 use Rattle.words.specs.Word.{bytes}
 use Rattle.slices.proofs.Laws.{put-bytes}
@@ -14,7 +14,6 @@ use Rattle.limits.specs.Limits.{OBJECTS, BINDINGS, FRAMES, CLASS-FIELDS}
 use Rattle.machine.specs.declared.Value.{Value}
 use Rattle.machine.specs.declared.Value.the-variants.{Null as nil}
 use Rattle.machine.specs.declared.Frame.{Frame}
-use Rattle.machine.specs.declared.Frame.the-variants.{Casts as casts}
 use Rattle.machine.specs.Config.{Object, Binding}
 use Rattle.block.specs.Rows.{filled}
 use Rattle.representation.specs.Changed.{putWords, withObjects, withBindings, withFrames, withShut, withField}
@@ -167,32 +166,6 @@ module _ (p q : Parts) (a : Area) (same : others q a ≡ others p a) where
       (put-bytes (sets (laid p) (begins a + width a * n + 0) vs) (countWord a) (suc n)
       ∙ ap bytes (rw put (rw (laid-new p q a same, many) (set-count p a n (suc n) (rows q a)))))
 
-  -- one record fewer: the words of the last put to 0, and the count
-  pub put-fewer :
-      (last : List ℕ)
-      → length (rows q a) < most a
-      → rows p a ≡ rows q a ++ last ∷ []
-      → putWord (putWords (bytes (laid p)) (wordByte a (length (rows q a)) 0) (replicate (width a) 0)) (countByte a) (length (rows q a)) ≡ bytes (laid q)
-  put-fewer last h e =
-      let n = length (rows q a) in
-      let zeros : List ℕ = replicate (width a) 0 in
-      let rs : List (List ℕ) = rows p a in
-      let wide : length zeros ≡ width a = length-replicate (width a) 0 in
-      let long : length rs ≡ suc n = rw e (length-append (rows q a) (last ∷ []) ∙ omega arith) in
-      let is-last : getD rs n [] ≡ last = rw e (getD-append-seam (rows q a) last [] []) in
-      let whole : sets (getD rs n []) 0 zeros ≡ zeros =
-      sets-all (getD rs n []) zeros (rows-wide p a n (omega arith) ∙ sym wide)
-      in
-      let new : area a (set rs n (sets (getD rs n []) 0 zeros)) ≡ area a (rows q a) =
-      rw (whole, e) (rw (set-append-seam (rows q a) last [] zeros) (area-zeros a (rows q a)))
-      in
-      let put : sets (laid p) (begins a + width a * n + 0) zeros ≡ with-area p a (suc n) (rows q a) =
-      rw (laid-old p a, long) (set-words p a (suc n) rs (rows-wide p a) n 0 zeros (omega arith) h (omega arith) ∙ rw new)
-      in
-      rw (put-words-bytes (laid p) (begins a + width a * n + 0) zeros)
-      (put-bytes (sets (laid p) (begins a + width a * n + 0) zeros) (countWord a) n
-      ∙ ap bytes (rw put (rw (laid-new p q a same) (set-count p a (suc n) n (rows q a)))))
-
 -- the row of an element that takes another's place
 row-set :
     {A : Type 0} (f : A → List ℕ) (xs : List A) (i : ℕ) (d y : A) (j : ℕ) (vs : List ℕ)
@@ -278,21 +251,6 @@ module _ (p : Parts) where
       let g = getD (p .frames) i f in
       put-words p (withFrames p (set (p .frames) i f)) Frames refl i 0 (frameWords f) l room (omega (arith, frame-width f))
       (row-set frameWords (p .frames) i f f 0 (frameWords f) h (sets-all (frameWords g) (frameWords f) (frame-width g ∙ sym (frame-width f))))
-
-  -- the last frame taken away
-  pub put-last-frame :
-      (n : ℕ)
-      → n < FRAMES
-      → length (p .frames) ≡ suc n
-      → putWord (putWords (bytes (laid p)) (wordByte Frames n 0) (0 ∷ 0 ∷ 0 ∷ [])) (countByte Frames) n ≡ bytes (laid (withFrames p (take n (p .frames))))
-  put-last-frame n room e =
-      let q = withFrames p (take n (p .frames)) in
-      let many : length (rows q Frames) ≡ n = length-map (take n (p .frames)) frameWords ∙ length-take-le n (p .frames) (omega arith) in
-      let d : Frame = casts 0 in
-      let last = getD (p .frames) n d in
-      let ends : p .frames ≡ take n (p .frames) ++ last ∷ [] = sym (take-all (suc n) (p .frames) (omega arith)) ∙ take-suc (p .frames) n d (omega arith) in
-      let row : rows p Frames ≡ rows q Frames ++ frameWords last ∷ [] = ap (map frameWords) ends ∙ row-end frameWords (take n (p .frames)) last in
-      rw many at (put-fewer p q Frames refl (frameWords last) (omega arith) row)
 
   -- a new object, open and with null fields: past the last object all is 0, so its class and the count are all there is to write
   pub put-fresh-object :

@@ -8,7 +8,6 @@ use Rattle.machine.specs.Config.{codeOf, Config}
 use Rattle.machine.specs.Machine.{limits}
 use Rattle.machine.specs.WellFormed.{WellFormed}
 use Rattle.machine.specs.Runs.{look, Report, report}
-use Rattle.tree.specs.declared.Tree.{Tree}
 use Rattle.state.specs.Represents.{Represents}
 use Rattle.runs.specs.declared.Next.the-variants.{GoesOn, Stops}
 use Rattle.runs.specs.declared.Taken.{Taken}
@@ -20,16 +19,16 @@ added read moves r = record { stop = r .stop; read = read + r .read; moves = mov
 
 -- What choice n did to the configuration c, in which something can move; the block is b after it.
 pub data TakenAs (s b : List ℕ) (t : ℕ) (c : Config) (n : ℕ) : Taken → Type 0 where
-  taken-on : {made : ℕ} {tree : Tree} {d : Config} → Represents b tree d → WellFormed (codeOf s) limits t d → look (codeOf s) limits d ≡ none
+  taken-on : {made : ℕ} {d : Config} → Represents b d → WellFormed (codeOf s) limits t d → look (codeOf s) limits d ≡ none
       → ((ns : List ℕ) → report (codeOf s) limits c (n ∷ ns) ≡ added 1 made (report (codeOf s) limits d ns))
-      → TakenAs s b t c n (record { made = made; next = GoesOn; tree = tree })
-  taken-stops : {made : ℕ} {stop : Stop} {tree : Tree} {d : Config} → Represents b tree d
+      → TakenAs s b t c n (record { made = made; next = GoesOn })
+  taken-stops : {made : ℕ} {stop : Stop} {d : Config} → Represents b d
       → ((ns : List ℕ) → report (codeOf s) limits c (n ∷ ns) ≡ record { stop = stop; read = 1; moves = made; config = d })
-      → TakenAs s b t c n (record { made = made; next = Stops stop; tree = tree })
+      → TakenAs s b t c n (record { made = made; next = Stops stop })
 
--- The answer is the report's, and block and tree represent the configuration that the run leaves.
+-- The answer is the report's, and the block is the configuration that the run leaves.
 pub record RanAs (rep : Report) (b : List ℕ) (r : Ran) : Type 0 where
   pub stop : r .stop ≡ rep .stop
   pub read : r .read ≡ rep .read
   pub moves : r .moves ≡ rep .moves
-  pub represents : Represents b (r .tree) (rep .config)
+  pub represents : Represents b (rep .config)

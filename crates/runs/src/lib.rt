@@ -3,7 +3,6 @@ mod runs;
 
 use machine::Stop;
 pub use runs::run_choices;
-use tree::Tree;
 
 // What comes after a choice: the next one, or the stop.
 pub enum Next {
@@ -11,17 +10,15 @@ pub enum Next {
     Stops(Stop),
 }
 
-// What a choice did: how many moves it made, what comes after it, and the tree.
+// What a choice did: how many moves it made, and what comes after it.
 pub struct Taken {
     pub made: usize,
     pub next: Next,
-    pub tree: Tree,
 }
 
-// What Run returns, and the tree that it leaves.
+// What Run returns.
 pub struct Ran {
     pub stop: Stop,
     pub read: usize,
     pub moves: usize,
-    pub tree: Tree,
 }

@@ -7,7 +7,6 @@ use enabled::Looked;
 use enabled::look;
 use machine::Stop;
 use moves::Effect;
-use tree::Tree;
 ghost use mathlib.Core.Path.{_≡_};
 ghost use mathlib.Core.Option.{none};
 ghost use Prim.Native.Nat.{_≤_};
@@ -28,13 +27,12 @@ fn wide(x: u8) -> usize
 }
 
 // What a choice did, of these parts.
-fn taken(made: usize, next: Next, tree: Tree) -> Taken
-    ensures { λ r. ⌜ r ≡ record { made = made; next = next; tree = tree } ⌝ }
+fn taken(made: usize, next: Next) -> Taken
+    ensures { λ r. ⌜ r ≡ record { made = made; next = next } ⌝ }
 {
     Taken {
         made: made,
         next: next,
-        tree: tree,
     }
 }
 
@@ -42,45 +40,41 @@ fn taken(made: usize, next: Next, tree: Tree) -> Taken
 fn take_choice(
     s: &[u8],
     starts: &[u16],
-    forks: &[u8],
+    facts: &[u16],
     table: &mut [u16],
     block: &mut [u8],
-    tree: Tree,
     n: usize,
 ) -> Taken
-    requires { ⌜ Blank (now s) (now starts) (now forks) (now table) × Standing (now s) (now block) tree ⌝ }
+    requires { ⌜ Blank (now s) (now starts) (now facts) (now table) × Standing (now s) (now block) ⌝ }
     ensures { λ r. ⌜
-        ((x : Standing (now (s .entry)) (now (block .entry)) tree) →
+        ((x : Standing (now (s .entry)) (now (block .entry))) →
         seen (codeOf (now (s .entry))) limits (x .config) ≡ none →
         TakenAs (now (s .entry)) (now (block .exit)) (x .type) (x .config) n r)
         ⌝ }
     ensures { λ r. ⌜ (now (table .exit) ≡ now (table .entry)) × (r .made ≤ 1) ⌝ }
 {
-    let step = choose(s, starts, forks, table, block, tree, n);
-    let effect = step.effect;
-    let after = step.tree;
+    let effect = choose(s, starts, facts, table, block, n);
     match effect {
-        Effect::Still => taken(0, Next::GoesOn, after),
+        Effect::Still => taken(0, Next::GoesOn),
         Effect::Moved => {
-            let how = look(s, block, after);
+            let how = look(s, block, n);
             match how {
-                Looked::GoesOn => taken(1, Next::GoesOn, after),
-                Looked::Ends(e) => taken(1, Next::Stops(Stop::Ended(e)), after),
+                Looked::GoesOn => taken(1, Next::GoesOn),
+                Looked::Ends(e) => taken(1, Next::Stops(Stop::Ended(e))),
             }
         }
-        Effect::Full(k) => taken(0, Next::Stops(Stop::Full(k)), after),
+        Effect::Full(k) => taken(0, Next::Stops(Stop::Full(k))),
     }
 }
 
 // What a run comes to, of these parts.
-fn ran(stop: Stop, read: usize, moves: usize, tree: Tree) -> Ran
-    ensures { λ r. ⌜ r ≡ record { stop = stop; read = read; moves = moves; tree = tree } ⌝ }
+fn ran(stop: Stop, read: usize, moves: usize) -> Ran
+    ensures { λ r. ⌜ r ≡ record { stop = stop; read = read; moves = moves } ⌝ }
 {
     Ran {
         stop: stop,
         read: read,
         moves: moves,
-        tree: tree,
     }
 }
 
@@ -88,60 +82,55 @@ fn ran(stop: Stop, read: usize, moves: usize, tree: Tree) -> Ran
 fn follow(
     s: &[u8],
     starts: &[u16],
-    forks: &[u8],
+    facts: &[u16],
     table: &mut [u16],
     block: &mut [u8],
-    tree: Tree,
     choices: &[u8],
 ) -> Ran
-    requires { ⌜ Blank (now s) (now starts) (now forks) (now table) × Standing (now s) (now block) tree ⌝ }
+    requires { ⌜ Blank (now s) (now starts) (now facts) (now table) × Standing (now s) (now block) ⌝ }
     requires { ⌜ length (now choices) ≤ CHOICES ⌝ }
-    requires { ⌜ ((x : Standing (now s) (now block) tree) → seen (codeOf (now s)) limits (x .config) ≡ none) ⌝ }
+    requires { ⌜ ((x : Standing (now s) (now block)) → seen (codeOf (now s)) limits (x .config) ≡ none) ⌝ }
     ensures { λ r. ⌜
-        ((x : Standing (now (s .entry)) (now (block .entry)) tree) →
+        ((x : Standing (now (s .entry)) (now (block .entry))) →
         RanAs (report (codeOf (now (s .entry))) limits (x .config) (now (choices .entry))) (now (block .exit)) r)
         ⌝ }
     ensures { λ r. ⌜ (r .read ≤ length (now (choices .entry))) × (r .moves ≤ r .read) ⌝ }
 {
-    let mut now = tree;
     let mut read: usize = 0;
     let mut moves: usize = 0;
     while read < choices.len() {
         let n = wide(choices[read]);
-        let taken = take_choice(s, starts, forks, table, block, now, n);
+        let taken = take_choice(s, starts, facts, table, block, n);
         read += 1;
         moves += taken.made;
         let next = taken.next;
-        let after = taken.tree;
         if let Next::Stops(stop) = next {
-            return ran(stop, read, moves, after);
+            return ran(stop, read, moves);
         }
-        now = after;
     }
-    ran(Stop::Spent, read, moves, now)
+    ran(Stop::Spent, read, moves)
 }
 
-// Run: the stop, "choices read and moves made", and the tree that the run leaves.
+// Run: the stop, "choices read and moves made".
 pub fn run_choices(
     s: &[u8],
     starts: &[u16],
-    forks: &[u8],
+    facts: &[u16],
     table: &mut [u16],
     block: &mut [u8],
-    tree: Tree,
     choices: &[u8],
 ) -> Ran
-    requires { ⌜ Blank (now s) (now starts) (now forks) (now table) × Standing (now s) (now block) tree ⌝ }
+    requires { ⌜ Blank (now s) (now starts) (now facts) (now table) × Standing (now s) (now block) ⌝ }
     requires { ⌜ length (now choices) ≤ CHOICES ⌝ }
     ensures { λ r. ⌜
-        ((x : Standing (now (s .entry)) (now (block .entry)) tree) →
+        ((x : Standing (now (s .entry)) (now (block .entry))) →
         RanAs (report (codeOf (now (s .entry))) limits (x .config) (now (choices .entry))) (now (block .exit)) r)
         ⌝ }
     ensures { λ r. ⌜ (r .read ≤ length (now (choices .entry))) × (r .moves ≤ r .read) ⌝ }
 {
-    let how = look(s, block, tree);
+    let how = look(s, block, 0);
     if let Looked::Ends(e) = how {
-        return ran(Stop::Ended(e), 0, 0, tree);
+        return ran(Stop::Ended(e), 0, 0);
     }
-    follow(s, starts, forks, table, block, tree, choices)
+    follow(s, starts, facts, table, block, choices)
 }

@@ -49,19 +49,6 @@ parts (n-cast t p) = p ∷ []
 parts (n-fork p q r) = p ∷ q ∷ r ∷ []
 parts (n-lock x p) = p ∷ []
 
--- The variables that a node uses. A let only binds its variable.
-abbrev pub namesOf : Node → List ℕ
-namesOf n-null = []
-namesOf (n-var x) = x ∷ []
-namesOf (n-select x f) = x ∷ []
-namesOf (n-update x f p) = x ∷ []
-namesOf (n-call x m p) = x ∷ []
-namesOf (n-bind x p q) = []
-namesOf (n-new c) = []
-namesOf (n-cast t p) = []
-namesOf (n-fork p q r) = []
-namesOf (n-lock x p) = x ∷ []
-
 -- The expression of the node at point n, where f gives those of its parts.
 abbrev pub build : Point → (Point → Expr) → Node → Expr
 build n f n-null = null n

@@ -1,9 +1,10 @@
 -- Free variables of nodes, as the code of `forks` goes through them.
-use Prim.Native.Nat.{ℕ, zero, suc, _+_, _^_, _<_}
+use Prim.Native.Nat.{ℕ, _+_, _^_, _<_}
 use mathlib.Core.Path.{_≡_, refl, sym, _∙_}
 use mathlib.Core.Bool.{Bool, true, false, _||_}
 use mathlib.Core.List.{List, [], _∷_, _++_}
 use mathlib.Core.Logic.{_⊎_, ⊎-elim, inl, inr}
+use mathlib.Core.Option.{none, some}
 use native.Mathlib.Omega.{arith}
 use lib.Bits.{bitAnd, bitOr, bitXor}
 use lib.Dec.{eqb}
@@ -19,41 +20,30 @@ use Rattle.script.specs.Statements.{WithinLayout}
 use Rattle.script.proofs.Reading.{first, second, third, expr-at, in-order, every-node}
 use Rattle.script.proofs.Tests.{true-false}
 use Rattle.typing.specs.Typing.{without, fv, isIn}
-use Rattle.sharing.specs.Free.{SPAN, MaskOf, FreeMask, Along, Ahead, ForkMark, Uses}
-use Rattle.sharing.proofs.MaskLaws.{in-append, in-without, mask-none, mask-or, mask-without, masks-meet}
+use Rattle.names.specs.Ranks.{nameIn, Names, RankOf, of-node}
+use Rattle.names.specs.Filling.{namesKind}
+use Rattle.names.proofs.KindLaws.{by-kind, a-name}
+use Rattle.sharing.specs.Free.{SPAN, MaskOf, RankMask, FreeMask, Along, Ahead, ForkMark}
+use Rattle.sharing.proofs.MaskLaws.{in-append, in-without, mask-none, mask-or, mask-without, mask-rank, masks-meet}
 use Rattle.sharing.proofs.MarkLaws.{mark-kept}
 
--- One case for each kind.
-by-kind : (P : ℕ → Type 0) → P 0 → P 1 → P 2 → P 3 → P 4 → P 5 → P 6 → P 7 → P 8 → P 9 → ((k : ℕ) → P (suc (suc (suc (suc (suc (suc (suc (suc (suc (suc k))))))))))) → (k : ℕ) → P k
-by-kind P p0 p1 p2 p3 p4 p5 p6 p7 p8 p9 more zero = p0
-by-kind P p0 p1 p2 p3 p4 p5 p6 p7 p8 p9 more (suc zero) = p1
-by-kind P p0 p1 p2 p3 p4 p5 p6 p7 p8 p9 more (suc (suc zero)) = p2
-by-kind P p0 p1 p2 p3 p4 p5 p6 p7 p8 p9 more (suc (suc (suc zero))) = p3
-by-kind P p0 p1 p2 p3 p4 p5 p6 p7 p8 p9 more (suc (suc (suc (suc zero)))) = p4
-by-kind P p0 p1 p2 p3 p4 p5 p6 p7 p8 p9 more (suc (suc (suc (suc (suc zero))))) = p5
-by-kind P p0 p1 p2 p3 p4 p5 p6 p7 p8 p9 more (suc (suc (suc (suc (suc (suc zero)))))) = p6
-by-kind P p0 p1 p2 p3 p4 p5 p6 p7 p8 p9 more (suc (suc (suc (suc (suc (suc (suc zero))))))) = p7
-by-kind P p0 p1 p2 p3 p4 p5 p6 p7 p8 p9 more (suc (suc (suc (suc (suc (suc (suc (suc zero)))))))) = p8
-by-kind P p0 p1 p2 p3 p4 p5 p6 p7 p8 p9 more (suc (suc (suc (suc (suc (suc (suc (suc (suc zero))))))))) = p9
-by-kind P p0 p1 p2 p3 p4 p5 p6 p7 p8 p9 more (suc (suc (suc (suc (suc (suc (suc (suc (suc (suc k)))))))))) = more k
-
 -- A node that is a fork has a fork's kind.
-abbrev IsFork : Node → Type 0
-IsFork n-null = ⊥
-IsFork (n-var x) = ⊥
-IsFork (n-select x f) = ⊥
-IsFork (n-update x f p) = ⊥
-IsFork (n-call x m p) = ⊥
-IsFork (n-bind x p q) = ⊥
-IsFork (n-new c) = ⊥
-IsFork (n-cast t p) = ⊥
-IsFork (n-fork p q r) = Unit {0}
-IsFork (n-lock x p) = ⊥
+abbrev AFork : Node → Type 0
+AFork n-null = ⊥
+AFork (n-var x) = ⊥
+AFork (n-select x f) = ⊥
+AFork (n-update x f p) = ⊥
+AFork (n-call x m p) = ⊥
+AFork (n-bind x p q) = ⊥
+AFork (n-new c) = ⊥
+AFork (n-cast t p) = ⊥
+AFork (n-fork p q r) = Unit {0}
+AFork (n-lock x p) = ⊥
 
-only-fork : (a b c k : ℕ) → IsFork (nodeOf (kindOf k) a b c) → k ≡ 8
+only-fork : (a b c k : ℕ) → AFork (nodeOf (kindOf k) a b c) → k ≡ 8
 unfolding kindOf
 only-fork a b c =
-    by-kind (λ k. IsFork (nodeOf (kindOf k) a b c) → k ≡ 8) absurd absurd absurd absurd absurd absurd absurd absurd (λ h. refl) absurd (λ k h. absurd h)
+    by-kind (λ k. AFork (nodeOf (kindOf k) a b c) → k ≡ 8) absurd absurd absurd absurd absurd absurd absurd absurd (λ h. refl) absurd (λ k h. absurd h)
 
 module _ (s : List ℕ) (n : ℕ) where
   -- A node of this kind, with its words.
@@ -71,29 +61,14 @@ module _ (s : List ℕ) (n : ℕ) where
   pub part-of : (k p : ℕ) → nodeWord s n 0 ≡ k → p ∈ parts (nodeIs k) → p ∈ parts (viewAt s n)
   part-of k p e h = rw (view-is k e) h
 
-  pub uses-is : (P : ℕ → Type 0) (k : ℕ) → nodeWord s n 0 ≡ k → Uses P (nodeIs k) → Uses P (viewAt s n)
-  uses-is P k e u = rw (view-is k e) u
+  -- A node of a kind that names a variable.
+  pub naming : (k : ℕ) → nodeWord s n 0 ≡ k → namesKind (kindOf k) ≡ true → n < countOf s nodes → Names s n (nodeWord s n 1)
+  naming k e f h = record { there = h; name = a-name s n k (nodeWord s n 1) true (sym e) refl (sym f) refl }
 
-  -- Every other kind uses no variable.
-  pub uses-none : (P : ℕ → Type 0) (k : ℕ) → k ≡ nodeWord s n 0 → (k ≡ 1 → ⊥) → (k ≡ 2 → ⊥) → (k ≡ 3 → ⊥) → (k ≡ 4 → ⊥) → (k ≡ 9 → ⊥) → Uses P (viewAt s n)
+  -- A fork names none.
+  pub fork-nameless : nodeWord s n 0 ≡ 8 → nameIn (viewAt s n) ≡ none
   unfolding kindOf
-  uses-none P k e n1 n2 n3 n4 n9 = uses-is P k (sym e) (go k refl)
-    where
-      go : (j : ℕ) → k ≡ j → Uses P (nodeIs j)
-      go =
-          by-kind
-          (λ j. k ≡ j → Uses P (nodeIs j))
-          (λ q. tt)
-          (λ q. absurd (n1 q))
-          (λ q. absurd (n2 q))
-          (λ q. absurd (n3 q))
-          (λ q. absurd (n4 q))
-          (λ q. tt)
-          (λ q. tt)
-          (λ q. tt)
-          (λ q. tt)
-          (λ q. absurd (n9 q))
-          (λ j q. tt)
+  fork-nameless e = rw (view-is 8 e)
 
   no-fv : (f : Point → Expr) (k : ℕ) → (k ≡ 1 → ⊥) → (k ≡ 2 → ⊥) → (k ≡ 3 → ⊥) → (k ≡ 4 → ⊥) → (k ≡ 5 → ⊥) → (k ≡ 7 → ⊥) → (k ≡ 8 → ⊥) → (k ≡ 9 → ⊥) → fv (build n f (nodeIs k)) ≡ []
   unfolding kindOf fv
@@ -119,7 +94,7 @@ or-cases : (a b : Bool) → (a || b) ≡ true → (a ≡ true) ⊎ (b ≡ true)
 or-cases true b e = inl refl
 or-cases false b e = inr e
 
--- What holds of every variable in use holds of every free variable.
+-- What holds of every variable that a node names holds of every free variable.
 module _ (P : ℕ → Type 0) where
   abbrev All : List ℕ → Type 0
   All l = (x : ℕ) → isIn x l ≡ true → P x
@@ -138,72 +113,108 @@ module _ (P : ℕ → Type 0) where
   all-without : (y : ℕ) (l : List ℕ) → All l → All (without y l)
   all-without y l f x e = f x (in-without y x l e)
 
-  all-node : (n : Point) (f : Point → Expr) (v : Node) → Uses P v → ((p : Point) → p ∈ parts v → All (fv (f p))) → All (fv (build n f v))
+  all-node : (n : Point) (f : Point → Expr) (v : Node) → ((x : ℕ) → nameIn v ≡ some x → P x) → ((p : Point) → p ∈ parts v → All (fv (f p))) → All (fv (build n f v))
   unfolding fv
   all-node n f n-null u h = all-none
-  all-node n f (n-var x) u h = all-cons x [] (u .0) all-none
-  all-node n f (n-select x g) u h = all-cons x [] (u .0) all-none
-  all-node n f (n-update x g p) u h = all-cons x (fv (f p)) (u .0) (h p first)
-  all-node n f (n-call x m p) u h = all-cons x (fv (f p)) (u .0) (h p first)
+  all-node n f (n-var x) u h = all-cons x [] (u x refl) all-none
+  all-node n f (n-select x g) u h = all-cons x [] (u x refl) all-none
+  all-node n f (n-update x g p) u h = all-cons x (fv (f p)) (u x refl) (h p first)
+  all-node n f (n-call x m p) u h = all-cons x (fv (f p)) (u x refl) (h p first)
   all-node n f (n-bind x p q) u h = all-append (fv (f p)) (without x (fv (f q))) (h p first) (all-without x (fv (f q)) (h q second))
   all-node n f (n-new c) u h = all-none
   all-node n f (n-cast t p) u h = h p first
   all-node n f (n-fork p q r) u h = all-append (fv (f p)) (fv (f q) ++ fv (f r)) (h p first) (all-append (fv (f q)) (fv (f r)) (h q second) (h r third))
-  all-node n f (n-lock x p) u h = all-cons x (fv (f p)) (u .0) (h p first)
+  all-node n f (n-lock x p) u h = all-cons x (fv (f p)) (u x refl) (h p first)
 
 module _ (s : List ℕ) (layout : WithinLayout s) where
-  pub all-free : (P : ℕ → Type 0) → ((n : Point) → n < countOf s nodes → Uses P (viewAt s n)) → (n : Point) → n < countOf s nodes → (x : ℕ) → isIn x (fv (exprAt s n)) ≡ true → P x
-  all-free P uses =
+  -- Every free variable of an expression is named by a node, so it has a rank.
+  pub free-ranked : (facts : List ℕ) (n : Point) → n < countOf s nodes → (x : ℕ) → isIn x (fv (exprAt s n)) ≡ true → (k : ℕ) × RankOf s facts x k
+  free-ranked facts =
       every-node
       s
-      (λ n. All P (fv (exprAt s n)))
+      (λ n. All (λ x. (k : ℕ) × RankOf s facts x k) (fv (exprAt s n)))
       (in-order s layout)
-      (λ n h ih. rw (expr-at s n h (in-order s layout n h)) (all-node P n (exprAt s) (viewAt s n) (uses n h) ih))
+      (λ n h ih.
+      rw (expr-at s n h (in-order s layout n h))
+      (all-node (λ x. (k : ℕ) × RankOf s facts x k) n (exprAt s) (viewAt s n) (λ x e. (getD facts n 0, of-node (record { there = h; name = e }))) ih))
 
   -- A part's mask is in the table.
   pub part-within : (masks : List ℕ) (n p : ℕ) → length masks ≡ NODES → n < countOf s nodes → p ∈ parts (viewAt s n) → p < length masks
   part-within masks n p size h m = omega (arith, in-order s layout n h p m .there, layout .counts-are .within nodes)
 
-module _ (s masks : List ℕ) (start n : ℕ) (h : Ahead s masks start n) where
-  part-free : (p m : ℕ) → p ∈ parts (viewAt s n) → m ≡ getD masks p 0 → MaskOf start m (fv (exprAt s p))
+-- The mask of a node, from its variable's rank and the masks of its parts.
+module _ (s facts masks : List ℕ) (start n : ℕ) (h : Ahead s facts masks start n) where
+  part-free : (p m : ℕ) → p ∈ parts (viewAt s n) → m ≡ getD masks p 0 → MaskOf s facts start m (fv (exprAt s p))
   part-free p m i e = let q = in-order s (h .layout) n (h .there) p i in rw e (h .later p (omega (arith, q .later)) (q .there))
 
+  own-free : (own : ℕ) → Names s n (nodeWord s n 1) → RankMask start (getD facts n 0) own → MaskOf s facts start own (nodeWord s n 1 ∷ [])
+  own-free own q o = mask-rank s facts start (h .count) (nodeWord s n 1) (getD facts n 0) own (h .ranked) (of-node q) o
+
   -- The mask of a node of kind k.
-  pub mask-is : (k m : ℕ) → nodeWord s n 0 ≡ k → MaskOf start m (fv (build n (exprAt s) (nodeIs s n k))) → FreeMask s start n m
+  mask-is : (k m : ℕ) → nodeWord s n 0 ≡ k → MaskOf s facts start m (fv (build n (exprAt s) (nodeIs s n k))) → FreeMask s facts start n m
   mask-is k m e q = rw (expr-at s n (h .there) (in-order s (h .layout) n (h .there)), view-is s n k e) q
 
-  pub mask-use : (p own m : ℕ) → p ∈ parts (viewAt s n) → MaskOf start own (nodeWord s n 1 ∷ []) → m ≡ getD masks p 0 → MaskOf start (bitOr own m) (nodeWord s n 1 ∷ fv (exprAt s p))
-  mask-use p own m i o e = mask-or start own m (nodeWord s n 1 ∷ []) (fv (exprAt s p)) o (part-free p m i e)
+  -- A word of node n has its place in the table of facts.
+  pub fact-within : n < length facts
+  fact-within = omega (arith, h .there, h .layout .counts-are .within nodes, h .ranked .size)
 
-  pub mask-let : (own a b : ℕ) → nodeWord s n 0 ≡ 5 → MaskOf start own (nodeWord s n 1 ∷ []) → a ≡ getD masks (nodeWord s n 2) 0 → b ≡ getD masks (nodeWord s n 3) 0 → FreeMask s start n (bitOr a (bitXor (bitOr b own) own))
+  pub mask-var : (own : ℕ) → nodeWord s n 0 ≡ 1 → RankMask start (getD facts n 0) own → FreeMask s facts start n own
+  unfolding kindOf fv
+  mask-var own k o = mask-is 1 own k (own-free own (naming s n 1 k refl (h .there)) o)
+
+  pub mask-select : (own : ℕ) → nodeWord s n 0 ≡ 2 → RankMask start (getD facts n 0) own → FreeMask s facts start n own
+  unfolding kindOf fv
+  mask-select own k o = mask-is 2 own k (own-free own (naming s n 2 k refl (h .there)) o)
+
+  pub mask-use : (p own m : ℕ) → Names s n (nodeWord s n 1) → p ∈ parts (viewAt s n) → RankMask start (getD facts n 0) own → m ≡ getD masks p 0 → MaskOf s facts start (bitOr own m) (nodeWord s n 1 ∷ fv (exprAt s p))
+  mask-use p own m q i o e = mask-or s facts start own m (nodeWord s n 1 ∷ []) (fv (exprAt s p)) (own-free own q o) (part-free p m i e)
+
+  pub mask-update : (m : ℕ) → nodeWord s n 0 ≡ 3 → MaskOf s facts start m (nodeWord s n 1 ∷ fv (exprAt s (nodeWord s n 3))) → FreeMask s facts start n m
+  unfolding kindOf fv
+  mask-update m k q = mask-is 3 m k q
+
+  pub mask-call : (m : ℕ) → nodeWord s n 0 ≡ 4 → MaskOf s facts start m (nodeWord s n 1 ∷ fv (exprAt s (nodeWord s n 3))) → FreeMask s facts start n m
+  unfolding kindOf fv
+  mask-call m k q = mask-is 4 m k q
+
+  pub mask-lock : (m : ℕ) → nodeWord s n 0 ≡ 9 → MaskOf s facts start m (nodeWord s n 1 ∷ fv (exprAt s (nodeWord s n 2))) → FreeMask s facts start n m
+  unfolding kindOf fv
+  mask-lock m k q = mask-is 9 m k q
+
+  pub mask-let : (own a b : ℕ) → nodeWord s n 0 ≡ 5 → RankMask start (getD facts n 0) own → a ≡ getD masks (nodeWord s n 2) 0 → b ≡ getD masks (nodeWord s n 3) 0 → FreeMask s facts start n (bitOr a (bitXor (bitOr b own) own))
   unfolding kindOf fv
   mask-let own a b k o ea eb =
       let p = part-free (nodeWord s n 2) a (part-of s n 5 _ k first) ea in
       let q = part-free (nodeWord s n 3) b (part-of s n 5 _ k second) eb in
-      mask-is 5 _ k (mask-or start a _ (fv (exprAt s (nodeWord s n 2))) _ p (mask-without start b own _ (fv (exprAt s (nodeWord s n 3))) q o))
+      let w = own-free own (naming s n 5 k refl (h .there)) o in
+      mask-is 5 _ k (mask-or s facts start a _ (fv (exprAt s (nodeWord s n 2))) _ p (mask-without s facts start b own _ (fv (exprAt s (nodeWord s n 3))) q w))
 
-  pub mask-fork : (a b c : ℕ) → nodeWord s n 0 ≡ 8 → a ≡ getD masks (nodeWord s n 1) 0 → b ≡ getD masks (nodeWord s n 2) 0 → c ≡ getD masks (nodeWord s n 3) 0 → FreeMask s start n (bitOr a (bitOr b c))
+  pub mask-fork : (a b c : ℕ) → nodeWord s n 0 ≡ 8 → a ≡ getD masks (nodeWord s n 1) 0 → b ≡ getD masks (nodeWord s n 2) 0 → c ≡ getD masks (nodeWord s n 3) 0 → FreeMask s facts start n (bitOr a (bitOr b c))
   unfolding kindOf fv
   mask-fork a b c k ea eb ec =
       let p = part-free (nodeWord s n 1) a (part-of s n 8 _ k first) ea in
       let q = part-free (nodeWord s n 2) b (part-of s n 8 _ k second) eb in
       let r = part-free (nodeWord s n 3) c (part-of s n 8 _ k third) ec in
-      mask-is 8 _ k (mask-or start a _ (fv (exprAt s (nodeWord s n 1))) _ p (mask-or start b c (fv (exprAt s (nodeWord s n 2))) (fv (exprAt s (nodeWord s n 3))) q r))
+      mask-is
+      8
+      _
+      k
+      (mask-or s facts start a _ (fv (exprAt s (nodeWord s n 1))) _ p (mask-or s facts start b c (fv (exprAt s (nodeWord s n 2))) (fv (exprAt s (nodeWord s n 3))) q r))
 
-  pub mask-cast : (m : ℕ) → nodeWord s n 0 ≡ 7 → m ≡ getD masks (nodeWord s n 2) 0 → FreeMask s start n m
+  pub mask-cast : (m : ℕ) → nodeWord s n 0 ≡ 7 → m ≡ getD masks (nodeWord s n 2) 0 → FreeMask s facts start n m
   unfolding kindOf fv
   mask-cast m k e = mask-is 7 m k (part-free (nodeWord s n 2) m (part-of s n 7 _ k first) e)
 
-  pub mask-rest : (k : ℕ) → k ≡ nodeWord s n 0 → (k ≡ 1 → ⊥) → (k ≡ 2 → ⊥) → (k ≡ 3 → ⊥) → (k ≡ 4 → ⊥) → (k ≡ 5 → ⊥) → (k ≡ 7 → ⊥) → (k ≡ 8 → ⊥) → (k ≡ 9 → ⊥) → FreeMask s start n 0
-  mask-rest k e n1 n2 n3 n4 n5 n7 n8 n9 = mask-is k 0 (sym e) (rw (no-fv s n (exprAt s) k n1 n2 n3 n4 n5 n7 n8 n9) (mask-none start))
+  pub mask-rest : (k : ℕ) → k ≡ nodeWord s n 0 → (k ≡ 1 → ⊥) → (k ≡ 2 → ⊥) → (k ≡ 3 → ⊥) → (k ≡ 4 → ⊥) → (k ≡ 5 → ⊥) → (k ≡ 7 → ⊥) → (k ≡ 8 → ⊥) → (k ≡ 9 → ⊥) → FreeMask s facts start n 0
+  mask-rest k e n1 n2 n3 n4 n5 n7 n8 n9 = mask-is k 0 (sym e) (rw (no-fv s n (exprAt s) k n1 n2 n3 n4 n5 n7 n8 n9) (mask-none s facts start))
 
 -- The mark of a node after one more span.
 module _ (s masks : List ℕ) (n t : ℕ) where
   abbrev pub Marks : ℕ → Type 0
-  Marks r = (start : ℕ) → Along (FreeMask s start) masks n (countOf s nodes) → ForkMark s start n t → ForkMark s (start + SPAN) n r
+  Marks r = (facts : List ℕ) (start : ℕ) → Along (FreeMask s facts start) masks n (countOf s nodes) → ForkMark s facts start n t → ForkMark s facts (start + SPAN) n r
 
   pub mark-other : (k : ℕ) → k ≡ nodeWord s n 0 → (k ≡ 8 → ⊥) → Marks t
-  mark-other k e n8 start masked mark a b c v = absurd (n8 (e ∙ fork-kind s n a b c v))
+  mark-other k e n8 facts start masked mark a b c v = absurd (n8 (e ∙ fork-kind s n a b c v))
 
   module _ (layout : WithinLayout s) (there : n < countOf s nodes) (k a b : ℕ) (fork : k ≡ 8) (k-is : k ≡ nodeWord s n 0)
       (a-is : a ≡ getD masks (nodeWord s n 1) 0) (b-is : b ≡ getD masks (nodeWord s n 2) 0) where
@@ -211,35 +222,39 @@ module _ (s masks : List ℕ) (n t : ℕ) where
     unfolding kindOf
     words p q r v = let e : n-fork (nodeWord s n 1) (nodeWord s n 2) (nodeWord s n 3) ≡ n-fork p q r = sym (view-is s n 8 (sym k-is ∙ fork)) ∙ v in (cc, cc)
 
-    async : (start p m : ℕ) → Along (FreeMask s start) masks n (countOf s nodes) → p ∈ parts (viewAt s n) → m ≡ getD masks p 0 → MaskOf start m (fv (exprAt s p))
-    async start p m masked i e = let w = in-order s layout n there p i in rw e (masked p (omega (arith, w .later)) (w .there))
+    async : (facts : List ℕ) (start p m : ℕ) → Along (FreeMask s facts start) masks n (countOf s nodes) → p ∈ parts (viewAt s n) → m ≡ getD masks p 0 → MaskOf s facts start m (fv (exprAt s p))
+    async facts start p m masked i e = let w = in-order s layout n there p i in rw e (masked p (omega (arith, w .later)) (w .there))
 
     pub mark-same : bitAnd a b ≡ 0 → Marks t
-    mark-same z start masked mark p q r v =
+    mark-same z facts start masked mark p q r v =
         let e = words p q r v in
         mark-kept
+        s
+        facts
         (fv (exprAt s p))
         (fv (exprAt s q))
         start
         t
         a
         b
-        (async start p a masked (rw v first) (rw (e .0) at a-is))
-        (async start q b masked (rw v second) (rw (e .1) at b-is))
+        (async facts start p a masked (rw v first) (rw (e .0) at a-is))
+        (async facts start q b masked (rw v second) (rw (e .1) at b-is))
         z
         (mark p q r v)
 
-    pub mark-new : a < 2 ^ 64 → (bitAnd a b ≡ 0 → ⊥) → Marks 1
-    mark-new f z start masked mark p q r v =
+    pub mark-new : a < 2 ^ SPAN → (bitAnd a b ≡ 0 → ⊥) → Marks 1
+    mark-new f z facts start masked mark p q r v =
         let e = words p q r v in
         masks-meet
+        s
+        facts
         start
         a
         b
         (fv (exprAt s p))
         (fv (exprAt s q))
-        (async start p a masked (rw v first) (rw (e .0) at a-is))
-        (async start q b masked (rw v second) (rw (e .1) at b-is))
+        (async facts start p a masked (rw v first) (rw (e .0) at a-is))
+        (async facts start q b masked (rw v second) (rw (e .1) at b-is))
         f
         z
         (start + SPAN)

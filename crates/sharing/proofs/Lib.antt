@@ -1,4 +1,5 @@
 pub mod MaskLaws
 pub mod MarkLaws
 pub mod FreeLaws
+pub mod LikeLaws
 pub mod SpanLaws

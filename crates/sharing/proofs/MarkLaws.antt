@@ -1,5 +1,5 @@
 -- Marks of forks: what they say of two lists from span to span, and in the end.
-use Prim.Native.Nat.{ℕ, _+_, _<_, _≤_}
+use Prim.Native.Nat.{ℕ, _+_, _-_, _<_}
 use mathlib.Core.Path.{_≡_, refl, sym}
 use mathlib.Core.Bool.{Bool, true, false, _||_}
 use mathlib.Core.List.{List, [], _∷_}
@@ -9,7 +9,8 @@ use lib.Dec.{eqb, ltb}
 use borrow.Author.Tests.{eq-eqb, eqb-true, ltb-true, ltb-false}
 use Rattle.script.proofs.Tests.{true-false}
 use Rattle.typing.specs.Typing.{isIn, shares}
-use Rattle.sharing.specs.Tables.{flagOf}
+use Rattle.names.specs.Ranks.{RankOf}
+use Rattle.names.specs.Facts.{flagOf}
 use Rattle.sharing.specs.Free.{SPAN, MaskOf, Mark, met, apart}
 use Rattle.sharing.proofs.MaskLaws.{masks-apart}
 
@@ -36,30 +37,23 @@ shares-no (y ∷ l) m f = go (isIn y m) refl (shares-no l m (λ x p q. f x (rw p
     go true e ih = absurd (f y (rw (eq-eqb y y refl)) e)
     go false e ih = ih
 
-module _ (l m : List ℕ) where
-  -- Below 0 there is no variable.
-  pub mark-none : Mark 0 l m 0
-  mark-none = apart (λ x h p q. omega arith)
-
-  -- A mark holds up to the next variable.
-  pub mark-next : (bound next t : ℕ) → ((x : ℕ) → isIn x l ≡ true → bound ≤ x → next ≤ x) → Mark bound l m t → Mark next l m t
-  mark-next bound next t gap (met x p q) = met x p q
-  mark-next bound next t gap (apart f) = apart (λ x h p q. go x h p q (ltb x bound) refl)
-    where
-      go : (x : ℕ) → x < next → isIn x l ≡ true → isIn x m ≡ true → (b : Bool) → ltb x bound ≡ b → ⊥
-      go x h p q true e = f x (ltb-true x bound e) p q
-      go x h p q false e = omega (arith, gap x p (ltb-false x bound e))
+module _ (s facts l m : List ℕ) where
+  -- No rank is below 0.
+  pub mark-none : Mark s facts 0 l m 0
+  mark-none = apart (λ x k r h p q. omega arith)
 
   -- A mark holds over a span of which the masks have no bit in common.
-  pub mark-kept : (start t a b : ℕ) → MaskOf start a l → MaskOf start b m → bitAnd a b ≡ 0 → Mark start l m t → Mark (start + SPAN) l m t
+  pub mark-kept : (start t a b : ℕ) → MaskOf s facts start a l → MaskOf s facts start b m → bitAnd a b ≡ 0 → Mark s facts start l m t → Mark s facts (start + SPAN) l m t
   mark-kept start t a b p q z (met x y y′) = met x y y′
-  mark-kept start t a b p q z (apart f) = apart (λ x h y y′. go x h y y′ (ltb x start) refl)
+  mark-kept start t a b p q z (apart f) = apart (λ x k r h y y′. go x k r h y y′ (ltb k start) refl)
     where
-      go : (x : ℕ) → x < start + SPAN → isIn x l ≡ true → isIn x m ≡ true → (b : Bool) → ltb x start ≡ b → ⊥
-      go x h y y′ true e = f x (ltb-true x start e) y y′
-      go x h y y′ false e = masks-apart start a b l m p q z x (ltb-false x start e) h y y′
+      go : (x k : ℕ) → RankOf s facts x k → k < start + SPAN → isIn x l ≡ true → isIn x m ≡ true → (b : Bool) → ltb k start ≡ b → ⊥
+      go x k r h y y′ true e = f x k r (ltb-true k start e) y y′
+      go x k r h y y′ false e =
+          let d : k ≡ start + (k - start) = omega (arith, ltb-false k start e) in
+          masks-apart s facts start a b l m p q z x (k - start) (omega arith) (rw d at r) y y′
 
-  -- Past every variable a mark is the answer.
-  pub mark-done : (bound t : ℕ) → ((x : ℕ) → isIn x l ≡ true → x < bound) → Mark bound l m t → t ≡ flagOf (shares l m)
+  -- Past every rank a mark is the answer.
+  pub mark-done : (bound t : ℕ) → ((x : ℕ) → isIn x l ≡ true → (k : ℕ) × ((k < bound) × RankOf s facts x k)) → Mark s facts bound l m t → t ≡ flagOf (shares l m)
   mark-done bound t all (met x p q) = rw (shares-yes x l m p q)
-  mark-done bound t all (apart f) = rw (shares-no l m (λ x p q. f x (all x p) p q))
+  mark-done bound t all (apart f) = rw (shares-no l m (λ x p q. let a = all x p in f x (a .0) (a .1 .1) (a .1 .0) p q))

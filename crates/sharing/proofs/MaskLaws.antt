@@ -3,6 +3,7 @@ use Prim.Native.Nat.{ℕ, zero, suc, _+_, _*_, _-_, _/_, _%_, _^_, _<_, _≤_, m
 use mathlib.Core.Path.{_≡_, refl, sym, ap, _∙_}
 use mathlib.Core.Bool.{Bool, true, false, _||_}
 use mathlib.Core.List.{List, [], _∷_, _++_}
+use mathlib.Core.Logic.{_⊎_, ⊎-elim, inl, inr}
 use native.Mathlib.Nat.{mod-lt, lt-of-le-of-lt}
 use native.Mathlib.Omega.{arith}
 use native.Mathlib.Numerals.{add-one}
@@ -10,11 +11,12 @@ use lib.Dec.{eqb}
 use lib.Arith.{digits-mod}
 use lib.Pow.{shl-exact, shr-shr, shr-lt}
 use lib.Bits.{bitAnd, bitOr, bitXor, differ, and-step, or-step, xor-step, and-shr, or-shr, xor-shr, and-le-l, shifted-half, shifted-even}
-use borrow.Author.Tests.{ne-eqb, eqb-true, eqb-false}
+use borrow.Author.Tests.{eq-eqb, ne-eqb, eqb-true, eqb-false}
 use Rattle.script.proofs.Tests.{true-false}
 use Rattle.typing.specs.Typing.{without, isIn}
-use Rattle.sharing.specs.Tables.{flagOf}
-use Rattle.sharing.specs.Free.{SPAN, bitOf, MaskOf, Mark, met}
+use Rattle.names.specs.Ranks.{RankOf, Ranked}
+use Rattle.names.specs.Facts.{flagOf}
+use Rattle.sharing.specs.Free.{SPAN, bitOf, MaskOf, RankMask, Mark, met}
 
 -- An operation that goes through two numbers digit by digit does f to each two bits.
 module _ (op f : ℕ → ℕ → ℕ)
@@ -152,52 +154,95 @@ both-flags true false e = absurd (omega arith)
 both-flags false true e = absurd (omega arith)
 both-flags false false e = absurd (omega arith)
 
-module _ (start : ℕ) where
-  pub mask-none : MaskOf start 0 []
-  unfolding isIn
-  mask-none = record { tells = λ k h. bit-zero k }
+-- A bit that an operation makes 1 comes from one that is 1.
+max-one : (a b : ℕ) → max a b ≡ 1 → (a ≡ 1) ⊎ (b ≡ 1)
+max-one zero b e = inr (omega arith)
+max-one (suc a) b e = inl (omega arith)
 
-  pub mask-or : (a b : ℕ) (l m : List ℕ) → MaskOf start a l → MaskOf start b m → MaskOf start (bitOr a b) (l ++ m)
+off-one : (a b : ℕ) → a < 2 → b < 2 → differ (max a b) b ≡ 1 → max a b ≡ 1
+off-one a b p q e = go (max a b) (omega arith) (omega arith) e
+  where
+    go : (m : ℕ) → m < 2 → b ≤ m → differ m b ≡ 1 → m ≡ 1
+    go zero h l e = absurd (omega arith)
+    go (suc m) h l e = omega arith
+
+bit-small : (m k : ℕ) → bitOf m k < 2
+unfolding bitOf
+bit-small m k = mod-lt (m / 2 ^ k) (omega arith)
+
+min-one : (a b : ℕ) → a < 2 → min a b ≡ 1 → a ≡ 1
+min-one a b h e = omega arith
+
+flag-one : (b : Bool) → flagOf b ≡ 1 → b ≡ true
+flag-one true e = refl
+flag-one false e = absurd (omega arith)
+
+-- The mask of a rank, outside of the span and in it.
+module _ (start : ℕ) where
+  pub rank-outside : (rank : ℕ) → ((k : ℕ) → k < SPAN → rank ≡ start + k → ⊥) → RankMask start rank 0
+  rank-outside rank n k h = rw (ne-eqb rank (start + k) (n k h)) (bit-zero k)
+
+  pub rank-inside : (rank : ℕ) → start ≤ rank → rank - start < SPAN → RankMask start rank ((1 * 2 ^ (rank - start)) % 2 ^ SPAN)
+  rank-inside rank h w k b = rw (shl-exact {a = 1} 1 (rank - start) SPAN (omega arith) (omega arith)) (go (eqb rank (start + k)) refl)
+    where
+      go : (b : Bool) → eqb rank (start + k) ≡ b → bitOf (1 * 2 ^ (rank - start)) k ≡ flagOf (eqb rank (start + k))
+      go true e = let q : rank - start ≡ k = omega (arith, eqb-true rank (start + k) e) in rw (e, q) (bit-same k)
+      go false e = rw e (bit-other (rank - start) k (λ q. eqb-false rank (start + k) e (omega arith)))
+
+module _ (s facts : List ℕ) (start : ℕ) where
+  abbrev Mask : ℕ → List ℕ → Type 0
+  Mask = MaskOf s facts start
+
+  pub mask-none : Mask 0 []
+  unfolding isIn
+  mask-none = record { tells = λ x k h r. bit-zero k; only = λ k h e. absurd (omega (arith, bit-zero k)) }
+
+  pub mask-or : (a b : ℕ) (l m : List ℕ) → Mask a l → Mask b m → Mask (bitOr a b) (l ++ m)
   mask-or a b l m p q =
       record {
-        tells = λ k h. bit-or a b k ∙ rw (p .tells k h, q .tells k h, in-append (start + k) l m) (flag-or (isIn (start + k) l) (isIn (start + k) m));
+        tells = λ x k h r. bit-or a b k ∙ rw (p .tells x k h r, q .tells x k h r, in-append x l m) (flag-or (isIn x l) (isIn x m));
+        only = λ k h e. ⊎-elim (p .only k h) (q .only k h) (max-one (bitOf a k) (bitOf b k) (sym (bit-or a b k) ∙ e));
       }
 
-  pub mask-without : (a o x : ℕ) (l : List ℕ) → MaskOf start a l → MaskOf start o (x ∷ []) → MaskOf start (bitXor (bitOr a o) o) (without x l)
+  pub mask-without : (a o x : ℕ) (l : List ℕ) → Mask a l → Mask o (x ∷ []) → Mask (bitXor (bitOr a o) o) (without x l)
   mask-without a o x l p q =
-      record { tells = λ k h. bit-xor (bitOr a o) o k ∙ rw (bit-or a o k, p .tells k h, q .tells k h, in-one (start + k) x) (go (start + k) (eqb x (start + k)) refl) }
+      record {
+        tells = λ y k h r. bit-xor (bitOr a o) o k ∙ rw (bit-or a o k, p .tells y k h r, q .tells y k h r, in-one y x) (go y (eqb x y) refl);
+        only = λ k h e. ⊎-elim (p .only k h) (q .only k h) (max-one (bitOf a k) (bitOf o k) (off-one (bitOf a k) (bitOf o k) (bit-small a k) (bit-small o k) (sym (bit-xor (bitOr a o) o k ∙ rw (bit-or a o k)) ∙ e)));
+      }
     where
       go : (y : ℕ) (b : Bool) → eqb x y ≡ b → differ (max (flagOf (isIn y l)) (flagOf (eqb x y))) (flagOf (eqb x y)) ≡ flagOf (isIn y (without x l))
       go y true e = flag-off (isIn y l) (eqb x y) e ∙ rw (eqb-true x y e, without-own y l)
       go y false e = flag-kept (isIn y l) (eqb x y) e ∙ ap flagOf (sym (without-other x y l e))
 
-  -- A variable outside of the span, and one in it.
-  pub mask-outside : (x : ℕ) → ((k : ℕ) → k < SPAN → x ≡ start + k → ⊥) → MaskOf start 0 (x ∷ [])
-  mask-outside x n = record { tells = λ k h. rw (in-one (start + k) x, ne-eqb x (start + k) (n k h)) (bit-zero k) }
-
-  pub mask-inside : (x : ℕ) → start ≤ x → x - start < SPAN → MaskOf start ((1 * 2 ^ (x - start)) % 2 ^ 64) (x ∷ [])
-  mask-inside x h w = record { tells = λ k b. rw (shl-exact {a = 1} 1 (x - start) 64 (omega arith) (omega arith), in-one (start + k) x) (go k (eqb x (start + k)) refl) }
+  -- The mask of a variable is that of its rank.
+  pub mask-rank : (count x rank m : ℕ) → Ranked s facts count → RankOf s facts x rank → RankMask start rank m → Mask m (x ∷ [])
+  mask-rank count x rank m ranked r bits =
+      record {
+        tells = λ y k h t. bits k h ∙ rw (in-one y x) (go y k t (eqb x y) refl);
+        only = λ k h e. (x, rw (eqb-true rank (start + k) (flag-one (eqb rank (start + k)) (sym (bits k h) ∙ e))) at r);
+      }
     where
-      go : (k : ℕ) (b : Bool) → eqb x (start + k) ≡ b → bitOf (1 * 2 ^ (x - start)) k ≡ flagOf (eqb x (start + k))
-      go k true e = let q : x - start ≡ k = omega (arith, eqb-true x (start + k) e) in rw (e, q) (bit-same k)
-      go k false e = rw e (bit-other (x - start) k (λ q. eqb-false x (start + k) e (omega arith)))
+      go : (y k : ℕ) → RankOf s facts y (start + k) → (b : Bool) → eqb x y ≡ b → flagOf (eqb rank (start + k)) ≡ flagOf (eqb x y)
+      go y k t true e = let q = ranked .same (rw (eqb-true x y e) at r) t in rw (e, eq-eqb rank (start + k) q)
+      go y k t false e = rw (e, ne-eqb rank (start + k) (λ q. eqb-false x y e (ranked .apart (rw q at r) t)))
 
-  module _ (a b : ℕ) (l m : List ℕ) (p : MaskOf start a l) (q : MaskOf start b m) where
-    both-bits : (k : ℕ) → k < SPAN → bitOf (bitAnd a b) k ≡ min (flagOf (isIn (start + k) l)) (flagOf (isIn (start + k) m))
-    both-bits k h = bit-and a b k ∙ rw (p .tells k h, q .tells k h)
+  module _ (a b : ℕ) (l m : List ℕ) (p : Mask a l) (q : Mask b m) where
+    both-bits : (x k : ℕ) → k < SPAN → RankOf s facts x (start + k) → bitOf (bitAnd a b) k ≡ min (flagOf (isIn x l)) (flagOf (isIn x m))
+    both-bits x k h r = bit-and a b k ∙ rw (p .tells x k h r, q .tells x k h r)
 
     -- Masks with no bit in common tell of no variable in both lists.
-    pub masks-apart : bitAnd a b ≡ 0 → (x : ℕ) → start ≤ x → x < start + SPAN → isIn x l ≡ true → isIn x m ≡ true → ⊥
-    masks-apart z x f h y y′ =
-        let k : ℕ = x - start in
-        let e : start + k ≡ x = omega arith in
-        let u : bitOf 0 k ≡ min (flagOf (isIn x l)) (flagOf (isIn x m)) = rw (z, e) at (both-bits k (omega arith)) in
+    pub masks-apart : bitAnd a b ≡ 0 → (x k : ℕ) → k < SPAN → RankOf s facts x (start + k) → isIn x l ≡ true → isIn x m ≡ true → ⊥
+    masks-apart z x k h r y y′ =
+        let u : bitOf 0 k ≡ min (flagOf (isIn x l)) (flagOf (isIn x m)) = rw z at (both-bits x k h r) in
         let v : bitOf 0 k ≡ 1 = rw (y, y′) at u in
         omega (arith, bit-zero k)
 
     -- Masks with a bit in common tell of a variable in both lists.
-    pub masks-meet : a < 2 ^ 64 → (bitAnd a b ≡ 0 → ⊥) → (bound : ℕ) → Mark bound l m 1
+    pub masks-meet : a < 2 ^ SPAN → (bitAnd a b ≡ 0 → ⊥) → (bound : ℕ) → Mark s facts bound l m 1
     masks-meet f n bound =
-        let c = set-bit 64 (bitAnd a b) (lt-of-le-of-lt (and-le-l a b) f) n in
-        let e = both-flags (isIn (start + c .place) l) (isIn (start + c .place) m) (sym (both-bits (c .place) (c .within)) ∙ c .set) in
-        met (start + c .place) (e .0) (e .1)
+        let c = set-bit SPAN (bitAnd a b) (lt-of-le-of-lt (and-le-l a b) f) n in
+        let own : bitOf a (c .place) ≡ 1 = min-one (bitOf a (c .place)) (bitOf b (c .place)) (bit-small a (c .place)) (sym (bit-and a b (c .place)) ∙ c .set) in
+        let x = p .only (c .place) (c .within) own in
+        let e = both-flags (isIn (x .0) l) (isIn (x .0) m) (sym (both-bits (x .0) (c .place) (c .within) (x .1)) ∙ c .set) in
+        met (x .0) (e .0) (e .1)

@@ -5,22 +5,23 @@ use mathlib.Core.List.{List}
 use mathlib.Core.Logic.{⊎-elim}
 use native.Mathlib.Nat.{eq-or-lt-of-le}
 use native.Mathlib.Omega.{arith}
-use borrow.Author.Count.{below-more}
-use lib.ListN.{length, getD, set, length-set, replicate, getD-replicate}
+use lib.ListN.{length, getD, set, length-set}
 use lib.Seq.{getD-set-same, getD-set-other}
 use Rattle.limits.specs.Limits.{NODES}
 use Rattle.script.specs.declared.Section.the-variants.{Nodes as nodes}
 use Rattle.script.specs.Section.{countOf, nodeWord}
-use Rattle.script.specs.Syntax.{namesOf, n-fork}
+use Rattle.script.specs.Syntax.{n-fork}
 use Rattle.script.specs.Reading.{viewAt, exprAt}
 use Rattle.script.specs.Statements.{WithinLayout}
-use Rattle.script.proofs.Lists.{every-map}
 use Rattle.script.proofs.Reading.{first, in-order}
 use Rattle.typing.specs.Typing.{fv, shares}
-use Rattle.sharing.specs.Tables.{flagOf, Forks}
-use Rattle.sharing.specs.Free.{SPAN, NAMES, FreeMask, Along, Ahead, ForkMark, Uses, Beyond, NextUse}
-use Rattle.sharing.proofs.MarkLaws.{mark-none, mark-next, mark-done}
-use Rattle.sharing.proofs.FreeLaws.{all-free, fork-kind, Marks}
+use Rattle.names.specs.Ranks.{Ranked, Indexed}
+use Rattle.names.specs.Facts.{flagOf, Facts}
+use Rattle.names.specs.Filling.{Nameless}
+use Rattle.sharing.specs.Free.{SPAN, FreeMask, Along, Ahead, ForkMark, ForkMarks, IsFork, Like}
+use Rattle.sharing.proofs.MarkLaws.{mark-none, mark-done}
+use Rattle.sharing.proofs.FreeLaws.{free-ranked, fork-kind, fork-nameless, Marks}
+use Rattle.sharing.proofs.LikeLaws.{like-self, like-then, like-back, like-set, ranked-like, indexed-like, mask-like, mark-like}
 
 -- A store right before the entries that are known, and one past them.
 module _ (P : ℕ → ℕ → Type 0) (table : List ℕ) (n v : ℕ) where
@@ -34,111 +35,97 @@ module _ (P : ℕ → ℕ → Type 0) (table : List ℕ) (n v : ℕ) where
   along-before : (j : ℕ) → j ≤ n → Along P table 0 j → Along P (set table n v) 0 j
   along-before j h along i b t = rw (getD-set-other table n i v 0 (λ e. omega arith)) (along i b t)
 
--- The variables in use of the first n nodes lie beyond.
-abbrev pub BeyondTo : List ℕ → ℕ → ℕ → ℕ → Type 0
-BeyondTo s start next n = (k : ℕ) → k < n → Uses (Beyond start next) (viewAt s k)
-
-pub next-step : (s : List ℕ) (start next n x r : ℕ) → BeyondTo s start next n → Uses (λ y. (y ≡ x) × (y < NAMES)) (viewAt s n) → r ≤ next → (start ≤ x → r ≤ x) → BeyondTo s start r (n + 1)
-next-step s start next n x r all here less near =
-    below-more
-    (λ k. Uses (Beyond start r) (viewAt s k))
-    n
-    (λ k h. every-map (Beyond start next) (Beyond start r) further (namesOf (viewAt s k)) (all k h))
-    (every-map (λ y. (y ≡ x) × (y < NAMES)) (Beyond start r) own (namesOf (viewAt s n)) here)
-  where
-    further : (y : ℕ) → Beyond start next y → Beyond start r y
-    further y b = record { gap = λ h. omega (arith, b .gap h); word = b .word }
-
-    own : (y : ℕ) → (y ≡ x) × (y < NAMES) → Beyond start r y
-    own y e = record { gap = λ h. omega (arith, near (omega arith)); word = e .1 }
-
--- Every variable in use is a word.
-abbrev Words : List ℕ → Type 0
-Words s = (n : ℕ) → n < countOf s nodes → Uses (λ x. x < NAMES) (viewAt s n)
-
-pub words-of : (s : List ℕ) (start next : ℕ) → NextUse s start next → Words s
-words-of s start next u n h = every-map (Beyond start next) (λ x. x < NAMES) (λ x b. b .word) (namesOf (viewAt s n)) (u .gap n h)
-
 module _ (s : List ℕ) (layout : WithinLayout s) where
-  abbrev Marked : ℕ → List ℕ → Type 0
-  Marked bound forks = Along (ForkMark s bound) forks 0 (countOf s nodes)
+  -- Before the first span no fork is marked.
+  pub marks-none : (facts : List ℕ) → Nameless s facts → ForkMarks s 0 facts
+  marks-none facts z n b h p q r v =
+      rw (z .zero n h (fork-nameless s n (fork-kind s n p q r v))) (mark-none s facts (fv (exprAt s p)) (fv (exprAt s q)))
 
-  -- Marks hold up to the next variable in use.
-  pub marked-next : (bound next : ℕ) (forks : List ℕ) → NextUse s bound next → Marked bound forks → Marked next forks
-  marked-next bound next forks u marked n b h p q r v =
-      mark-next
-      (fv (exprAt s p))
-      (fv (exprAt s q))
-      bound
-      next
-      (getD forks n 0)
-      (all-free s layout (λ x. bound ≤ x → next ≤ x) gaps p (in-order s layout n h p (rw v first) .there))
-      (marked n b h p q r v)
+  -- Past every rank the marks are the answers.
+  pub marks-all : (facts facts′ : List ℕ) (count bound : ℕ) → Like s facts facts′ → Ranked s facts count → Indexed s facts → count ≤ bound → ForkMarks s bound facts′ → Facts s facts′
+  marks-all facts facts′ count bound l ranked indexed past marks =
+      record { count = count; ranked = ranked′; indexed = indexed-like s facts facts′ layout l count ranked indexed; forks = record { flags = flags } }
     where
-      gaps : (k : ℕ) → k < countOf s nodes → Uses (λ x. bound ≤ x → next ≤ x) (viewAt s k)
-      gaps k l = every-map (Beyond bound next) (λ x. bound ≤ x → next ≤ x) (λ x b. b .gap) (namesOf (viewAt s k)) (u .gap k l)
+      ranked′ : Ranked s facts′ count
+      ranked′ = ranked-like l ranked
 
-  -- Past every name the marks are the answers.
-  pub marked-all : (bound : ℕ) (forks : List ℕ) → NAMES ≤ bound → length forks ≡ NODES → Words s → Marked bound forks → Forks s forks
-  marked-all bound forks past size small marked = record { size = size; flags = flags }
-    where
-      below : (k : ℕ) → k < countOf s nodes → Uses (λ x. x < bound) (viewAt s k)
-      below k l = every-map (λ x. x < NAMES) (λ x. x < bound) (λ x b. omega arith) (namesOf (viewAt s k)) (small k l)
-
-      flags : (n a b c : ℕ) → n < countOf s nodes → viewAt s n ≡ n-fork a b c → getD forks n 0 ≡ flagOf (shares (fv (exprAt s a)) (fv (exprAt s b)))
+      flags : (n a b c : ℕ) → n < countOf s nodes → viewAt s n ≡ n-fork a b c → getD facts′ n 0 ≡ flagOf (shares (fv (exprAt s a)) (fv (exprAt s b)))
       flags n a b c h v =
           mark-done
+          s
+          facts′
           (fv (exprAt s a))
           (fv (exprAt s b))
           bound
-          (getD forks n 0)
-          (all-free s layout (λ x. x < bound) below a (in-order s layout n h a (rw v first) .there))
-          (marked n (omega arith) h a b c v)
+          (getD facts′ n 0)
+          (λ x i.
+          let u = free-ranked s layout facts′ a (in-order s layout n h a (rw v first) .there) x i in
+          (u .0, (omega (arith, ranked′ .below (u .1)), u .1)))
+          (marks n (omega arith) h a b c v)
 
-  -- A table of zeros has no fork marked.
-  pub marked-none : (forks : List ℕ) (size : ℕ) → size ≡ NODES → forks ≡ replicate size 0 → Marked 0 forks
-  marked-none forks size e zeros n b h p q r v =
-      rw (zeros, e, getD-replicate {A = ℕ} NODES n 0 0 (omega (arith, layout .counts-are .within nodes))) (mark-none (fv (exprAt s p)) (fv (exprAt s q)))
+-- With no fork nothing is asked of the words of forks.
+pub no-forks : (s facts : List ℕ) (count : ℕ) → Ranked s facts count → Indexed s facts → ((n : ℕ) → n < countOf s nodes → nodeWord s n 0 ≡ 8 → ⊥) → Facts s facts
+no-forks s facts count ranked indexed none =
+    record { count = count; ranked = ranked; indexed = indexed; forks = record { flags = λ n a b c h v. absurd (none n h (fork-kind s n a b c v)) } }
 
--- With no fork every table is right.
-pub no-forks : (s forks : List ℕ) → length forks ≡ NODES → ((n : ℕ) → n < countOf s nodes → nodeWord s n 0 ≡ 8 → ⊥) → Forks s forks
-no-forks s forks size none = record { size = size; flags = λ n a b c h v. absurd (none n h (fork-kind s n a b c v)) }
-
--- What the loop over a span keeps: the masks of the nodes from n on, and their marks with those of the nodes before.
-pub record SpanTo (s : List ℕ) (start : ℕ) (masks forks : List ℕ) (n : ℕ) : Type 0 where
+-- What the loop over a span keeps: the masks of the nodes from n on, and their marks with those of the nodes before. Ranks are those of the table at the start.
+pub record SpanTo (s : List ℕ) (start : ℕ) (masks facts facts′ : List ℕ) (n : ℕ) : Type 0 where
   pub within : n ≤ countOf s nodes
   pub masks-size : length masks ≡ NODES
-  pub forks-size : length forks ≡ NODES
-  pub masked : Along (FreeMask s start) masks n (countOf s nodes)
-  pub after : Along (ForkMark s (start + SPAN)) forks n (countOf s nodes)
-  pub before : Along (ForkMark s start) forks 0 n
+  pub like : Like s facts facts′
+  pub masked : Along (FreeMask s facts start) masks n (countOf s nodes)
+  pub after : Along (ForkMark s facts (start + SPAN)) facts′ n (countOf s nodes)
+  pub before : Along (ForkMark s facts start) facts′ 0 n
 
-pub span-none : (s : List ℕ) (start : ℕ) (masks forks : List ℕ) (n : ℕ) → n ≡ countOf s nodes → length masks ≡ NODES → length forks ≡ NODES → Along (ForkMark s start) forks 0 (countOf s nodes) → SpanTo s start masks forks n
-span-none s start masks forks n e p q marked =
+pub span-none : (s : List ℕ) (start : ℕ) (masks facts : List ℕ) (n : ℕ) → n ≡ countOf s nodes → length masks ≡ NODES → ForkMarks s start facts → SpanTo s start masks facts facts n
+span-none s start masks facts n e p marks =
     record {
       within = omega arith;
       masks-size = p;
-      forks-size = q;
+      like = like-self;
       masked = λ i b h. absurd (omega arith);
       after = λ i b h. absurd (omega arith);
-      before = λ i b h. marked i b (omega arith);
+      before = λ i b h. marks i b (omega arith);
     }
 
-module _ (s : List ℕ) (layout : WithinLayout s) (start : ℕ) (masks forks : List ℕ) (n k : ℕ) (h : SpanTo s start masks forks n) (turn : n ≡ k + 1) where
-  pub span-ahead : Ahead s masks start k
-  span-ahead = record { layout = layout; there = omega (arith, h .within); size = h .masks-size; later = rw turn at (h .masked) }
+pub span-end : (s : List ℕ) (start : ℕ) (masks facts facts′ : List ℕ) (n : ℕ) → SpanTo s start masks facts facts′ n → n ≤ 0 → Like s facts facts′ × ForkMarks s (start + SPAN) facts′
+span-end s start masks facts facts′ n h z = (h .like, λ i b l p q r v. mark-like (h .like) (h .after i (omega arith) l p q r v))
 
-  pub span-within : (k < length masks) × (k < length forks)
-  span-within = (omega (arith, h .within, h .masks-size, layout .counts-are .within nodes), omega (arith, h .within, h .forks-size, layout .counts-are .within nodes))
+module _ (s : List ℕ) (layout : WithinLayout s) (start : ℕ) (masks facts facts′ : List ℕ) (ranks : (count : ℕ) × Ranked s facts count)
+    (n k : ℕ) (h : SpanTo s start masks facts facts′ n) (turn : n ≡ k + 1) where
+  pub span-ahead : Ahead s facts′ masks start k
+  span-ahead =
+      record {
+        layout = layout;
+        there = omega (arith, h .within);
+        count = ranks .0;
+        ranked = ranked-like (h .like) (ranks .1);
+        size = h .masks-size;
+        later = λ i b l. mask-like (h .like) (h .masked i (omega arith) l);
+      }
 
-  pub span-step : (m r : ℕ) → FreeMask s start k m → Marks s (set masks k m) k (getD forks k 0) r → SpanTo s start (set masks k m) (set forks k r) k
-  span-step m r p q =
-      let masked : Along (FreeMask s start) (set masks k m) k (countOf s nodes) = along-more (FreeMask s start) masks k m (countOf s nodes) (span-within .0) p (rw turn at (h .masked)) in
+  span-within : (k < length masks) × (k < length facts′)
+  span-within =
+      let most : countOf s nodes ≤ NODES = layout .counts-are .within nodes in
+      (omega (arith, h .within, h .masks-size), omega (arith, h .within, h .like .size, ranks .1 .size))
+
+  pub span-step : (m r : ℕ) → FreeMask s facts′ start k m → Marks s (set masks k m) k (getD facts′ k 0) r → ((IsFork s k → ⊥) → r ≡ getD facts′ k 0) → SpanTo s start (set masks k m) facts (set facts′ k r) k
+  span-step m r p q f =
+      let masked : Along (FreeMask s facts start) (set masks k m) k (countOf s nodes) = along-more (FreeMask s facts start) masks k m (countOf s nodes) (span-within .0) (mask-like (like-back (h .like)) p) (rw turn at (h .masked)) in
       record {
         within = omega (arith, h .within);
         masks-size = length-set masks k m ∙ h .masks-size;
-        forks-size = length-set forks k r ∙ h .forks-size;
+        like = like-then (h .like) (like-set s facts′ k r (span-within .1) f);
         masked = masked;
-        after = along-more (ForkMark s (start + SPAN)) forks k r (countOf s nodes) (span-within .1) (q start masked (h .before k (omega arith) (omega arith))) (rw turn at (h .after));
-        before = along-before (ForkMark s start) forks k r k (omega arith) (λ i b t. h .before i b (omega arith));
+        after =
+            along-more
+            (ForkMark s facts (start + SPAN))
+            facts′
+            k
+            r
+            (countOf s nodes)
+            (span-within .1)
+            (q facts start masked (h .before k (omega arith) (omega arith)))
+            (rw turn at (h .after));
+        before = along-before (ForkMark s facts start) facts′ k r k (omega arith) (λ i b t. h .before i b (omega arith));
       }

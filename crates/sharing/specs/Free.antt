@@ -1,70 +1,72 @@
--- What the code of `forks` keeps of free variables: for each node a mask, with a bit for each variable of a span of 64, and a mark for each fork.
-use Prim.Native.Nat.{ℕ, _+_, _/_, _%_, _^_, _<_, _≤_, min}
+-- What the code of `forks` keeps of free variables: for each node a mask, with a bit for each rank of a span of 32, and a mark for each fork.
+use Prim.Native.Nat.{ℕ, _+_, _/_, _%_, _^_, _<_, _≤_}
 use mathlib.Core.Path.{_≡_}
 use mathlib.Core.Bool.{true}
 use mathlib.Core.List.{List}
+use lib.Dec.{eqb}
 use lib.ListN.{length, getD}
-use Rattle.words.specs.Word.{WORD}
 use Rattle.limits.specs.Limits.{NODES}
-use Rattle.script.specs.Lists.{Every}
 use Rattle.script.specs.declared.Section.the-variants.{Nodes as nodes}
-use Rattle.script.specs.Section.{countOf}
-use Rattle.script.specs.Syntax.{Node, namesOf, n-fork}
+use Rattle.script.specs.Section.{countOf, nodeWord}
+use Rattle.script.specs.Syntax.{n-fork}
 use Rattle.script.specs.Reading.{viewAt, exprAt}
 use Rattle.script.specs.Statements.{WithinLayout}
 use Rattle.typing.specs.Typing.{fv, isIn}
-use Rattle.sharing.specs.Tables.{flagOf}
+use Rattle.names.specs.Ranks.{RankOf, Ranked}
+use Rattle.names.specs.Facts.{flagOf}
 
--- The variables of a mask, a bit each.
+-- The ranks of a mask, a bit each.
 abbrev pub SPAN : ℕ
-SPAN = 64
-
--- A variable's name is a word, so this is past every name.
-abbrev pub NAMES : ℕ
-NAMES = WORD
+SPAN = 32
 
 -- Bit k of a mask.
 unfoldable pub bitOf : ℕ → ℕ → ℕ
 bitOf m k = m / 2 ^ k % 2
 
--- The mask tells of each variable of the span from `start` on whether it is in the list.
-pub record MaskOf (start m : ℕ) (l : List ℕ) : Type 0 where
-  pub tells : (k : ℕ) → k < SPAN → bitOf m k ≡ flagOf (isIn (start + k) l)
+-- The mask tells of each variable whose rank is in the span from `start` on whether it is in the list, and a bit that is 1 is that of such a variable.
+pub record MaskOf (s facts : List ℕ) (start m : ℕ) (l : List ℕ) : Type 0 where
+  pub tells : (x k : ℕ) → k < SPAN → RankOf s facts x (start + k) → bitOf m k ≡ flagOf (isIn x l)
+  pub only : (k : ℕ) → k < SPAN → bitOf m k ≡ 1 → (x : ℕ) × RankOf s facts x (start + k)
+
+-- The mask of one rank.
+abbrev pub RankMask : ℕ → ℕ → ℕ → Type 0
+RankMask start rank m = (k : ℕ) → k < SPAN → bitOf m k ≡ flagOf (eqb rank (start + k))
 
 -- The mask of node n.
-abbrev pub FreeMask : List ℕ → ℕ → ℕ → ℕ → Type 0
-FreeMask s start n m = MaskOf start m (fv (exprAt s n))
+abbrev pub FreeMask : List ℕ → List ℕ → ℕ → ℕ → ℕ → Type 0
+FreeMask s facts start n m = MaskOf s facts start m (fv (exprAt s n))
 
 -- What holds of the entries of a table from i up to j.
 abbrev pub Along : (ℕ → ℕ → Type 0) → List ℕ → ℕ → ℕ → Type 0
 Along P table i j = (n : ℕ) → i ≤ n → n < j → P n (getD table n 0)
 
--- What the mask of node n is made from: those of the nodes after it.
-pub record Ahead (s masks : List ℕ) (start n : ℕ) : Type 0 where
+-- What the mask of node n is made from: its variable's rank, and the masks of the nodes after it.
+pub record Ahead (s facts masks : List ℕ) (start n : ℕ) : Type 0 where
   pub layout : WithinLayout s
   pub there : n < countOf s nodes
+  pub count : ℕ
+  pub ranked : Ranked s facts count
   pub size : length masks ≡ NODES
-  pub later : Along (FreeMask s start) masks (n + 1) (countOf s nodes)
+  pub later : Along (FreeMask s facts start) masks (n + 1) (countOf s nodes)
 
--- The mark of two lists: 1 if they share a variable, 0 if they share none below the bound.
-pub data Mark (bound : ℕ) (l m : List ℕ) : ℕ → Type 0 where
-  met : (x : ℕ) → isIn x l ≡ true → isIn x m ≡ true → Mark bound l m 1
-  apart : ((x : ℕ) → x < bound → isIn x l ≡ true → isIn x m ≡ true → ⊥) → Mark bound l m 0
+-- The mark of two lists: 1 if they share a variable, 0 if they share none whose rank is below the bound.
+pub data Mark (s facts : List ℕ) (bound : ℕ) (l m : List ℕ) : ℕ → Type 0 where
+  met : (x : ℕ) → isIn x l ≡ true → isIn x m ≡ true → Mark s facts bound l m 1
+  apart : ((x k : ℕ) → RankOf s facts x k → k < bound → isIn x l ≡ true → isIn x m ≡ true → ⊥) → Mark s facts bound l m 0
 
 -- The mark of node n, if it is a fork: that of its asyncs' free variables.
-abbrev pub ForkMark : List ℕ → ℕ → ℕ → ℕ → Type 0
-ForkMark s bound n t = (a b c : ℕ) → viewAt s n ≡ n-fork a b c → Mark bound (fv (exprAt s a)) (fv (exprAt s b)) t
+abbrev pub ForkMark : List ℕ → List ℕ → ℕ → ℕ → ℕ → Type 0
+ForkMark s facts bound n t = (a b c : ℕ) → viewAt s n ≡ n-fork a b c → Mark s facts bound (fv (exprAt s a)) (fv (exprAt s b)) t
 
--- What holds of each variable that a node uses.
-abbrev pub Uses : (ℕ → Type 0) → Node → Type 0
-Uses P v = Every P (namesOf v)
+-- The marks of all forks.
+abbrev pub ForkMarks : List ℕ → ℕ → List ℕ → Type 0
+ForkMarks s bound facts = Along (ForkMark s facts bound) facts 0 (countOf s nodes)
 
--- A variable that is not from `start` up to `next`.
-pub record Beyond (start next x : ℕ) : Type 0 where
-  pub gap : start ≤ x → next ≤ x
-  pub word : x < NAMES
+-- Node n is a fork.
+abbrev pub IsFork : List ℕ → ℕ → Type 0
+IsFork s n = (n < countOf s nodes) × (nodeWord s n 0 ≡ 8)
 
--- The next variable in use from `start` on: none of the script lies between.
-pub record NextUse (s : List ℕ) (start next : ℕ) : Type 0 where
-  pub up : min start NAMES ≤ next
-  pub gap : (n : ℕ) → n < countOf s nodes → Uses (Beyond start next) (viewAt s n)
+-- Two tables that have the same words, but for those of forks.
+pub record Like (s facts facts′ : List ℕ) : Type 0 where
+  pub size : length facts′ ≡ length facts
+  pub others : (n : ℕ) → (IsFork s n → ⊥) → getD facts′ n 0 ≡ getD facts n 0

@@ -4,3 +4,4 @@ pub mod Taking
 pub mod Putting
 pub mod Glue
 pub mod Locks
+pub mod Folding

@@ -7,31 +7,33 @@ use Prim.Native.Nat.{ℕ, zero, suc, _+_, _<_, _≤_}
 use native.Mathlib.Omega.{arith}
 use borrow.Author.Tests.{lt-ltb}
 use lib.Dec.{eqb, ltb}
-use lib.ListN.{length, getD, take, length-append, length-map, drop-of-length-le, List·getD-map}
+use lib.ListN.{length, getD, take, drop-of-length-le, List·getD-map}
 use lib.Seq.{length-take-le, slice, slice-cons, take-suc}
 use Rattle.words.specs.Word.{bytes}
-use Rattle.limits.specs.Limits.{BLOCK, FRAMES}
+use Rattle.limits.specs.Limits.{POSITIONS, FRAMES}
 use Rattle.script.proofs.Lists.{lt-or-le}
 use Rattle.machine.specs.declared.Frame.{Frame}
 use Rattle.machine.specs.declared.Frame.the-variants.{Awaits as awaits, Casts as casts, Locks as locks}
 use Rattle.machine.specs.Config as machine
 use Rattle.machine.specs.Config.{running, returning, failed, join}
-use Rattle.machine.specs.Machine.{oneIf, lockFrames, size, part}
-use Rattle.machine.proofs.Ends.{frames-append}
-use Rattle.block.specs.declared.Area.the-variants.{Frames}
-use Rattle.block.specs.Block.{preorder, waiting, framesOf, frameWords, Parts, laid}
+use Rattle.machine.specs.Machine.{oneIf, lockFrames, size}
+use Rattle.soundness.proofs.Ends.{frames-append}
+use Rattle.block.specs.declared.Area.the-variants.{Positions, Frames}
+use Rattle.block.specs.Layout.{counted}
+use Rattle.block.specs.Block.{preorder, waiting, framesOf, Parts, partsOf, laid}
 use Rattle.representation.specs.Changed.{frameStart}
 use Rattle.representation.specs.Preorder.{framesAbove, isJoin, joinsFrom}
-use Rattle.block.proofs.Words.{laid-bytes}
+use Rattle.block.proofs.Words.{count-is}
 use Rattle.representation.proofs.Preorder.{named-below, resumed-run}
 use Rattle.tree.specs.declared.Entry.{Entry}
-use Rattle.tree.specs.declared.Tree.{Tree}
-use Rattle.tree.specs.Entries.{entryOf, entries, beneathCell, frameSum, blank, used}
+use Rattle.tree.specs.Entries.{entryOf, entries, beneathCell, frameSum, blank}
 use Rattle.tree.specs.Parts.{Leftmost}
-use Rattle.tree.proofs.Trees.{size-some, entries-first, sum-append, sum-start}
-use Rattle.tree.proofs.Parts.{used-length, part-before, part-root, part-inside}
-use Rattle.state.specs.Represents.{partsIn, SomeState}
+use Rattle.tree.proofs.Trees.{sum-append, sum-start}
+use Rattle.state.specs.Represents.{SomeState}
+use Rattle.state.specs.Positions.{entryAt, entriesIn}
 use Rattle.state.specs.Holding.{isLock, LockWithin, Held}
+use Rattle.state.proofs.Taking.{entries-many, entry-there, entries-said}
+use Rattle.state.proofs.Seeing.{seen-inside, seen-few, waiting-few}
 use Rattle.state.proofs.Glue.{frames-sum, sum-take}
 
 -- one frame more
@@ -104,51 +106,34 @@ module _ (ss : List machine.Tree) where
   found zero r run = omega (arith, run .inside)
   found (suc n) r run = found-step n r run (getD ss n failed) refl (found n r)
 
--- holds: where the run lies
-module _ (b : List ℕ) (self : Tree) (i : ℕ) (s : SomeState b self i) where
-  pub sight-long : length b ≡ BLOCK
-  sight-long = ap length (s .seen .block) ∙ laid-bytes _
-
-  pub sight-inside : i < self .len
-  sight-inside = omega (arith, part-inside (s .seen .there) (s .seen .tidy), size-some (s .part))
-
-  pub sight-frames : frameSum (take (i + 1) (used self)) ≤ FRAMES
-  sight-frames =
-      let x = s .rest in
-      let u = s .part in
-      let e : i + 1 ≡ suc i = omega arith in
-      let fs : List Frame = x .outer ++ (framesOf u ++ x .later) in
-      rw (e, take-suc (used self) i blank (omega (arith, used-length self (s .seen .tidy), sight-inside)), part-before (s .seen .there), part-root (s .seen .there))
-      (omega (
-        arith,
-        sum-append (x .before) (entryOf u ∷ []),
-        s .seen .start,
-        frames-sum u,
-        ap frameSum (entries-first u),
-        s .seen .few Frames,
-        length-map fs frameWords,
-        length-append (x .outer) (framesOf u ++ x .later),
-        length-append (framesOf u) (x .later),
-      ))
+-- holds: the run lies among the frames
+pub sight-frames : {b : List ℕ} {i : ℕ} → SomeState b i → frameSum (take (i + 1) (entriesIn b)) ≤ FRAMES
+sight-frames {b} {i} s =
+    let one : i + 1 ≡ suc i = omega arith in
+    let l : i < length (entriesIn b) = omega (arith, entries-many b, seen-inside (s .seen)) in
+    rw (one, take-suc (entriesIn b) i blank l, entry-there b i (seen-inside (s .seen)))
+    (omega (arith, sum-append (take i (entriesIn b)) (entryAt b i ∷ []), waiting-few (s .seen), seen-few (s .seen) Frames))
 
 -- and what it says
-pub held : (b : List ℕ) (self : Tree) (i o first from to : ℕ) (r : Bool)
-    → Leftmost (used self) i first
-    → from ≡ frameSum (take first (used self))
-    → to ≡ frameSum (take (i + 1) (used self))
+pub held : (b : List ℕ) (i o first from to : ℕ) (r : Bool)
+    → Leftmost (entriesIn b) i first
+    → from ≡ frameSum (take first (entriesIn b))
+    → to ≡ frameSum (take (i + 1) (entriesIn b))
     → LockWithin b from to o r
-    → Held b self i o r
-held b self i o first from to r run f g within c p u h at there =
+    → Held b i o r
+held b i o first from to r run f g within c p u h at there =
     let t = c .tree in
+    let few : counted b Positions ≤ POSITIONS = rw (h .block) (rw (count-is (partsOf c) Positions) (h .few Positions)) in
+    let same : entriesIn b ≡ entries t = entries-said b (partsOf c) (h .block) few in
     let l : i < size t = named-below t i .0 (p, at) in
     let e : i + 1 ≡ suc i = omega arith in
-    let k : first ≡ joinsFrom (preorder t) i = found (preorder t) i first (rw (h .tree .same) at run) in
-    let from-is : from ≡ frameStart t (joinsFrom (preorder t) i) = f ∙ rw (h .tree .same, ← k) (sum-start t first (omega (arith, run .inside))) in
-    let to-is : to ≡ frameStart t (suc i) = g ∙ rw (h .tree .same, e) (sum-start t (suc i) (omega arith)) in
+    let k : first ≡ joinsFrom (preorder t) i = found (preorder t) i first (rw same at run) in
+    let from-is : from ≡ frameStart t (joinsFrom (preorder t) i) = f ∙ rw (same, ← k) (sum-start t first (omega (arith, run .inside))) in
+    let to-is : to ≡ frameStart t (suc i) = g ∙ rw (same, e) (sum-start t (suc i) (omega arith)) in
     let room : to ≤ length (framesOf t) = omega (arith, frames-sum t, sum-take (entries t) (suc i), sum-start t (suc i) (omega arith)) in
     let own : List Frame = waiting u in
     let above : List Frame = framesAbove [] t p in
-    within (partsIn (c .stores) (h .positions) (framesOf t)) (h .block) room
+    within (partsOf c) (h .block) room
     ∙ ap (ltb 0)
     (ap (λ (m : ℕ). lockFrames o (slice m to (framesOf t))) from-is
     ∙ ap (λ (m : ℕ). lockFrames o (slice (frameStart t (joinsFrom (preorder t) i)) m (framesOf t))) to-is

@@ -1,12 +1,12 @@
--- What each change of the block and the tree comes to, seen from its position: the callees' contracts are premises, and the code's locals variables.
+-- What each change of the block comes to, seen from its position: the callees' contracts are premises, and the code's locals variables.
 use mathlib.Core.Path.{_≡_, refl, sym, ap, _∙_}
-use mathlib.Core.List.{List, [], _∷_, _++_, append-assoc, append-nil, reverse, reverse-cons}
+use mathlib.Core.List.{List, [], _∷_, _++_, append-assoc, append-nil, map, map-append, reverse, reverse-cons}
 use Prim.Native.Nat.{ℕ, suc, _+_, _-_, _<_, _≤_}
 use native.Mathlib.Omega.{arith}
-use lib.ListN.{length, getD, take, drop, length-append, length-map, length-reverse}
+use lib.ListN.{length, getD, set, take, drop, length-append, length-map, length-set, length-reverse}
 use lib.Seq.{take-at, drop-at, getD-at, append-snoc}
 use Rattle.words.specs.Word.{bytes}
-use Rattle.limits.specs.Limits.{OBJECTS, BINDINGS, FRAMES}
+use Rattle.limits.specs.Limits.{OBJECTS, BINDINGS, POSITIONS, FRAMES}
 use Rattle.machine.specs.declared.Value.{Value}
 use Rattle.machine.specs.declared.Frame.{Frame}
 use Rattle.machine.specs.declared.Frame.the-variants.{Awaits as awaits}
@@ -15,19 +15,24 @@ use Rattle.machine.specs.Config.{Object, Binding, Stores, running, returning, f
 use Rattle.machine.specs.Machine.{size, frameCount}
 use Rattle.block.specs.declared.Area.the-variants.{Objects, Bindings, Positions, Frames}
 use Rattle.block.specs.Layout.{counted}
-use Rattle.block.specs.Block.{objectWords, bindingWords, frameWords, waiting, framesOf, Parts, laid}
+use Rattle.block.specs.Block.{objectWords, bindingWords, positionWords, frameWords, preorder, waiting, framesOf, Parts, laid}
 use Rattle.representation.specs.Changed.{withObjects, withBindings, withFrames}
 use Rattle.block.specs.Fits.{Few}
 use Rattle.block.proofs.Trees.{frames-join}
+use Rattle.block.proofs.Words.{count-is}
 use Rattle.areas.proofs.Laws.{Reads}
 use Rattle.tree.specs.declared.Cell.{Cell}
 use Rattle.tree.specs.declared.Cell.the-variants.{Running}
+use Rattle.tree.specs.declared.Entry.{Entry}
 use Rattle.tree.specs.declared.Tree.{Tree}
-use Rattle.tree.specs.Entries.{cellOf, entryOf, frameSum, blank, used, Tidy}
-use Rattle.tree.specs.Parts.{PartAt, Placed, Forked, Failing, Joined, FramesWithin}
-use Rattle.tree.proofs.Changes.{placed-by}
+use Rattle.tree.specs.Entries.{cellOf, entryOf, entries, frameSum, used, Tidy}
+use Rattle.tree.specs.Parts.{PartAt, Forked, Failing, Joined, FramesWithin}
+use Rattle.tree.proofs.Trees.{size-some, entries-thread}
+use Rattle.tree.proofs.Parts.{used-length, part-before, part-after, part-inside, part-set}
 use Rattle.state.specs.Represents.{Rest, StateAt}
-use Rattle.state.proofs.Seeing.{around, lying, beneath, frames-first, frames-thread, frames-many, seen-few, bindings-counted, frames-counted, seen-waiting, frames-begin, frames-end}
+use Rattle.state.specs.Positions.{entryAt, entriesIn, withPositions}
+use Rattle.state.proofs.Putting.{map-set}
+use Rattle.state.proofs.Seeing.{around, lying, beneath, frames-first, frames-thread, frames-many, seen-few, bindings-counted, frames-counted, seen-part, seen-waiting, frames-begin, map-take, map-drop}
 
 -- what insert_frame and remove_frames ensure, of the bytes b before and c after
 abbrev pub Inserts : List ℕ → List ℕ → ℕ → Frame → Type 0
@@ -61,12 +66,18 @@ module _ {A : Type 0} (outer mine later : List A) (at : ℕ) (here : at ≡ leng
       let whole : outer ++ ((mine ++ f ∷ rest) ++ later) ≡ (outer ++ mine) ++ f ∷ (rest ++ later) = simp append-assoc in
       ap (λ (l : List A). getD l at d) whole ∙ getD-at (outer ++ mine) f (rest ++ later) d at ends
 
--- other frames, objects or bindings where there is room
+-- other frames, positions, objects or bindings where there is room
 few-frames : (p : Parts) (fs : List Frame) → Few p → length fs ≤ FRAMES → Few (withFrames p fs)
 few-frames p fs h l Objects = h Objects
 few-frames p fs h l Bindings = h Bindings
 few-frames p fs h l Positions = h Positions
 few-frames p fs h l Frames = rw (length-map fs frameWords) l
+
+few-positions : (p : Parts) (ts : List machine.Tree) → Few p → length ts ≤ POSITIONS → Few (withPositions p ts)
+few-positions p ts h l Objects = h Objects
+few-positions p ts h l Bindings = h Bindings
+few-positions p ts h l Positions = rw (length-map ts positionWords) l
+few-positions p ts h l Frames = h Frames
 
 few-objects : (p : Parts) (os : List Object) → Few p → length os ≤ OBJECTS → Few (withObjects p os)
 few-objects p os h l Objects = rw (length-map os objectWords) l
@@ -81,125 +92,199 @@ few-bindings p bs h l Positions = h Positions
 few-bindings p bs h l Frames = h Frames
 
 -- The stores: other objects, and one binding more. The block has the bindings in the order in which they were made, the stores newest first.
-module _ {b c : List ℕ} {self : Tree} {i : ℕ} {x : Rest} {st : Stores} {u : machine.Tree} (s : StateAt b self i x st u) where
-  pub seen-objects : (os : List Object) → length os ≤ OBJECTS → c ≡ bytes (laid (withObjects (lying x st (framesOf u)) os))
-      → StateAt c self i x (record { objects = os; bindings = st .bindings }) u
-  seen-objects os l e = record { tidy = s .tidy; there = s .there; start = s .start; block = e; few = few-objects (lying x st (framesOf u)) os (s .few) l }
+module _ {b : List ℕ} {i : ℕ} {x : Rest} {st : Stores} {u : machine.Tree} (s : StateAt b i x st u) where
+  abbrev pub lies : Parts
+  lies = lying x st (s .positions) (framesOf u)
 
-  pub seen-bindings : (d : Binding) → counted b Bindings < BINDINGS → c ≡ bytes (laid (withBindings (lying x st (framesOf u)) (reverse (st .bindings) ++ d ∷ [])))
-      → StateAt c self i x (record { objects = st .objects; bindings = d ∷ st .bindings }) u
+  pub seen-objects : {c : List ℕ} (os : List Object) → length os ≤ OBJECTS → c ≡ bytes (laid (withObjects lies os)) → StateAt c i x (record { objects = os; bindings = st .bindings }) u
+  seen-objects os l e = record { positions = s .positions; there = s .there; start = s .start; block = e; few = few-objects lies os (s .few) l }
+
+  pub seen-bindings : {c : List ℕ} (d : Binding) → counted b Bindings < BINDINGS → c ≡ bytes (laid (withBindings lies (reverse (st .bindings) ++ d ∷ [])))
+      → StateAt c i x (record { objects = st .objects; bindings = d ∷ st .bindings }) u
   seen-bindings d room e =
       let turned : reverse (st .bindings) ++ d ∷ [] ≡ reverse (d ∷ st .bindings) = sym (reverse-cons d (st .bindings)) in
       let l : length (reverse (d ∷ st .bindings)) ≤ BINDINGS = rw (length-reverse (d ∷ st .bindings)) (omega (arith, bindings-counted s, room)) in
       record {
-        tidy = s .tidy;
+        positions = s .positions;
         there = s .there;
         start = s .start;
-        block = e ∙ ap (λ (bs : List Binding). bytes (laid (withBindings (lying x st (framesOf u)) bs))) turned;
-        few = few-bindings (lying x st (framesOf u)) (reverse (d ∷ st .bindings)) (s .few) l;
+        block = e ∙ ap (λ (bs : List Binding). bytes (laid (withBindings lies bs))) turned;
+        few = few-bindings lies (reverse (d ∷ st .bindings)) (s .few) l;
       }
 
--- The part: another with the same frames, and another with other frames.
-module _ {b : List ℕ} {self r : Tree} {i : ℕ} {x : Rest} {st : Stores} {u w : machine.Tree} (s : StateAt b self i x st u) where
-  same-frames : framesOf u ≡ framesOf w → Tidy r → PartAt r i (x .before) w (x .after) → StateAt b r i x st w
-  same-frames e t p =
-      record { tidy = t; there = p; start = s .start; block = s .block ∙ ap (λ (fs : List Frame). bytes (laid (lying x st fs))) e; few = rw (← e) (s .few) }
-
-  other-frames : {c : List ℕ} (fs : List Frame) → fs ≡ around x (framesOf w) → c ≡ bytes (laid (withFrames (lying x st (framesOf u)) fs))
-      → frameCount w + length (x .outer) + length (x .later) ≤ FRAMES → Tidy r → PartAt r i (x .before) w (x .after) → StateAt c r i x st w
-  other-frames fs e is l t p =
+-- The part: another, with other positions and frames.
+module _ {b : List ℕ} {i : ℕ} {x : Rest} {st : Stores} {u : machine.Tree} (s : StateAt b i x st u) (w : machine.Tree) (ts : List machine.Tree) where
+  changed : {c : List ℕ} → PartAt (map entryOf ts) i (x .before) w (x .after) → length ts ≤ POSITIONS → (fs : List Frame) → fs ≡ around x (framesOf w)
+      → frameCount w + length (x .outer) + length (x .later) ≤ FRAMES → c ≡ bytes (laid (withPositions (withFrames (lies s) fs) ts)) → StateAt c i x st w
+  changed p room fs e l is =
       let long : length (around x (framesOf w)) ≤ FRAMES = omega (arith, length-append (x .outer) (framesOf w ++ x .later), length-append (framesOf w) (x .later), frames-many w) in
       record {
-        tidy = t;
+        positions = ts;
         there = p;
         start = s .start;
-        block = is ∙ ap (λ (gs : List Frame). bytes (laid (withFrames (lying x st (framesOf u)) gs))) e;
-        few = few-frames (lying x st (framesOf u)) (around x (framesOf w)) (s .few) long;
+        block = is ∙ ap (λ (gs : List Frame). bytes (laid (withPositions (withFrames (lies s) gs) ts))) e;
+        few = few-positions (withFrames (lies s) (around x (framesOf w))) ts (few-frames (lies s) (around x (framesOf w)) (s .few) long) room;
       }
 
 entry-of : (w : machine.Tree) (cell : Cell) (n : ℕ) → cellOf w ≡ cell → length (waiting w) ≡ n → record { cell = cell; frames = n } ≡ entryOf w
 entry-of w cell n e f = rw (← e, ← f)
 
-module _ {b : List ℕ} {self r : Tree} {i : ℕ} {x : Rest} {st : Stores} where
+-- what put_entry and put_tree ensure, of the bytes b before and c after
+abbrev pub Puts : List ℕ → List ℕ → ℕ → Entry → Type 0
+Puts b c i y = (p : Parts) (t : machine.Tree) → b ≡ bytes (laid p) → i < length (p .positions) → y ≡ entryOf t → c ≡ bytes (laid (withPositions p (set (p .positions) i t)))
+
+abbrev pub Writes : List ℕ → List ℕ → Tree → Type 0
+Writes b c self = (p : Parts) (ts : List machine.Tree) → b ≡ bytes (laid p) → map entryOf ts ≡ used self → c ≡ bytes (laid (withPositions p ts))
+
+-- one position put: the part, which is a thread, is another thread
+module _ {b : List ℕ} {i : ℕ} {x : Rest} {st : Stores} {u : machine.Tree} (s : StateAt b i x st u) (one : size u ≡ 1) (w : machine.Tree) (too : size w ≡ 1) where
+  abbrev one-put : List machine.Tree
+  one-put = set (s .positions) i w
+
+  put-part : PartAt (map entryOf one-put) i (x .before) w (x .after)
+  put-part =
+      record {
+        is = map-set entryOf (s .positions) i w ∙ part-set (s .there) one (entryOf w) ∙ ap (λ (l : List Entry). x .before ++ (l ++ x .after)) (sym (entries-thread w too));
+        place = s .there .place;
+      }
+
+  position-inside : i < length (s .positions)
+  position-inside = omega (arith, part-inside (s .there), size-some u, length-map (s .positions) entryOf)
+
+  put-few : length one-put ≤ POSITIONS
+  put-few = rw (length-set (s .positions) i w, ← length-map (s .positions) positionWords) (s .few Positions)
+
+-- the tree put: the part is another one
+module _ {b : List ℕ} {i : ℕ} {x : Rest} {st : Stores} {u : machine.Tree} (s : StateAt b i x st u) (w : machine.Tree) (r : Tree) (tidy : Tidy r) (now : PartAt (used r) i (x .before) w (x .after)) where
+  abbrev part-put : List machine.Tree
+  part-put = take i (s .positions) ++ (preorder w ++ drop (i + size u) (s .positions))
+
+  put-same : map entryOf part-put ≡ x .before ++ (entries w ++ x .after)
+  put-same =
+      let ps = s .positions in
+      map-append entryOf (take i ps) (preorder w ++ drop (i + size u) ps)
+      ∙ rw (
+        map-append entryOf (preorder w) (drop (i + size u) ps),
+        map-take entryOf i ps,
+        map-drop entryOf (i + size u) ps,
+        part-before (s .there),
+        part-after (s .there),
+      )
+
+  put-used : map entryOf part-put ≡ used r
+  put-used = put-same ∙ sym (now .is)
+
+  put-there : PartAt (map entryOf part-put) i (x .before) w (x .after)
+  put-there = record { is = put-same; place = now .place }
+
+  put-room : length part-put ≤ POSITIONS
+  put-room = omega (arith, ap length put-used, length-map part-put entryOf, used-length r tidy, tidy .small)
+
+-- frames as they are, of a part with as many
+module _ {b : List ℕ} {i : ℕ} {x : Rest} {st : Stores} {u : machine.Tree} (s : StateAt b i x st u) (w : machine.Tree) (e : framesOf u ≡ framesOf w) where
+  same-room : frameCount w + length (x .outer) + length (x .later) ≤ FRAMES
+  same-room = omega (arith, frames-counted s, seen-few s Frames, frames-many u, frames-many w, ap length e)
+
+module _ {b c : List ℕ} {i : ℕ} {x : Rest} {st : Stores} where
   -- set_cell
-  pub settled : {u w : machine.Tree} (cell : Cell) → Placed self i (record { cell = cell; frames = getD (self .entries) i blank .frames }) r → size u ≡ 1 → size w ≡ 1 → cellOf w ≡ cell
-      → waiting w ≡ waiting u → StateAt b self i x st u → StateAt b r i x st w
-  settled {u} {w} cell p one too e f s =
-      let at : Placed self i (entryOf w) r = rw (entry-of w cell (getD (self .entries) i blank .frames) e (ap length f ∙ sym (seen-waiting s))) at p in
-      same-frames s (frames-thread u one ∙ ap reverse (sym f) ∙ sym (frames-thread w too)) (p .tidy) (placed-by self i r w too at one (s .there))
+  pub settled : {u w : machine.Tree} (cell : Cell) (n : ℕ) → n ≡ entryAt b i .frames → Puts b c i (record { cell = cell; frames = n }) → size u ≡ 1 → size w ≡ 1 → cellOf w ≡ cell
+      → waiting w ≡ waiting u → StateAt b i x st u → StateAt c i x st w
+  settled {u} {w} cell n m put one too e f s =
+      let same : framesOf u ≡ framesOf w = frames-thread u one ∙ ap reverse (sym f) ∙ sym (frames-thread w too) in
+      let entry : record { cell = cell; frames = n } ≡ entryOf w = entry-of w cell n e (ap length f ∙ sym (m ∙ seen-waiting s)) in
+      changed s w (one-put s one w too) (put-part s one w too) (put-few s one w too) (around x (framesOf u)) (ap (around x) same) (same-room s w same)
+      (put (lies s) w (s .block) (position-inside s one w too) entry)
 
   -- fork
-  pub forks : {a₀ e₀ : ℕ} {fs : List Frame} (a d k e : ℕ) → Forked self i a d k e r → StateAt b self i x st (running a₀ e₀ fs) → StateAt b r i x st (join fs k e (running a e []) (running d e []))
-  forks {a₀} {e₀} {fs} a d k e p s =
+  pub forks : {a₀ e₀ : ℕ} {fs : List Frame} (self r : Tree) (a d k e : ℕ) → used self ≡ entriesIn b → Forked self i a d k e r → Writes b c r → StateAt b i x st (running a₀ e₀ fs)
+      → StateAt c i x st (join fs k e (running a e []) (running d e []))
+  forks {a₀} {e₀} {fs} self r a d k e is p put s =
       let t = join fs k e (running a e []) (running d e []) in
       let same : framesOf (running a₀ e₀ fs) ≡ framesOf t =
       frames-thread (running a₀ e₀ fs) refl
       ∙ sym (frames-join fs k e (running a e []) (running d e []) ∙ rw (frames-thread (running a e []) refl, frames-thread (running d e []) refl) (append-nil (reverse fs)))
       in
-      same-frames s same (p .tidy) (p .now refl (s .there))
+      let was : PartAt (used self) i (x .before) (running a₀ e₀ fs) (x .after) = rw is (seen-part s) in
+      let now : PartAt (used r) i (x .before) t (x .after) = p .now refl was in
+      changed s t (part-put s t r (p .tidy) now) (put-there s t r (p .tidy) now) (put-room s t r (p .tidy) now) (around x (framesOf (running a₀ e₀ fs))) (ap (around x) same) (same-room s t same)
+      (put (lies s) (part-put s t r (p .tidy) now) (s .block) (put-used s t r (p .tidy) now))
 
   -- rejoin
-  pub rejoins : {fs : List Frame} {a e : ℕ} {left right : machine.Tree} → Joined self i r → framesOf left ≡ [] → framesOf right ≡ [] → StateAt b self i x st (join fs a e left right)
-      → StateAt b r i x st (running a e fs)
-  rejoins {fs} {a} {e} {left} {right} p l k s =
-      let same : framesOf (join fs a e left right) ≡ framesOf (running a e fs) =
-      frames-join fs a e left right ∙ rw (l, k) (append-nil (reverse fs)) ∙ sym (frames-thread (running a e fs) refl)
-      in
-      same-frames s same (p .tidy) (p .now (s .there))
+  pub rejoins : {fs : List Frame} {a e : ℕ} {left right : machine.Tree} (self r : Tree) → used self ≡ entriesIn b → Joined self i r → Writes b c r → framesOf left ≡ [] → framesOf right ≡ []
+      → StateAt b i x st (join fs a e left right) → StateAt c i x st (running a e fs)
+  rejoins {fs} {a} {e} {left} {right} self r is p put l k s =
+      let t = running a e fs in
+      let same : framesOf (join fs a e left right) ≡ framesOf t = frames-join fs a e left right ∙ rw (l, k) (append-nil (reverse fs)) ∙ sym (frames-thread t refl) in
+      let was : PartAt (used self) i (x .before) (join fs a e left right) (x .after) = rw is (seen-part s) in
+      let now : PartAt (used r) i (x .before) t (x .after) = p .now was in
+      changed s t (part-put s t r (p .tidy) now) (put-there s t r (p .tidy) now) (put-room s t r (p .tidy) now) (around x (framesOf (join fs a e left right))) (ap (around x) same) (same-room s t same)
+      (put (lies s) (part-put s t r (p .tidy) now) (s .block) (put-used s t r (p .tidy) now))
 
-module _ {b c : List ℕ} {self r : Tree} {i : ℕ} {x : Rest} {st : Stores} where
+module _ {b c d : List ℕ} {i : ℕ} {x : Rest} {st : Stores} where
   -- push
-  pub pushed : {a₀ e₀ : ℕ} {fs : List Frame} (at a e : ℕ) (f : Frame) → counted b Frames < FRAMES → at ≡ frameSum (take (i + 1) (used self)) → Inserts b c at f
-      → Placed self i (record { cell = Running a e; frames = getD (self .entries) i blank .frames + 1 }) r → StateAt b self i x st (running a₀ e₀ fs) → StateAt c r i x st (running a e (f ∷ fs))
-  pushed {a₀} {e₀} {fs} at a e f room h ins p s =
+  pub pushed : {a₀ e₀ : ℕ} {fs : List Frame} (at n a e : ℕ) (f : Frame) → counted b Frames < FRAMES → n ≡ entryAt b i .frames → at ≡ frameSum (take i (entriesIn b)) + n → Inserts b c at f
+      → Puts c d i (record { cell = Running a e; frames = n + 1 }) → StateAt b i x st (running a₀ e₀ fs) → StateAt d i x st (running a e (f ∷ fs))
+  pushed {a₀} {e₀} {fs} at n a e f room m h ins put s =
       let u = running a₀ e₀ fs in
       let w = running a e (f ∷ fs) in
-      let more : Placed self i (entryOf w) r = rw (entry-of w (Running a e) (getD (self .entries) i blank .frames + 1) refl (omega (arith, seen-waiting s))) at p in
-      let here : at ≡ length (x .outer) + length (reverse fs) = omega (arith, h, frames-end s, length-reverse fs) in
+      let entry : record { cell = Running a e; frames = n + 1 } ≡ entryOf w = entry-of w (Running a e) (n + 1) refl (omega (arith, m, seen-waiting s)) in
+      let here : at ≡ length (x .outer) + length (reverse fs) = omega (arith, h, m, seen-waiting s, frames-begin s, length-reverse fs) in
       let now : take at (around x (framesOf u)) ++ f ∷ drop at (around x (framesOf u)) ≡ around x (framesOf w) =
       rw (frames-thread u refl, frames-thread w refl, reverse-cons f fs) (put-in (x .outer) (reverse fs) (x .later) at here f)
       in
-      other-frames s _ now (ins (lying x st (framesOf u)) (s .block)) (omega (arith, frames-counted s, room)) (p .tidy) (placed-by self i r w refl more refl (s .there))
+      changed s w (one-put s refl w refl) (put-part s refl w refl) (put-few s refl w refl) _ now (omega (arith, frames-counted s, room))
+      (put (withFrames (lies s) (take at (around x (framesOf u)) ++ f ∷ drop at (around x (framesOf u)))) w (ins (lies s) (s .block)) (position-inside s refl w refl) entry)
 
   -- pop
-  pub popped : {w : machine.Tree} {v : Value} {f : Frame} {fs : List Frame} (end : ℕ) (cell : Cell) → end ≡ frameSum (take (i + 1) (used self)) → Removes b c (end - 1) 1
-      → Placed self i (record { cell = cell; frames = getD (self .entries) i blank .frames - 1 }) r → size w ≡ 1 → cellOf w ≡ cell → waiting w ≡ fs
-      → StateAt b self i x st (returning v (f ∷ fs)) → StateAt c r i x st w
-  popped {w} {v} {f} {fs} end cell h rem p one e k s =
+  pub popped : {w : machine.Tree} {v : Value} {f : Frame} {fs : List Frame} (at n : ℕ) (cell : Cell) → n + 1 ≡ entryAt b i .frames → at ≡ frameSum (take i (entriesIn b)) + n → Removes b c at 1
+      → Puts c d i (record { cell = cell; frames = n }) → size w ≡ 1 → cellOf w ≡ cell → waiting w ≡ fs
+      → StateAt b i x st (returning v (f ∷ fs)) → StateAt d i x st w
+  popped {w} {v} {f} {fs} at n cell m h rem put one e k s =
       let u = returning v (f ∷ fs) in
-      let less : Placed self i (entryOf w) r = rw (entry-of w cell (getD (self .entries) i blank .frames - 1) e (ap length k ∙ omega (arith, seen-waiting s))) at p in
-      let here : end - 1 ≡ length (x .outer) + length (reverse fs) = omega (arith, h, frames-end s, length-reverse fs) in
-      let now : take (end - 1) (around x (framesOf u)) ++ drop (end - 1 + 1) (around x (framesOf u)) ≡ around x (framesOf w) =
-      rw (frames-thread u refl, frames-thread w one, k, reverse-cons f fs) (taken-out (x .outer) (reverse fs) (x .later) (end - 1) here (f ∷ []) 1 refl)
+      let entry : record { cell = cell; frames = n } ≡ entryOf w = entry-of w cell n e (ap length k ∙ omega (arith, m, seen-waiting s)) in
+      let here : at ≡ length (x .outer) + length (reverse fs) = omega (arith, h, m, seen-waiting s, frames-begin s, length-reverse fs) in
+      let now : take at (around x (framesOf u)) ++ drop (at + 1) (around x (framesOf u)) ≡ around x (framesOf w) =
+      rw (frames-thread u refl, frames-thread w one, k, reverse-cons f fs) (taken-out (x .outer) (reverse fs) (x .later) at here (f ∷ []) 1 refl)
       in
-      other-frames s _ now (rem (lying x st (framesOf u)) (s .block)) (omega (arith, frames-counted s, seen-few s Frames, thread-frames w one, ap length k)) (p .tidy)
-      (placed-by self i r w one less refl (s .there))
+      changed s w (one-put s refl w one) (put-part s refl w one) (put-few s refl w one) _ now (omega (arith, frames-counted s, seen-few s Frames, thread-frames w one, ap length k))
+      (put (withFrames (lies s) (take at (around x (framesOf u)) ++ drop (at + 1) (around x (framesOf u)))) w (rem (lies s) (s .block)) (position-inside s refl w one) entry)
     where
       thread-frames : (t : machine.Tree) → size t ≡ 1 → frameCount t ≡ length (waiting t)
       thread-frames t z = sym (frames-many t) ∙ ap length (frames-thread t z) ∙ length-reverse (waiting t)
 
   -- fail
-  pub fails : {u : machine.Tree} (at k : ℕ) → at ≡ frameSum (take i (used self)) → FramesWithin self i k → Removes b c at k → Failing self i r → StateAt b self i x st u → StateAt c r i x st failed
-  fails {u} at k h many rem p s =
+  pub fails : {u : machine.Tree} (self r : Tree) (at k : ℕ) → at ≡ frameSum (take i (entriesIn b)) → FramesWithin (entriesIn b) i k → used self ≡ entriesIn b → Failing self i r → Removes b c at k → Writes c d r
+      → StateAt b i x st u → StateAt d i x st failed
+  fails {u} self r at k h many is p rem put s =
       let none : framesOf failed ≡ [] = frames-thread failed refl in
       let here : at ≡ length (x .outer) + length {A = Frame} [] = omega (arith, h, frames-begin s) in
-      let long : k ≡ length (framesOf u) = many .part (s .there) ∙ sym (frames-many u) in
+      let long : k ≡ length (framesOf u) = many .part (seen-part s) ∙ sym (frames-many u) in
       let now : take at (around x (framesOf u)) ++ drop (at + k) (around x (framesOf u)) ≡ around x (framesOf failed) =
       rw none (taken-out (x .outer) [] (x .later) at here (framesOf u) k long)
       in
-      other-frames s _ now (rem (lying x st (framesOf u)) (s .block)) (omega (arith, frames-counted s, seen-few s Frames)) (p .tidy) (p .now (s .there))
+      let was : PartAt (used self) i (x .before) u (x .after) = rw is (seen-part s) in
+      let there : PartAt (used r) i (x .before) failed (x .after) = p .now was in
+      changed s failed (part-put s failed r (p .tidy) there) (put-there s failed r (p .tidy) there) (put-room s failed r (p .tidy) there) _ now (omega (arith, frames-counted s, seen-few s Frames))
+      (put (withFrames (lies s) (take at (around x (framesOf u)) ++ drop (at + k) (around x (framesOf u)))) (part-put s failed r (p .tidy) there) (rem (lies s) (s .block)) (put-used s failed r (p .tidy) there))
+
+-- other frames leave the positions
+pub frames-few : {b c : List ℕ} {i : ℕ} {x : Rest} {st : Stores} {u : machine.Tree} → StateAt b i x st u
+    → ((p : Parts) → b ≡ bytes (laid p) → (fs : List Frame) × (c ≡ bytes (laid (withFrames p fs)))) → counted c Positions ≤ POSITIONS
+frames-few s other =
+    let now = other (lies s) (s .block) in
+    rw (now .1) (rw (count-is (withFrames (lies s) (now .0)) Positions) (s .few Positions))
 
 -- top_frame
-pub top-read : {b : List ℕ} {self : Tree} {i : ℕ} {x : Rest} {st : Stores} {u : machine.Tree} {g f : Frame} {fs : List Frame} (end : ℕ)
-    → end ≡ frameSum (take (i + 1) (used self)) → Reads b (end - 1) g → waiting u ≡ f ∷ fs → StateAt b self i x st u → g ≡ f
-top-read {x = x} {st} {u} {g} {f} {fs} end h reads e s =
-    let n : length (waiting u) ≡ suc (length fs) = ap length e in
-    let here : end - 1 ≡ length (x .outer) + length (reverse fs) = omega (arith, h, frames-end s, length-reverse fs) in
+pub top-read : {b : List ℕ} {i : ℕ} {x : Rest} {st : Stores} {u : machine.Tree} {g f : Frame} {fs : List Frame} (at n : ℕ)
+    → n + 1 ≡ entryAt b i .frames → at ≡ frameSum (take i (entriesIn b)) + n → Reads b at g → waiting u ≡ f ∷ fs → StateAt b i x st u → g ≡ f
+top-read {x = x} {st} {u} {g} {f} {fs} at n m h reads e s =
+    let k : length (waiting u) ≡ suc (length fs) = ap length e in
+    let here : at ≡ length (x .outer) + length (reverse fs) = omega (arith, h, m, seen-waiting s, frames-begin s, length-reverse fs) in
     let mine : framesOf u ≡ reverse fs ++ f ∷ beneath u = frames-first u ∙ rw (e, reverse-cons f fs) (append-snoc (reverse fs) f (beneath u)) in
     let whole : around x (framesOf u) ≡ around x (reverse fs ++ f ∷ beneath u) = ap (around x) mine in
-    let l : end - 1 < length (around x (framesOf u)) =
+    let l : at < length (around x (framesOf u)) =
     omega (arith, length-append (x .outer) (framesOf u ++ x .later), length-append (framesOf u) (x .later), ap length mine, length-append (reverse fs) (f ∷ beneath u))
     in
-    reads (lying x st (framesOf u)) (s .block) l
-    ∙ ap (λ (l : List Frame). getD l (end - 1) (awaits 0 0)) whole
-    ∙ got (x .outer) (reverse fs) (x .later) (end - 1) here f (awaits 0 0) (beneath u)
+    reads (lies s) (s .block) l
+    ∙ ap (λ (l : List Frame). getD l at (awaits 0 0)) whole
+    ∙ got (x .outer) (reverse fs) (x .later) at here f (awaits 0 0) (beneath u)

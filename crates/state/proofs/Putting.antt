@@ -1,34 +1,35 @@
--- The tree written into the block: the words of each position, records written one after the other, and the positions of the block exchanged.
+-- Positions written into the block: the words of each, records written one after the other, the positions of the block exchanged, and one of them.
 use mathlib.Core.Path.{_≡_, refl, sym, ap, _∙_}
 use mathlib.Core.List.{List, [], _∷_, _++_, append-assoc, append-nil, map, flatten}
-use Prim.Native.Nat.{ℕ, zero, suc, _+_, _*_, _<_, _≤_}
+use Prim.Native.Nat.{ℕ, zero, suc, _+_, _*_, _-_, _<_, _≤_}
 use native.Mathlib.Omega.{arith}
 use lib.ListN.{length, getD, set, take, replicate, length-append, length-map, replicate-append-replicate, drop-of-length-le, List·getD-map, List·getD-eq-default}
-use lib.Seq.{sets, sets-eq, take-suc, length-take-le, getD-take}
+use lib.Seq.{sets, sets-eq, take-suc, length-take-le, getD-take, drop-at}
 use Rattle.words.specs.Word.{bytes}
 use Rattle.slices.specs.Put.{putWord}
 use Rattle.slices.proofs.Laws.{put-bytes}
 use Rattle.limits.specs.Limits.{POSITIONS}
 use Rattle.machine.specs.declared.Value.{Value}
-use Rattle.machine.specs.declared.Frame.{Frame}
 use Rattle.machine.specs.Config as machine
-use Rattle.machine.specs.Config.{failed, Stores, Config}
+use Rattle.machine.specs.Config.{running, returning, failed, join}
 use Rattle.block.specs.declared.Area.the-variants.{Positions}
 use Rattle.block.specs.Rows.{filled}
-use Rattle.block.specs.Layout.{WORDS, width, begins, countWord, countByte, wordByte}
+use Rattle.block.specs.Layout.{WORDS, width, begins, counted, countWord, countByte, wordByte}
 use Rattle.block.specs.Values.{Storable}
-use Rattle.block.specs.Block.{preorder, positionWords, framesOf, Parts, rows, area, headerWords, laid, encode}
-use Rattle.block.proofs.Rows.{Wide, filled-nil, set-filled, sets-inside}
-use Rattle.block.proofs.Words.{rows-wide, length-area, ahead, behind, apart, before-length}
+use Rattle.block.specs.Block.{positionWords, Parts, rows, area, headerWords, laid}
+use Rattle.representation.specs.Changed.{putWords}
+use Rattle.representation.proofs.Changes.{put-words}
+use Rattle.block.proofs.Rows.{Wide, row-at, filled-nil, set-filled, sets-inside}
+use Rattle.block.proofs.Words.{count-is, rows-wide, length-area, ahead, behind, apart, before-length}
 use Rattle.tree.specs.declared.Cell.{Cell}
 use Rattle.tree.specs.declared.Cell.the-variants.{Returning}
 use Rattle.tree.specs.declared.Entry.{Entry}
 use Rattle.tree.specs.declared.Tree.{Tree}
-use Rattle.tree.specs.Entries.{entryOf, entries, blank, Is}
+use Rattle.tree.specs.Entries.{entryOf, blank, used, Tidy, resultOf, Worded}
 use Rattle.tree.proofs.Parts.{used-length}
+use Rattle.tree.proofs.Worded.{every-at}
 use Rattle.tree.proofs.EntryWords.{cellWords, entryWords, words-entry}
-use Rattle.state.specs.Represents.{partsIn, Represents}
-use Rattle.state.specs.Positions.{resultOf, Worded, rowAt}
+use Rattle.state.specs.Positions.{rowAt, withPositions}
 
 -- the words of a position, by its cell
 pub row-said : (x : Entry) (c : Cell) → x .cell ≡ c → (t : machine.Tree) → x ≡ entryOf t → cellWords c (x .frames) ≡ positionWords t
@@ -43,25 +44,26 @@ row-in f [] i y d h = absurd (omega arith)
 row-in f (x ∷ xs) zero y d h = refl
 row-in f (x ∷ xs) (suc i) y d h = row-in f xs i y d (omega arith)
 
-pub small-there : (self : Tree) (i : ℕ) → Worded self → i < self .len → Storable (resultOf (getD (self .entries) i blank .cell))
-small-there self i w h = rw (getD-take (self .len) (self .entries) i blank h) at (w i)
+pub small-there : (self : Tree) (i : ℕ) → Tidy self → Worded (used self) → i < self .len → Storable (resultOf (getD (self .entries) i blank .cell))
+small-there self i tidy w h =
+    rw (getD-take (self .len) (self .entries) i blank h) at (every-at (λ (x : Entry). Storable (resultOf (x .cell))) (used self) i blank (omega (arith, used-length self tidy)) w)
 
-module _ (self : Tree) (t : machine.Tree) (is : Is self t) where
+module _ (self : Tree) (tidy : Tidy self) (ts : List machine.Tree) (is : map entryOf ts ≡ used self) where
   -- the tree has as many records as positions
-  pub records-many : length (map positionWords (preorder t)) ≡ self .len
-  records-many = omega (arith, used-length self (is .tidy), ap length (is .same), length-map (preorder t) positionWords, length-map (preorder t) entryOf)
+  records-many : length (map positionWords ts) ≡ self .len
+  records-many = omega (arith, used-length self tidy, ap length is, length-map ts positionWords, length-map ts entryOf)
 
-  pub row-past : (i : ℕ) → self .len ≤ i → replicate (width Positions) 0 ≡ rowAt t i
-  row-past i h = sym (List·getD-eq-default (map positionWords (preorder t)) (replicate (width Positions) 0) {n = i} (omega (arith, records-many)))
+  pub row-past : (i : ℕ) → self .len ≤ i → replicate (width Positions) 0 ≡ rowAt ts i
+  row-past i h = sym (List·getD-eq-default (map positionWords ts) (replicate (width Positions) 0) {n = i} (omega (arith, records-many)))
 
-  pub row-there : (i : ℕ) (r : List ℕ) → i < self .len → ((u : machine.Tree) → getD (self .entries) i blank ≡ entryOf u → r ≡ positionWords u) → r ≡ rowAt t i
+  pub row-there : (i : ℕ) (r : List ℕ) → i < self .len → ((u : machine.Tree) → getD (self .entries) i blank ≡ entryOf u → r ≡ positionWords u) → r ≡ rowAt ts i
   row-there i r h said =
-      let u = getD (preorder t) i failed in
-      let l : i < length (preorder t) = omega (arith, records-many, length-map (preorder t) positionWords) in
+      let u = getD ts i failed in
+      let l : i < length ts = omega (arith, records-many, length-map ts positionWords) in
       let e : getD (self .entries) i blank ≡ entryOf u =
-      sym (getD-take (self .len) (self .entries) i blank h) ∙ ap (λ (es : List Entry). getD es i blank) (is .same) ∙ List·getD-map entryOf (preorder t) i failed
+      sym (getD-take (self .len) (self .entries) i blank h) ∙ ap (λ (es : List Entry). getD es i blank) (sym is) ∙ List·getD-map entryOf ts i failed
       in
-      said u e ∙ sym (row-in positionWords (preorder t) i (replicate (width Positions) 0) failed l)
+      said u e ∙ sym (row-in positionWords ts i (replicate (width Positions) 0) failed l)
 
 -- words set one after the other
 sets-append : (l : List ℕ) (n : ℕ) (a b : List ℕ) → sets l n (a ++ b) ≡ sets (sets l n a) (n + length a) b
@@ -118,28 +120,63 @@ records-laid (r ∷ rs) w (suc n) =
     let z : width Positions * suc n ≡ width Positions + width Positions * n = omega arith in
     rw z (filled-front r (flatten rs) (width Positions) (width Positions * n) (w 0 (omega arith)) ∙ ap (λ (l : List ℕ). r ++ l) (records-laid rs (λ i h. w (suc i) (omega arith)) n))
 
--- the positions of a block exchanged for others, words and count
-module _ (st : Stores) (ps qs : List machine.Tree) (fs : List Frame) where
-  abbrev old : Parts
-  old = partsIn st ps fs
+-- where no row is, all is zeros
+records-none : (k : ℕ) → records [] k ≡ replicate (width Positions * k) 0
+records-none zero = refl
+records-none (suc k) =
+    let z : width Positions * suc k ≡ width Positions + width Positions * k = omega arith in
+    rw (z, ← replicate-append-replicate {A = ℕ} (width Positions) (width Positions * k) 0) (ap (λ (l : List ℕ). replicate (width Positions) 0 ++ l) (records-none k))
 
+records-past : (rs : List (List ℕ)) (m k : ℕ) → length rs ≤ m → records rs (m + k) ≡ records rs m ++ replicate (width Positions * k) 0
+records-past [] zero k h = let z : 0 + k ≡ k = omega arith in rw z (records-none k)
+records-past (r ∷ rs) zero k h = absurd (omega arith)
+records-past [] (suc m) k h =
+    let z : suc m + k ≡ suc (m + k) = omega arith in
+    rw (z, records-past [] m k (omega arith)) (sym (append-assoc (replicate (width Positions) 0) (records [] m) (replicate (width Positions * k) 0)))
+records-past (r ∷ rs) (suc m) k h =
+    let z : suc m + k ≡ suc (m + k) = omega arith in
+    rw (z, records-past rs m k (omega arith)) (sym (append-assoc r (records rs m) (replicate (width Positions * k) 0)))
+
+-- m rows put over an area with at most m others: what is after them is zeros before and after
+area-put : (rs qs : List (List ℕ)) → Wide (width Positions) rs → Wide (width Positions) qs → (m : ℕ) → length rs ≤ m → length qs ≤ m → m ≤ POSITIONS
+    → sets (area Positions rs) 0 (records qs m) ≡ area Positions qs
+unfolding area
+area-put rs qs w v m h k l =
+    let n = POSITIONS - m in
+    let all : POSITIONS ≡ m + n = omega arith in
+    let long : length (records rs m) ≡ length (records qs m) = records-length rs w m ∙ sym (records-length qs v m) in
+    let was : filled (width Positions * POSITIONS) (flatten rs) ≡ records rs m ++ replicate (width Positions * n) 0 =
+    records-laid rs w POSITIONS ∙ ap (records rs) all ∙ records-past rs m n h
+    in
+    let now : filled (width Positions * POSITIONS) (flatten qs) ≡ records qs m ++ replicate (width Positions * n) 0 =
+    records-laid qs v POSITIONS ∙ ap (records qs) all ∙ records-past qs m n k
+    in
+    let room : 0 + length (records qs m) ≤ length (records rs m ++ replicate (width Positions * n) 0) = omega (arith, long, length-append (records rs m) (replicate (width Positions * n) 0)) in
+    rw (was, now)
+    (sets-eq (records qs m) (records rs m ++ replicate (width Positions * n) 0) 0 room
+    ∙ ap (λ (z : List ℕ). records qs m ++ z) (drop-at (records rs m) (replicate (width Positions * n) 0) (0 + length (records qs m)) (omega (arith, long))))
+
+-- the positions of a block exchanged for others, words and count
+module _ (old : Parts) (qs : List machine.Tree) (m : ℕ) (h : length (old .positions) ≤ m) (k : length qs ≤ m) (l : m ≤ POSITIONS) where
   abbrev new : Parts
-  new = partsIn st qs fs
+  new = withPositions old qs
 
   abbrev front : List ℕ
   front = headerWords old ++ ahead old Positions
 
-  positions-set : sets (laid old) (begins Positions) (area Positions (rows new Positions)) ≡ filled WORDS (front ++ (area Positions (rows new Positions) ++ behind old Positions))
+  positions-set : sets (laid old) (begins Positions) (records (map positionWords qs) m) ≡ filled WORDS (front ++ (area Positions (rows new Positions) ++ behind old Positions))
   positions-set =
       let was : List ℕ = area Positions (rows old Positions) in
-      let now : List ℕ = area Positions (rows new Positions) in
+      let now : List ℕ = records (map positionWords qs) m in
       let e : begins Positions ≡ length front + 0 = omega (arith, before-length old Positions) in
-      let l : length now ≡ length was = length-area Positions (rows new Positions) ∙ sym (length-area Positions (rows old Positions)) in
-      let whole : sets was 0 now ≡ now = sets-eq now was 0 (omega arith) ∙ ap (λ (r : List ℕ). now ++ r) (drop-of-length-le was {i = 0 + length now} (omega arith)) ∙ append-nil now in
+      let room : 0 + length now ≤ length was =
+      omega (arith, records-length (map positionWords qs) (rows-wide new Positions) m, length-area Positions (rows old Positions))
+      in
       ap (λ (n : ℕ). sets (laid old) n now) e
       ∙ ap (λ (w : List ℕ). sets w (length front + 0) now) (apart old Positions)
-      ∙ sets-inside WORDS front was (behind old Positions) 0 now (omega arith)
-      ∙ ap (λ (r : List ℕ). filled WORDS (front ++ (r ++ behind old Positions))) whole
+      ∙ sets-inside WORDS front was (behind old Positions) 0 now room
+      ∙ ap (λ (r : List ℕ). filled WORDS (front ++ (r ++ behind old Positions)))
+      (area-put (rows old Positions) (rows new Positions) (rows-wide old Positions) (rows-wide new Positions) m (rw (length-map (old .positions) positionWords) h) (rw (length-map qs positionWords) k) l)
 
   count-set : set (filled WORDS (front ++ (area Positions (rows new Positions) ++ behind old Positions))) (countWord Positions) (length (rows new Positions)) ≡ laid new
   unfolding ahead behind
@@ -147,47 +184,79 @@ module _ (st : Stores) (ps qs : List machine.Tree) (fs : List Frame) where
       let rest : List ℕ = area Positions (rows new Positions) ++ behind old Positions in
       set-filled WORDS (front ++ rest) (countWord Positions) (length (rows new Positions)) (omega arith) ∙ sym (apart new Positions)
 
-  positions-put : putWord (bytes (sets (laid old) (begins Positions) (records (map positionWords qs) POSITIONS))) (countByte Positions) (length (map positionWords qs)) ≡ bytes (laid new)
-  unfolding area
+  positions-put : putWord (bytes (sets (laid old) (begins Positions) (records (map positionWords qs) m))) (countByte Positions) (length (map positionWords qs)) ≡ bytes (laid new)
   positions-put =
-      put-bytes (sets (laid old) (begins Positions) (records (map positionWords qs) POSITIONS)) (countWord Positions) (length (map positionWords qs))
-      ∙ ap bytes
-      (ap (λ (l : List ℕ). set (sets (laid old) (begins Positions) l) (countWord Positions) (length (map positionWords qs))) (sym (records-laid (map positionWords qs) (rows-wide new Positions) POSITIONS))
-      ∙ ap (λ (l : List ℕ). set l (countWord Positions) (length (map positionWords qs))) positions-set
-      ∙ count-set)
+      put-bytes (sets (laid old) (begins Positions) (records (map positionWords qs) m)) (countWord Positions) (length (map positionWords qs))
+      ∙ ap bytes (ap (λ (w : List ℕ). set w (countWord Positions) (length (map positionWords qs))) positions-set ∙ count-set)
 
 -- put_tree: the first i records are those of the tree
 abbrev pub Writing : List ℕ → Tree → List ℕ → ℕ → Type 0
 Writing b self now i =
-    (c : Config) (h : Represents b self c)
-    → now ≡ bytes (sets (laid (partsIn (c .stores) (h .positions) (framesOf (c .tree)))) (begins Positions) (records (map positionWords (preorder (c .tree))) i))
+    (p : Parts) (ts : List machine.Tree) → b ≡ bytes (laid p) → map entryOf ts ≡ used self → now ≡ bytes (sets (laid p) (begins Positions) (records (map positionWords ts) i))
 
 pub write-none : (b : List ℕ) (self : Tree) → Writing b self b 0
-write-none b self c h = h .block
+write-none b self p ts is same = is
 
 module _ (b : List ℕ) (self : Tree) (now next : List ℕ) where
-  pub write-more : (i : ℕ) (row : List ℕ) → Writing b self now i → ((t : machine.Tree) → Is self t → row ≡ rowAt t i)
+  pub write-more : (i : ℕ) (row : List ℕ) → Writing b self now i → ((ts : List machine.Tree) → map entryOf ts ≡ used self → row ≡ rowAt ts i)
       → ((ws : List ℕ) → now ≡ bytes ws → next ≡ bytes (sets ws (begins Positions + width Positions * i) row))
       → Writing b self next (i + 1)
-  write-more i row was said put c h =
-      let p = partsIn (c .stores) (h .positions) (framesOf (c .tree)) in
-      let rs : List (List ℕ) = map positionWords (preorder (c .tree)) in
+  write-more i row was said put p ts is same =
+      let rs : List (List ℕ) = map positionWords ts in
       let s : i + 1 ≡ suc i = omega arith in
       let n : begins Positions + width Positions * i ≡ begins Positions + length (records rs i) =
-      ap (λ (k : ℕ). begins Positions + k) (sym (records-length rs (rows-wide (partsIn (c .stores) (preorder (c .tree)) []) Positions) i))
+      ap (λ (k : ℕ). begins Positions + k) (sym (records-length rs (rows-wide (withPositions p ts) Positions) i))
       in
-      put (sets (laid p) (begins Positions) (records rs i)) (was c h)
+      put (sets (laid p) (begins Positions) (records rs i)) (was p ts is same)
       ∙ ap bytes
-      (ap (λ (r : List ℕ). sets (sets (laid p) (begins Positions) (records rs i)) (begins Positions + width Positions * i) r) (said (c .tree) (h .tree))
-      ∙ ap (λ (k : ℕ). sets (sets (laid p) (begins Positions) (records rs i)) k (rowAt (c .tree) i)) n
-      ∙ sym (sets-append (laid p) (begins Positions) (records rs i) (rowAt (c .tree) i))
+      (ap (λ (r : List ℕ). sets (sets (laid p) (begins Positions) (records rs i)) (begins Positions + width Positions * i) r) (said ts same)
+      ∙ ap (λ (k : ℕ). sets (sets (laid p) (begins Positions) (records rs i)) k (rowAt ts i)) n
+      ∙ sym (sets-append (laid p) (begins Positions) (records rs i) (rowAt ts i))
       ∙ ap (sets (laid p) (begins Positions)) (sym (records-next rs i))
       ∙ ap (λ (k : ℕ). sets (laid p) (begins Positions) (records rs k)) (sym s))
 
-  pub written : Writing b self now POSITIONS → next ≡ putWord now (countByte Positions) (self .len) → (c : Config) → Represents b self c → next ≡ encode c
-  written all put c h =
-      let n = records-many self (c .tree) (h .tree) in
+  pub written : (m : ℕ) → Tidy self → counted b Positions ≤ m → self .len ≤ m → m ≤ POSITIONS → Writing b self now m → next ≡ putWord now (countByte Positions) (self .len)
+      → (p : Parts) (ts : List machine.Tree) → b ≡ bytes (laid p) → map entryOf ts ≡ used self → next ≡ bytes (laid (withPositions p ts))
+  written m tidy h k l all put p ts is same =
+      let n = records-many self tidy ts same in
+      let old : counted b Positions ≡ length (p .positions) = rw is (count-is p Positions ∙ length-map (p .positions) positionWords) in
       put
       ∙ ap (λ (k : ℕ). putWord now (countByte Positions) k) (sym n)
-      ∙ ap (λ (x : List ℕ). putWord x (countByte Positions) (length (map positionWords (preorder (c .tree))))) (all c h)
-      ∙ positions-put (c .stores) (h .positions) (preorder (c .tree)) (framesOf (c .tree))
+      ∙ ap (λ (x : List ℕ). putWord x (countByte Positions) (length (map positionWords ts))) (all p ts is same)
+      ∙ positions-put p ts m (omega arith) (omega (arith, length-map ts positionWords)) l
+
+-- one position put
+pub map-set : {A B : Type 0} (f : A → B) (xs : List A) (i : ℕ) (x : A) → map f (set xs i x) ≡ set (map f xs) i (f x)
+map-set f [] i x = refl
+map-set f (y ∷ ys) zero x = refl
+map-set f (y ∷ ys) (suc i) x = rw (map-set f ys i x)
+
+sets-bytes : (ws : List ℕ) (i : ℕ) (vs : List ℕ) → bytes (sets ws i vs) ≡ putWords (bytes ws) (2 * i) vs
+sets-bytes ws i [] = refl
+sets-bytes ws i (v ∷ vs) = let e : 2 * i + 2 ≡ 2 * suc i = omega arith in rw (put-bytes ws i v, e) (sets-bytes (set ws i v) (suc i) vs)
+
+sets-all : (l vs : List ℕ) → length l ≡ length vs → sets l 0 vs ≡ vs
+sets-all l vs e = sets-eq vs l 0 (omega arith) ∙ ap (λ (z : List ℕ). vs ++ z) (drop-of-length-le l {i = 0 + length vs} (omega arith)) ∙ append-nil vs
+
+position-width : (t : machine.Tree) → length (positionWords t) ≡ width Positions
+position-width (running a e fs) = refl
+position-width (returning v fs) = refl
+position-width failed = refl
+position-width (join fs a e l r) = refl
+
+pub position-put : (b c row : List ℕ) (i : ℕ) (p : Parts) (t : machine.Tree) → i < POSITIONS → i < length (p .positions) → row ≡ positionWords t → b ≡ bytes (laid p)
+    → ((ws : List ℕ) → b ≡ bytes ws → c ≡ bytes (sets ws (begins Positions + width Positions * i) row))
+    → c ≡ bytes (laid (withPositions p (set (p .positions) i t)))
+position-put b c row i p t room h e is put =
+    let g = getD (p .positions) i failed in
+    let z : begins Positions + width Positions * i ≡ begins Positions + width Positions * i + 0 = omega arith in
+    let l : i < length (rows p Positions) = rw (length-map (p .positions) positionWords) h in
+    let r : rows (withPositions p (set (p .positions) i t)) Positions ≡ set (rows p Positions) i (sets (getD (rows p Positions) i []) 0 (positionWords t)) =
+    map-set positionWords (p .positions) i t
+    ∙ ap (set (rows p Positions) i) (sym (ap (λ (w : List ℕ). sets w 0 (positionWords t)) (row-at positionWords (p .positions) i failed h) ∙ sets-all (positionWords g) (positionWords t) (position-width g ∙ sym (position-width t))))
+    in
+    put (laid p) is
+    ∙ ap (λ (w : List ℕ). bytes (sets (laid p) (begins Positions + width Positions * i) w)) e
+    ∙ ap (λ (n : ℕ). bytes (sets (laid p) n (positionWords t))) z
+    ∙ sets-bytes (laid p) (begins Positions + width Positions * i + 0) (positionWords t)
+    ∙ put-words p (withPositions p (set (p .positions) i t)) Positions refl i 0 (positionWords t) l room (omega (arith, position-width t)) r

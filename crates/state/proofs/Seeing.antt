@@ -1,35 +1,46 @@
--- What holds of the block and the tree wherever something is seen from a position: what the functions that change them ask.
-use mathlib.Core.Path.{_≡_, refl, ap, _∙_}
-use mathlib.Core.List.{List, [], _∷_, _++_, append-nil, flatMap, reverse}
-use Prim.Native.Nat.{ℕ, suc, _+_, _<_, _≤_}
+-- What holds of the block wherever something is seen from a position: what the functions that change it ask.
+use mathlib.Core.Path.{_≡_, refl, sym, ap, _∙_}
+use mathlib.Core.List.{List, [], _∷_, _++_, append-nil, map, flatMap, reverse}
+use Prim.Native.Nat.{ℕ, zero, suc, _+_, _<_, _≤_}
 use native.Mathlib.Omega.{arith}
-use lib.ListN.{length, getD, take, length-append, length-map, length-reverse}
-use lib.Seq.{take-suc}
-use Rattle.limits.specs.Limits.{BLOCK}
+use lib.ListN.{length, take, drop, length-append, length-map, length-reverse}
+use Rattle.limits.specs.Limits.{BLOCK, POSITIONS}
 use Rattle.machine.specs.declared.Frame.{Frame}
 use Rattle.machine.specs.Config as machine
 use Rattle.machine.specs.Config.{Stores, running, returning, failed, join}
 use Rattle.machine.specs.Machine.{size, frameCount}
 use Rattle.block.specs.declared.Area.{Area}
-use Rattle.block.specs.declared.Area.the-variants.{Objects, Bindings, Frames}
+use Rattle.block.specs.declared.Area.the-variants.{Objects, Bindings, Positions, Frames}
 use Rattle.block.specs.Layout.{most, counted}
 use Rattle.block.specs.Block.{objectWords, bindingWords, frameWords, preorder, waiting, framesOf, Parts, rows}
 use Rattle.block.proofs.Trees.{frames-join}
 use Rattle.block.proofs.Words.{laid-bytes, count-is}
-use Rattle.tree.specs.declared.Tree.{Tree}
 use Rattle.tree.specs.declared.Entry.{Entry}
-use Rattle.tree.specs.Entries.{entryOf, frameSum, blank, used}
-use Rattle.tree.specs.Parts.{FramesWithin}
-use Rattle.tree.proofs.Trees.{size-some, sum-append}
-use Rattle.tree.proofs.Parts.{used-length, part-before, part-inside, part-root, part-entry}
+use Rattle.tree.specs.Entries.{entryOf, frameSum}
+use Rattle.tree.specs.Parts.{PartAt, Stands, FramesWithin}
+use Rattle.tree.proofs.Trees.{size-some}
+use Rattle.tree.proofs.Parts.{part-before, part-inside, part-root}
 use Rattle.state.specs.Represents.{partsIn, Rest, StateAt, SomeState}
+use Rattle.state.specs.Positions.{entryAt, entriesIn}
+use Rattle.state.proofs.Taking.{entries-many, entry-there, entries-said}
+
+-- the first and the last elements of a list of which each is put into another
+pub map-take : {A B : Type 0} (f : A → B) (n : ℕ) (l : List A) → map f (take n l) ≡ take n (map f l)
+map-take f zero l = refl
+map-take f (suc n) [] = refl
+map-take f (suc n) (x ∷ l) = rw (map-take f n l)
+
+pub map-drop : {A B : Type 0} (f : A → B) (n : ℕ) (l : List A) → map f (drop n l) ≡ drop n (map f l)
+map-drop f zero l = refl
+map-drop f (suc n) [] = refl
+map-drop f (suc n) (x ∷ l) = map-drop f n l
 
 -- all frames, where the part has fs, and what lies in the block then
 abbrev pub around : Rest → List Frame → List Frame
 around x fs = x .outer ++ (fs ++ x .later)
 
-abbrev pub lying : Rest → Stores → List Frame → Parts
-lying x st fs = partsIn st (x .positions) (around x fs)
+abbrev pub lying : Rest → Stores → List machine.Tree → List Frame → Parts
+lying x st ps fs = partsIn st ps (around x fs)
 
 -- a tree's frames: those of its root, outermost first, and then those of the trees beneath
 abbrev pub beneath : machine.Tree → List Frame
@@ -64,16 +75,16 @@ frames-many (join fs a e l r) =
 waiting-within : (t : machine.Tree) → length (waiting t) ≤ frameCount t
 waiting-within t = omega (arith, frames-many t, ap length (frames-first t), length-append (reverse (waiting t)) (beneath t), length-reverse (waiting t))
 
-module _ {b : List ℕ} {self : Tree} {i : ℕ} {x : Rest} {st : Stores} {u : machine.Tree} (s : StateAt b self i x st u) where
-  pub some-state : SomeState b self i
+module _ {b : List ℕ} {i : ℕ} {x : Rest} {st : Stores} {u : machine.Tree} (s : StateAt b i x st u) where
+  pub some-state : SomeState b i
   some-state = record { rest = x; stores = st; part = u; seen = s }
 
   pub seen-length : length b ≡ BLOCK
-  seen-length = rw (s .block) (laid-bytes (lying x st (framesOf u)))
+  seen-length = rw (s .block) (laid-bytes (lying x st (s .positions) (framesOf u)))
 
   -- the counts
-  pub seen-counted : (a : Area) → counted b a ≡ length (rows (lying x st (framesOf u)) a)
-  seen-counted a = rw (s .block) (count-is (lying x st (framesOf u)) a)
+  pub seen-counted : (a : Area) → counted b a ≡ length (rows (lying x st (s .positions) (framesOf u)) a)
+  seen-counted a = rw (s .block) (count-is (lying x st (s .positions) (framesOf u)) a)
 
   pub seen-few : (a : Area) → counted b a ≤ most a
   seen-few a = rw (seen-counted a) (s .few a)
@@ -91,35 +102,35 @@ module _ {b : List ℕ} {self : Tree} {i : ℕ} {x : Rest} {st : Stores} {u : ma
       ∙ omega (arith, length-append (x .outer) (framesOf u ++ x .later), length-append (framesOf u) (x .later), frames-many u)
 
   -- the position, and the entry there
-  pub seen-inside : i < self .len
-  seen-inside = omega (arith, part-inside (s .there) (s .tidy), size-some u)
+  pub seen-entries : entriesIn b ≡ map entryOf (s .positions)
+  seen-entries = entries-said b (lying x st (s .positions) (framesOf u)) (s .block) (seen-few Positions)
 
-  pub seen-entry : getD (self .entries) i blank ≡ entryOf u
-  seen-entry = part-entry (s .there) (s .tidy)
+  pub seen-part : PartAt (entriesIn b) i (x .before) u (x .after)
+  seen-part = rw seen-entries (s .there)
 
-  pub seen-waiting : getD (self .entries) i blank .frames ≡ length (waiting u)
+  pub seen-inside : i < counted b Positions
+  seen-inside = omega (arith, part-inside seen-part, size-some u, entries-many b)
+
+  pub seen-room : i < POSITIONS
+  seen-room = omega (arith, seen-inside, seen-few Positions)
+
+  pub seen-entry : entryAt b i ≡ entryOf u
+  seen-entry = sym (entry-there b i seen-inside) ∙ part-root seen-part
+
+  pub seen-waiting : entryAt b i .frames ≡ length (waiting u)
   seen-waiting = ap (λ (y : Entry). y .frames) seen-entry
 
-  -- where the frames of the part begin, and where those of the position end
-  pub frames-begin : frameSum (take i (used self)) ≡ length (x .outer)
-  frames-begin = ap frameSum (part-before (s .there)) ∙ omega (arith, s .start)
-
-  pub frames-end : frameSum (take (i + 1) (used self)) ≡ length (x .outer) + length (waiting u)
-  frames-end =
-      let one : i + 1 ≡ suc i = omega arith in
-      let l : i < length (used self) = omega (arith, seen-inside, used-length self (s .tidy)) in
-      rw (one, take-suc (used self) i blank l)
-      (sum-append (take i (used self)) (getD (used self) i blank ∷ []) ∙ omega (arith, frames-begin, ap (λ (y : Entry). y .frames) (part-root (s .there))))
+  -- where the frames of the part begin
+  pub frames-begin : frameSum (take i (entriesIn b)) ≡ length (x .outer)
+  frames-begin = ap frameSum (part-before seen-part) ∙ omega (arith, s .start)
 
   -- the frames of the position, and those of the part, lie in the block
-  pub waiting-few : getD (self .entries) i blank .frames ≤ counted b Frames
-  waiting-few = omega (arith, seen-waiting, frames-counted, waiting-within u)
+  pub waiting-few : frameSum (take i (entriesIn b)) + entryAt b i .frames ≤ counted b Frames
+  waiting-few = omega (arith, seen-waiting, frames-begin, frames-counted, waiting-within u)
 
-  pub end-inside : (end : ℕ) → end ≡ frameSum (take (i + 1) (used self)) → end ≤ counted b Frames
-  end-inside end h = omega (arith, h, frames-end, frames-counted, waiting-within u)
+  pub frames-inside : (at k : ℕ) → at ≡ frameSum (take i (entriesIn b)) → FramesWithin (entriesIn b) i k → at + k ≤ counted b Frames
+  frames-inside at k h many = omega (arith, h, frames-begin, many .part seen-part, frames-counted)
 
-  pub end-some : (end : ℕ) → end ≡ frameSum (take (i + 1) (used self)) → 0 < getD (self .entries) i blank .frames → 0 < end
-  end-some end h some = omega (arith, h, frames-end, seen-waiting, some)
-
-  pub frames-inside : (at k : ℕ) → at ≡ frameSum (take i (used self)) → FramesWithin self i k → at + k ≤ counted b Frames
-  frames-inside at k h many = omega (arith, h, frames-begin, many .part (s .there), frames-counted)
+-- something is seen, so a part stands there
+pub stands : {b : List ℕ} {i : ℕ} → SomeState b i → Stands (entriesIn b) i
+stands s = record { before = s .rest .before; part = s .part; after = s .rest .after; there = seen-part (s .seen) }

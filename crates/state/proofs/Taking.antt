@@ -1,14 +1,16 @@
 -- The tree taken out of the block: each position read from its words, and the array filled with the positions from the front.
 use mathlib.Core.Path.{_≡_, refl, sym, ap, _∙_}
-use mathlib.Core.List.{List, _++_, map}
+use mathlib.Core.Bool.{Bool, true, false, cond}
+use mathlib.Core.List.{List, [], _∷_, _++_, map}
 use Prim.Native.Nat.{ℕ, _+_, _-_, _<_, _≤_}
+use native.Mathlib.Numerals.{add-one}
 use native.Mathlib.Omega.{arith}
 use borrow.Author.Tests.{ne-eqb}
+use lib.Dec.{eqb}
 use lib.ListN.{length, getD, set, take, drop, replicate, length-map, List·getD-map}
-use lib.Seq.{take-all, ext-getD}
-use Rattle.words.specs.Word.{bytes}
+use lib.Seq.{take-all, take-suc, ext-getD}
+use Rattle.words.specs.Word.{WORD, bytes}
 use Rattle.limits.specs.Limits.{POSITIONS}
-use Rattle.script.specs.Lists.{run}
 use Rattle.script.proofs.Lists.{length-run, getD-run}
 use Rattle.machine.specs.declared.Value.{Value}
 use Rattle.machine.specs.Config as machine
@@ -16,16 +18,20 @@ use Rattle.machine.specs.Config.{running, returning, failed, join}
 use Rattle.block.specs.declared.Area.the-variants.{Positions}
 use Rattle.block.specs.Rows.{wordOf}
 use Rattle.block.specs.Layout.{counted, wordIn, width, KIND, NODE, ENV, RESULT, WAITING, RUNNING, RETURNING, JOIN}
-use Rattle.block.specs.Block.{preorder, positionWords, Parts, partsOf, laid}
+use Rattle.block.specs.Values.{valueOf, Storable}
+use Rattle.block.specs.Block.{positionWords, Parts, laid}
 use Rattle.block.proofs.Rows.{row-at}
 use Rattle.block.proofs.Words.{count-is, word-is}
-use Rattle.block.proofs.Values.{value-back}
+use Rattle.block.proofs.Values.{value-back, word-back}
+use Rattle.tree.specs.declared.Cell.{Cell}
 use Rattle.tree.specs.declared.Cell.the-variants.{Failed, Running, Returning, Join}
 use Rattle.tree.specs.declared.Entry.{Entry}
 use Rattle.tree.specs.declared.Tree.{Tree}
-use Rattle.tree.specs.Entries.{entryOf, entries, blank, used, Tidy}
+use Rattle.tree.specs.Entries.{entryOf, beneathCell, blank, used, resultOf, Worded}
 use Rattle.tree.proofs.Lists.{fill-turn, fill-length, fill-take, fill-drop}
-use Rattle.state.specs.Positions.{cellFrom, entryFrom, Taken}
+use Rattle.tree.proofs.Parts.{used-length}
+use Rattle.tree.proofs.Worded.{every-append}
+use Rattle.state.specs.Positions.{cellFrom, entryFrom, entryAt, entriesIn, Taken}
 
 -- what the words of a position say
 module _ (k a e : ℕ) (v : Value) where
@@ -51,65 +57,98 @@ entry-back (join fs a e l r) = refl
 same-entry : (w x : ℕ → ℕ) → ((j : ℕ) → j < width Positions → w j ≡ x j) → entryFrom w ≡ entryFrom x
 same-entry w x h = rw (h KIND (omega arith), h NODE (omega arith), h ENV (omega arith), h RESULT (omega arith), h WAITING (omega arith))
 
+-- the value of a position that is read from words is a word
+pub storable-cell : (x : Cell) (k a e : ℕ) (v : Value) → x ≡ cellFrom k a e v → Storable v → Storable (resultOf x)
+storable-cell x k a e v q h = rw q (go (eqb k RUNNING) (eqb k RETURNING) (eqb k JOIN))
+  where
+    go : (x y z : Bool) → Storable (resultOf (cond x (Running a e) (cond y (Returning v) (cond z (Join a e) Failed))))
+    go true y z = omega arith
+    go false true z = h
+    go false false true = omega arith
+    go false false false = omega arith
+
+pub word-storable : (w : ℕ) → w < WORD → Storable (valueOf w)
+word-storable w h = rw (word-back w) h
+
+-- how many trees stand beneath a position, by its kind
+pub beneath-join : (k a e : ℕ) (v : Value) → k ≡ JOIN → 2 ≡ beneathCell (cellFrom k a e v)
+beneath-join k a e v h = rw h
+
+pub beneath-none : (k a e : ℕ) (v : Value) → (k ≡ JOIN → ⊥) → 0 ≡ beneathCell (cellFrom k a e v)
+beneath-none k a e v h = rw (ne-eqb k JOIN h) (go (eqb k RUNNING) (eqb k RETURNING))
+  where
+    go : (x y : Bool) → 0 ≡ beneathCell (cond x (Running a e) (cond y (Returning v) Failed))
+    go true y = refl
+    go false true = refl
+    go false false = refl
+
 -- the positions of the bytes b
 module _ (b : List ℕ) where
-  abbrev pub entryAt : ℕ → Entry
-  entryAt i = entryFrom (wordIn b Positions i)
+  pub entries-many : length (entriesIn b) ≡ counted b Positions
+  entries-many = length-run (entryAt b) 0 (counted b Positions)
 
-  abbrev pub entriesIn : ℕ → List Entry
-  entriesIn n = run entryAt 0 n
+  pub entry-there : (k : ℕ) → k < counted b Positions → getD (entriesIn b) k blank ≡ entryAt b k
+  entry-there k h = let z : 0 + k ≡ k = omega arith in getD-run (entryAt b) 0 (counted b Positions) k blank h ∙ ap (entryAt b) z
 
-  -- how far the array is filled
-  abbrev pub Filling : ℕ → List Entry → ℕ → Type 0
-  Filling n out i = (i ≤ n) × (out ≡ take i (entriesIn n) ++ replicate (POSITIONS - i) blank)
+  -- what the positions of laid parts say
+  module _ (p : Parts) (is : b ≡ bytes (laid p)) (few : counted b Positions ≤ POSITIONS) where
+    positions-many : counted b Positions ≡ length (p .positions)
+    positions-many = rw is (count-is p Positions ∙ length-map (p .positions) positionWords)
 
-  pub fill-more : (n : ℕ) (out new : List Entry) (i : ℕ) (x : Entry) → n ≤ POSITIONS → i < n → Filling n out i → x ≡ entryAt i → new ≡ set out i x → Filling n new (i + 1)
-  fill-more n out new i x h l f e s =
-      let z : 0 + i ≡ i = omega arith in
-      let at : x ≡ getD (entriesIn n) i blank = e ∙ sym (getD-run entryAt 0 n i blank l ∙ ap entryAt z) in (
-        omega arith,
-        s ∙ ap (λ (o : List Entry). set o i x) (f .1) ∙ fill-turn (entriesIn n) blank x i POSITIONS (omega (arith, length-run entryAt 0 n)) (omega arith) at,
-      )
+    word-said : (i : ℕ) → i < POSITIONS → i < length (p .positions) → (j : ℕ) → j < width Positions → wordIn b Positions i j ≡ getD (positionWords (getD (p .positions) i failed)) j 0
+    word-said i room l j hj = rw is (word-is p Positions i j room hj ∙ ap (λ (r : List ℕ). getD r j 0) (row-at positionWords (p .positions) i failed l))
 
-  module _ (n : ℕ) (h : n ≤ POSITIONS) (r : Tree) (len : r .len ≡ n) (f : r .entries ≡ take n (entriesIn n) ++ replicate (POSITIONS - n) blank) where
-    long : length (entriesIn n) ≡ n
-    long = length-run entryAt 0 n
+    pub entries-said : entriesIn b ≡ map entryOf (p .positions)
+    entries-said =
+        let q = positions-many in
+        ext-getD blank (entriesIn b) (map entryOf (p .positions)) (entries-many ∙ q ∙ sym (length-map (p .positions) entryOf))
+        (λ i l.
+        let k : i < counted b Positions = omega (arith, entries-many) in
+        entry-there i k
+        ∙ same-entry (wordIn b Positions i) (λ j. getD (positionWords (getD (p .positions) i failed)) j 0) (word-said i (omega arith) (omega arith))
+        ∙ entry-back (getD (p .positions) i failed)
+        ∙ sym (List·getD-map entryOf (p .positions) i failed))
 
-    pub taken-tidy : Tidy r
-    taken-tidy =
-        record {
+  -- how far an array is filled with the first n positions
+  pub record Filling (n : ℕ) (out : List Entry) (i : ℕ) : Type 0 where
+    pub few : n ≤ POSITIONS
+    pub many : n ≡ counted b Positions
+    pub inside : i ≤ n
+    pub filled : out ≡ take i (entriesIn b) ++ replicate (POSITIONS - i) blank
+    pub worded : Worded (take i (entriesIn b))
+
+  pub fill-more : (n : ℕ) (out new : List Entry) (i : ℕ) (x : Entry) → i < n → Filling n out i → x ≡ entryAt b i → Storable (resultOf (x .cell)) → new ≡ set out i x → Filling n new (i + 1)
+  fill-more n out new i x l f e v s =
+      let few = f .few in
+      let h : i < counted b Positions = omega (arith, f .many) in
+      let at : x ≡ getD (entriesIn b) i blank = e ∙ sym (entry-there i h) in
+      let k : i < length (entriesIn b) = omega (arith, entries-many) in
+      let word : Storable (resultOf (getD (entriesIn b) i blank .cell)) = rw at at v in
+      record {
+        few = f .few;
+        many = f .many;
+        inside = omega arith;
+        filled = s ∙ ap (λ (o : List Entry). set o i x) (f .filled) ∙ fill-turn (entriesIn b) blank x i POSITIONS k (omega arith) at;
+        worded = rw (add-one i, take-suc (entriesIn b) i blank k) (every-append _ (take i (entriesIn b)) (getD (entriesIn b) i blank ∷ []) (f .worded) (word, _));
+      }
+
+  -- the array filled is the block's tree
+  pub taken : (n : ℕ) (r : Tree) → r .len ≡ n → Filling n (r .entries) n → Taken b r
+  taken n r len f =
+      let few = f .few in
+      let long : length (entriesIn b) ≡ n = entries-many ∙ sym (f .many) in
+      let same : used r ≡ entriesIn b =
+      rw len (ap (take n) (f .filled) ∙ fill-take (entriesIn b) blank n POSITIONS (omega (arith, long)) ∙ take-all n (entriesIn b) (omega (arith, long)))
+      in
+      record {
+        tidy = record {
           small = omega arith;
-          whole = ap length f ∙ fill-length (entriesIn n) blank n POSITIONS (omega (arith, long)) h;
-          rest = rw len (ap (drop n) f ∙ fill-drop (entriesIn n) blank n POSITIONS (omega (arith, long)));
-        }
+          whole = ap length (f .filled) ∙ fill-length (entriesIn b) blank n POSITIONS (omega (arith, long)) (omega arith);
+          rest = rw len (ap (drop n) (f .filled) ∙ fill-drop (entriesIn b) blank n POSITIONS (omega (arith, long)));
+        };
+        same = same;
+        worded = rw same (rw (take-all n (entriesIn b) (omega (arith, long))) at (f .worded));
+      }
 
-    taken-used : used r ≡ entriesIn n
-    taken-used = rw len (ap (take n) f ∙ fill-take (entriesIn n) blank n POSITIONS (omega (arith, long)) ∙ take-all n (entriesIn n) (omega (arith, long)))
-
-    -- what the positions of laid parts say
-    module _ (p : Parts) (is : b ≡ bytes (laid p)) where
-      word-said : (i : ℕ) → i < POSITIONS → i < length (p .positions) → (j : ℕ) → j < width Positions → wordIn b Positions i j ≡ getD (positionWords (getD (p .positions) i failed)) j 0
-      word-said i room l j hj = rw is (word-is p Positions i j room hj ∙ ap (λ (r : List ℕ). getD r j 0) (row-at positionWords (p .positions) i failed l))
-
-      entries-said : n ≡ counted b Positions → entriesIn n ≡ map entryOf (p .positions)
-      entries-said many =
-          let q : n ≡ length (p .positions) = many ∙ rw is (count-is p Positions ∙ length-map (p .positions) positionWords) in
-          ext-getD blank (entriesIn n) (map entryOf (p .positions)) (long ∙ q ∙ sym (length-map (p .positions) entryOf))
-          (λ i l.
-          let k : i < n = omega (arith, long) in
-          let z : 0 + i ≡ i = omega arith in
-          getD-run entryAt 0 n i blank k
-          ∙ ap entryAt z
-          ∙ same-entry (wordIn b Positions i) (λ j. getD (positionWords (getD (p .positions) i failed)) j 0) (word-said i (omega arith) (omega arith))
-          ∙ entry-back (getD (p .positions) i failed)
-          ∙ sym (List·getD-map entryOf (p .positions) i failed))
-
-    -- the array filled is the block's tree
-    pub taken : n ≡ counted b Positions → Taken b r
-    taken many c is few =
-        record {
-          positions = preorder (c .tree);
-          tree = record { tidy = taken-tidy; same = taken-used ∙ entries-said (partsOf c) is many };
-          block = is;
-          few = few;
-        }
+pub taken-len : {b : List ℕ} {r : Tree} → Taken b r → r .len ≡ counted b Positions
+taken-len {b} {r} t = omega (arith, used-length r (t .tidy), ap length (t .same), entries-many b)

@@ -15,7 +15,6 @@ use Rattle.machine.specs.Config.{Config}
 use Rattle.machine.specs.Machine.{lockFrames, Path, locate, part}
 use Rattle.block.specs.Block.{waiting, Parts, laid}
 use Rattle.representation.specs.Preorder.{framesAbove}
-use Rattle.tree.specs.declared.Tree.{Tree}
 use Rattle.state.specs.Represents.{Represents}
 
 -- Is a frame a lock frame of object o?
@@ -28,11 +27,11 @@ isLock o (locks p) = eqb o p
 abbrev pub LockWithin : List ℕ → ℕ → ℕ → ℕ → Bool → Type 0
 LockWithin b from to o r = (p : Parts) → b ≡ bytes (laid p) → to ≤ length (p .frames) → r ≡ ltb 0 (lockFrames o (slice from to (p .frames)))
 
--- r says whether the thread at position i of the tree holds object o: by its own frames, or by those of the joins whose leftmost thread it is.
-abbrev pub Held : List ℕ → Tree → ℕ → ℕ → Bool → Type 0
-Held b self i o r =
+-- r says whether the thread at position i holds object o: by its own frames, or by those of the joins whose leftmost thread it is.
+abbrev pub Held : List ℕ → ℕ → ℕ → Bool → Type 0
+Held b i o r =
     (c : Config) (p : Path) (u : machine.Tree)
-    → Represents b self c
+    → Represents b c
     → locate (c .tree) i ≡ some p
     → part (c .tree) p ≡ some u
     → r ≡ ltb 0 (lockFrames o (waiting u) + lockFrames o (framesAbove [] (c .tree) p))

@@ -1,6 +1,7 @@
 // Which objects a thread holds.
+use crate::frames_before;
+use crate::reading::leftmost_from;
 use machine::Frame;
-use tree::Tree;
 ghost use mathlib.Core.Path.{_≡_};
 ghost use Prim.Native.Nat.{_≤_};
 ghost use lib.ListN.{length};
@@ -37,12 +38,12 @@ fn lock_within(block: &[u8], from: usize, to: usize, o: u16) -> bool
 
 // Does the thread at position i hold object o? The frames that it will resume stand together: those of the joins of which it is the leftmost thread, and its
 // own.
-pub fn holds(block: &[u8], tree: Tree, i: usize, o: u16) -> bool
-    requires { ⌜ SomeState (now block) tree i ⌝ }
-    ensures { λ r. ⌜ Held (now (block .entry)) tree i o r ⌝ }
+pub fn holds(block: &[u8], i: usize, o: u16) -> bool
+    requires { ⌜ SomeState (now block) i ⌝ }
+    ensures { λ r. ⌜ Held (now (block .entry)) i o r ⌝ }
 {
-    let first = tree.leftmost_from(i);
-    let from = tree.frames_before(first);
-    let to = tree.frames_before(i + 1);
+    let first = leftmost_from(block, i);
+    let from = frames_before(block, first);
+    let to = frames_before(block, i + 1);
     lock_within(block, from, to, o)
 }

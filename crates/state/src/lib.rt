@@ -1,6 +1,7 @@
-// Block and tree as one configuration: the tree is taken out of the block, a move changes both, and the tree is written back.
+// The block as one configuration, seen from a position: the thread tree lies in it all the time, and is taken out as a value only where a part is exchanged.
 mod held;
 mod part;
+mod reading;
 mod whole;
 
 pub use held::holds;
@@ -11,5 +12,7 @@ pub use part::push;
 pub use part::rejoin;
 pub use part::set_cell;
 pub use part::top_frame;
-pub use whole::put_tree;
-pub use whole::take_tree;
+pub use reading::fold_at;
+pub use reading::frames_before;
+pub use reading::thread_count;
+pub use whole::entry_at;

@@ -1,4 +1,4 @@
-// The tree by value: taken out of the block, and written back.
+// A position as a value, read and written; and the tree by value, taken out of the block and written back.
 use block::Area;
 use block::Layout;
 use limits::Limits;
@@ -7,21 +7,20 @@ use tree::Cell;
 use tree::Entry;
 use tree::Tree;
 ghost use mathlib.Core.Path.{_≡_};
-ghost use mathlib.Core.List.{List};
+ghost use mathlib.Core.List.{List, map};
 ghost use Prim.Native.Nat.{ℕ, _+_, _*_, _<_, _≤_};
-ghost use lib.ListN.{length};
+ghost use lib.ListN.{length, getD, set};
 ghost use lib.Seq.{sets};
 ghost use Rattle.words.specs.Word.{bytes};
 ghost use Rattle.limits.specs.Limits.{BLOCK, POSITIONS};
 ghost use Rattle.machine.specs.Config as machine;
-ghost use Rattle.machine.specs.Config.{Config};
 ghost use Rattle.block.specs.declared.Area.the-variants.{Positions};
-ghost use Rattle.block.specs.Layout.{width, begins, counted, wordIn};
+ghost use Rattle.block.specs.Layout.{width, begins, counted};
 ghost use Rattle.block.specs.Values.{Storable};
-ghost use Rattle.block.specs.Block.{positionWords, encode};
-ghost use Rattle.tree.specs.Entries.{entryOf, Tidy, Is};
-ghost use Rattle.state.specs.Represents.{Represents};
-ghost use Rattle.state.specs.Positions.{cellFrom, entryFrom, Taken, resultOf, Worded, rowAt};
+ghost use Rattle.block.specs.Block.{positionWords, Parts, laid};
+ghost use Rattle.tree.specs.declared.Tree as threads;
+ghost use Rattle.tree.specs.Entries.{entryOf, blank, used, Tidy, resultOf, Worded};
+ghost use Rattle.state.specs.Positions.{cellFrom, entryAt, Taken, rowAt, withPositions};
 
 // What stands at a position, by its words.
 fn cell_of(kind: u16, node: u16, env: u16, value: Value) -> Cell
@@ -40,17 +39,17 @@ fn cell_of(kind: u16, node: u16, env: u16, value: Value) -> Cell
 }
 
 // Position i of the block.
-fn entry_at(block: &[u8], i: usize) -> Entry
+pub fn entry_at(block: &[u8], i: usize) -> Entry
     requires { ⌜ (length (now block) ≡ BLOCK) × (i < POSITIONS) ⌝ }
-    ensures { λ r. ⌜ r ≡ entryFrom (wordIn (now (block .entry)) Positions i) ⌝ }
+    ensures { λ r. ⌜ (r ≡ entryAt (now (block .entry)) i) × Storable (resultOf (r .cell)) ⌝ }
 {
     let kind = areas::word(block, Area::Positions, i, Layout::KIND);
     let node = areas::word(block, Area::Positions, i, Layout::NODE);
     let env = areas::word(block, Area::Positions, i, Layout::ENV);
-    let value = areas::value(block, Area::Positions, i, Layout::RESULT);
+    let result = areas::word(block, Area::Positions, i, Layout::RESULT);
     let frames = areas::word(block, Area::Positions, i, Layout::WAITING);
     Entry {
-        cell: cell_of(kind, node, env, value),
+        cell: cell_of(kind, node, env, areas::value_of(result)),
         frames: frames,
     }
 }
@@ -58,7 +57,6 @@ fn entry_at(block: &[u8], i: usize) -> Entry
 // The tree of the block.
 pub fn take_tree(block: &[u8]) -> Tree
     requires { ⌜ (length (now block) ≡ BLOCK) × (counted (now block) Positions ≤ POSITIONS) ⌝ }
-    ensures { λ r. ⌜ Tidy r ⌝ }
     ensures { λ r. ⌜ Taken (now (block .entry)) r ⌝ }
 {
     let n = areas::count(block, Area::Positions);
@@ -92,17 +90,6 @@ fn row_of(x: Entry) -> [u16; Layout::POSITION_WIDTH]
     }
 }
 
-// The words of record i of the positions of a tree: zeros where the tree has no such position.
-fn row_at(tree: Tree, i: usize) -> [u16; Layout::POSITION_WIDTH]
-    requires { ⌜ Tidy tree × Worded tree × (i < POSITIONS) ⌝ }
-    ensures { λ r. ⌜ (length r ≡ width Positions) × ((t : machine.Tree) → Is tree t → r ≡ rowAt t i) ⌝ }
-{
-    if tree.len <= i {
-        return [0; Layout::POSITION_WIDTH];
-    }
-    row_of(tree.entries[i])
-}
-
 // Puts the words of record i of the positions.
 fn put_row(block: &mut [u8], i: usize, row: [u16; Layout::POSITION_WIDTH])
     requires { ⌜ (length (now block) ≡ BLOCK) × (i < POSITIONS) × (length row ≡ width Positions) ⌝ }
@@ -117,16 +104,69 @@ fn put_row(block: &mut [u8], i: usize, row: [u16; Layout::POSITION_WIDTH])
     }
 }
 
-// Writes the tree into the block: every record of the positions, and their count.
-pub fn put_tree(block: &mut [u8], tree: Tree)
-    requires { ⌜ (length (now block) ≡ BLOCK) × Tidy tree × Worded tree ⌝ }
-    ensures { λ r. ⌜ ((c : Config) → Represents (now (block .entry)) tree c → now (block .exit) ≡ encode c) ⌝ }
+// Puts x as position i.
+pub fn put_entry(block: &mut [u8], i: usize, x: Entry)
+    requires { ⌜ (length (now block) ≡ BLOCK) × (i < POSITIONS) × Storable (resultOf (x .cell)) ⌝ }
+    ensures { λ r. ⌜
+        ((p : Parts) (t : machine.Tree) →
+        now (block .entry) ≡ bytes (laid p) →
+        i < length (p .positions) →
+        x ≡ entryOf t →
+        now (block .exit) ≡ bytes (laid (withPositions p (set (p .positions) i t))))
+        ⌝ }
 {
+    let row = row_of(x);
+    put_row(block, i, row);
+}
+
+// The words of record i of the positions of a tree that has `len`: those of its entry x, or zeros where the tree has no such position.
+fn row_at(x: Entry, i: usize, len: usize) -> [u16; Layout::POSITION_WIDTH]
+    requires { ⌜ (i < len → Storable (resultOf (x .cell))) ⌝ }
+    ensures { λ r. ⌜
+        (length r ≡ width Positions) ×
+        ((self : threads.Tree) (ts : List machine.Tree) →
+        Tidy self →
+        map entryOf ts ≡ used self →
+        len ≡ self .len →
+        x ≡ getD (self .entries) i blank →
+        r ≡ rowAt ts i)
+        ⌝ }
+{
+    if len <= i {
+        return [0; Layout::POSITION_WIDTH];
+    }
+    row_of(x)
+}
+
+// How many records of the positions to write for a tree: those that it has, and those that the block has.
+fn rows_of(block: &[u8], len: usize) -> usize
+    requires { ⌜ (length (now block) ≡ BLOCK) × (counted (now block) Positions ≤ POSITIONS) × (len ≤ POSITIONS) ⌝ }
+    ensures { λ r. ⌜ (counted (now (block .entry)) Positions ≤ r) × (len ≤ r) × (r ≤ POSITIONS) ⌝ }
+{
+    let n = areas::count(block, Area::Positions);
+    if n < len {
+        return len;
+    }
+    n
+}
+
+// Writes the tree into the block: every record that the tree has or the block had, and their count. All records after them are zeros.
+pub fn put_tree(block: &mut [u8], tree: Tree)
+    requires { ⌜ (length (now block) ≡ BLOCK) × (counted (now block) Positions ≤ POSITIONS) × Tidy tree × Worded (used tree) ⌝ }
+    ensures { λ r. ⌜
+        ((p : Parts) (ts : List machine.Tree) →
+        now (block .entry) ≡ bytes (laid p) →
+        map entryOf ts ≡ used tree →
+        now (block .exit) ≡ bytes (laid (withPositions p ts)))
+        ⌝ }
+{
+    let len = tree.len;
+    let n = rows_of(block, len);
     let mut i = 0;
-    while i < Limits::POSITIONS {
-        let row = row_at(tree, i);
+    while i < n {
+        let row = row_at(tree.entries[i], i, len);
         put_row(block, i, row);
         i += 1;
     }
-    areas::put_count(block, Area::Positions, tree.len as u16);
+    areas::put_count(block, Area::Positions, len as u16);
 }

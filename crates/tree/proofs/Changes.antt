@@ -16,10 +16,11 @@ use Rattle.tree.specs.declared.Cell.the-variants.{Running, Join}
 use Rattle.tree.specs.declared.Entry.{Entry}
 use Rattle.tree.specs.declared.Tree.{Tree}
 use Rattle.tree.specs.Entries.{entryOf, entries, blank, used, Tidy}
-use Rattle.tree.specs.Parts.{PartAt, Ends, splice, Spliced, Replaced, Placed, Forked, Failing, Joined}
+use Rattle.tree.specs.Parts.{PartAt, Ends, splice, Spliced, Replaced, Forked, Failing, Joined}
 use Rattle.tree.proofs.Cell.{the-type}
 use Rattle.tree.proofs.Trees.{entries-thread}
 use Rattle.tree.proofs.Parts.{part-splice, part-entry}
+use Rattle.tree.proofs.Worded.{splice-worded}
 
 -- the entry of a running thread, and the entries of a new join
 abbrev pub threadOf : ℕ → ℕ → ℕ → Entry
@@ -40,38 +41,35 @@ same-thread x a e b f n h q =
     rw (node, env, q)
 
 module _ (self : Tree) (i : ℕ) (r : Tree) where
-  pub replaced-all : (x : Entry) (end : ℕ) → Ends self i end → Spliced self i (end - i) (x ∷ []) r → Replaced self i x r
-  replaced-all x end e s = record { tidy = s .tidy; now = λ {before} {after} {u} p. s .now ∙ ap (λ (n : ℕ). splice (used self) i n (x ∷ [])) (long p) ∙ part-splice p (x ∷ []) }
+  pub replaced-all : (x : Entry) (end : ℕ) → Ends (used self) i end → Spliced self i (end - i) (x ∷ []) r → Replaced self i x r
+  replaced-all x end e s = record { tidy = s .tidy; words = λ v w. rw (s .now) (splice-worded (used self) i (end - i) (x ∷ []) (v, _) w); now = λ {before} {after} {u} p. s .now ∙ ap (λ (n : ℕ). splice (used self) i n (x ∷ [])) (long p) ∙ part-splice p (x ∷ []) }
     where
-      long : {before after : List Entry} {u : machine.Tree} → PartAt self i before u after → end - i ≡ size u
+      long : {before after : List Entry} {u : machine.Tree} → PartAt (used self) i before u after → end - i ≡ size u
       long p = omega (arith, e .part p)
 
   -- a part that becomes a thread
-  thread-there : {before after : List Entry} {u : machine.Tree} (v : machine.Tree) → size v ≡ 1 → PartAt self i before u after → used r ≡ before ++ (entryOf v ∷ after)
-      → PartAt r i before v after
+  thread-there : {before after : List Entry} {u : machine.Tree} (v : machine.Tree) → size v ≡ 1 → PartAt (used self) i before u after → used r ≡ before ++ (entryOf v ∷ after)
+      → PartAt (used r) i before v after
   thread-there {before} {after} v one p e = record { is = e ∙ ap (λ (l : List Entry). before ++ (l ++ after)) (sym (entries-thread v one)); place = p .place }
 
-  replaced-by : {before after : List Entry} {u : machine.Tree} (v : machine.Tree) → size v ≡ 1 → Replaced self i (entryOf v) r → PartAt self i before u after → PartAt r i before v after
+  replaced-by : {before after : List Entry} {u : machine.Tree} (v : machine.Tree) → size v ≡ 1 → Replaced self i (entryOf v) r → PartAt (used self) i before u after → PartAt (used r) i before v after
   replaced-by v one s p = thread-there v one p (s .now p)
 
-  pub placed-by : {before after : List Entry} {u : machine.Tree} (v : machine.Tree) → size v ≡ 1 → Placed self i (entryOf v) r → size u ≡ 1 → PartAt self i before u after
-      → PartAt r i before v after
-  placed-by v one s was p = thread-there v one p (s .now was p)
-
   pub failing : Replaced self i (entryOf failed) r → Failing self i r
-  failing s = record { tidy = s .tidy; now = λ p. replaced-by failed refl s p }
+  failing s = record { tidy = s .tidy; words = s .words (omega arith); now = λ p. replaced-by failed refl s p }
 
   pub joins : (x : Entry) (a e : ℕ) → Tidy self → x ≡ getD (self .entries) i blank → x .cell ≡ Join a e → Replaced self i (threadOf a e (x .frames)) r → Joined self i r
   joins x a e tidy h k s =
       record {
         tidy = s .tidy;
+        words = s .words (omega arith);
         now = λ {before} {after} {fs} {a = b} {e = f} p. replaced-by (running b f fs) refl (rw (same-thread x a e b f (length fs) k (h ∙ part-entry p tidy)) at s) p;
       }
 
   pub forks : (x : Entry) (a b c e : ℕ) → Tidy self → x ≡ getD (self .entries) i blank → Spliced self i 1 (forkOf (x .frames) a b c e) r → Forked self i a b c e r
-  forks x a b c e tidy h s = record { tidy = s .tidy; now = λ one p. record { is = now one p; place = p .place } }
+  forks x a b c e tidy h s = record { tidy = s .tidy; words = λ w. rw (s .now) (splice-worded (used self) i 1 (forkOf (x .frames) a b c e) (omega arith, (omega arith, (omega arith, _))) w); now = λ one p. record { is = now one p; place = p .place } }
     where
-      now : {before after : List Entry} {u : machine.Tree} → size u ≡ 1 → PartAt self i before u after
+      now : {before after : List Entry} {u : machine.Tree} → size u ≡ 1 → PartAt (used self) i before u after
           → used r ≡ before ++ (entries (join (waiting u) c e (running a e []) (running b e [])) ++ after)
       now {before} {after} {u} one p =
           s .now
@@ -85,4 +83,4 @@ none-of : (n : ℕ) → OneOf (0 ∷ 1 ∷ 2 ∷ []) n → n ≡ 3 → ⊥
 none-of n h e = ⊎-elim (λ z. omega arith) (λ k. ⊎-elim (λ z. omega arith) (λ z. omega arith) k) h
 
 pub joins-none : (self : Tree) (i : ℕ) → Tidy self → OneOf (0 ∷ 1 ∷ 2 ∷ []) (tagOf the-type (getD (self .entries) i blank .cell)) → Joined self i self
-joins-none self i tidy h = record { tidy = tidy; now = λ p. absurd (none-of _ h (ap (λ (x : Entry). tagOf the-type (x .cell)) (part-entry p tidy))) }
+joins-none self i tidy h = record { tidy = tidy; words = λ w. w; now = λ p. absurd (none-of _ h (ap (λ (x : Entry). tagOf the-type (x .cell)) (part-entry p tidy))) }

@@ -6,3 +6,4 @@ pub mod Walks
 pub mod Changes
 pub mod Folds
 pub mod EntryWords
+pub mod Worded

@@ -18,76 +18,76 @@ use Rattle.tree.proofs.Trees.{size-some, entries-join, entries-first, e
 pub used-length : (self : Tree) → Tidy self → length (used self) ≡ self .len
 used-length self h = length-take-le (self .len) (self .entries) (omega arith)
 
-module _ {self : Tree} {i : ℕ} {before after : List Entry} {u : machine.Tree} (p : PartAt self i before u after) where
-  pub part-before : take i (used self) ≡ before
+module _ {es : List Entry} {i : ℕ} {before after : List Entry} {u : machine.Tree} (p : PartAt es i before u after) where
+  pub part-before : take i es ≡ before
   part-before = ap (λ (l : List Entry). take i l) (p .is) ∙ take-at before (entries u ++ after) i (p .place)
 
-  pub part-drop : drop i (used self) ≡ entries u ++ after
+  pub part-drop : drop i es ≡ entries u ++ after
   part-drop = ap (λ (l : List Entry). drop i l) (p .is) ∙ drop-at before (entries u ++ after) i (p .place)
 
   -- the entries up to the part's end, and those after it
-  up-to : used self ≡ (before ++ entries u) ++ after
+  up-to : es ≡ (before ++ entries u) ++ after
   up-to = p .is ∙ sym (append-assoc before (entries u) after)
 
   up-to-length : length (before ++ entries u) ≡ i + size u
   up-to-length = length-append before (entries u) ∙ omega (arith, p .place, entries-length u)
 
-  pub part-after : drop (i + size u) (used self) ≡ after
+  pub part-after : drop (i + size u) es ≡ after
   part-after = ap (λ (l : List Entry). drop (i + size u) l) up-to ∙ drop-at (before ++ entries u) after (i + size u) up-to-length
 
-  pub part-inside : Tidy self → i + size u ≤ self .len
-  part-inside h =
-      omega (arith, used-length self h, ap length up-to, length-append (before ++ entries u) after, up-to-length)
+  pub part-inside : i + size u ≤ length es
+  part-inside = omega (arith, ap length up-to, length-append (before ++ entries u) after, up-to-length)
 
   -- the entry at the position is that of the part's root
-  pub part-root : getD (used self) i blank ≡ entryOf u
+  pub part-root : getD es i blank ≡ entryOf u
   part-root =
       ap (λ (l : List Entry). getD l i blank) (p .is ∙ ap (λ (l : List Entry). before ++ (l ++ after)) (entries-first u))
       ∙ getD-at before (entryOf u) (tail (entries u) ++ after) blank i (p .place)
 
-  pub part-entry : Tidy self → getD (self .entries) i blank ≡ entryOf u
-  part-entry h = sym (getD-take (self .len) (self .entries) i blank (omega (arith, part-inside h, size-some u))) ∙ part-root
-
   -- a walk over one tree from the position on ends with the part
-  pub part-span : span (drop i (used self)) 1 ≡ size u
+  pub part-span : span (drop i es) 1 ≡ size u
   part-span = ap (λ (l : List Entry). span l 1) part-drop ∙ span-entries u 0 after ∙ omega (arith, span-zero after)
 
   -- the part exchanged
-  pub part-splice : (new : List Entry) → splice (used self) i (size u) new ≡ before ++ (new ++ after)
+  pub part-splice : (new : List Entry) → splice es i (size u) new ≡ before ++ (new ++ after)
   part-splice new = rw (part-before, part-after)
 
   -- the part alone
-  pub part-slice : slice i (i + size u) (used self) ≡ entries u
+  pub part-slice : slice i (i + size u) es ≡ entries u
   part-slice =
       ap (λ (l : List Entry). slice i (i + size u) l) up-to
       ∙ ap (λ (l : List Entry). drop i l) (take-at (before ++ entries u) after (i + size u) up-to-length)
       ∙ drop-at before (entries u) i (p .place)
 
   -- the entry of a thread exchanged
-  pub part-set : size u ≡ 1 → (x : Entry) → set (used self) i x ≡ before ++ (x ∷ after)
+  pub part-set : size u ≡ 1 → (x : Entry) → set es i x ≡ before ++ (x ∷ after)
   part-set one x =
       ap (λ (l : List Entry). set l i x) (p .is ∙ ap (λ (l : List Entry). before ++ (l ++ after)) (entries-thread u one))
       ∙ set-at before (entryOf u) after x i (p .place)
 
-module _ {self : Tree} {i : ℕ} {before after : List Entry} {fs : List Frame} {a e : ℕ} {l r : machine.Tree} (p : PartAt self i before (join fs a e l r) after) where
+-- a part of a tree: the entry at its position is that of the part's root
+pub part-entry : {self : Tree} {i : ℕ} {before after : List Entry} {u : machine.Tree} → PartAt (used self) i before u after → Tidy self → getD (self .entries) i blank ≡ entryOf u
+part-entry {self} {i} {u = u} p h = sym (getD-take (self .len) (self .entries) i blank (omega (arith, part-inside p, used-length self h, size-some u))) ∙ part-root p
+
+module _ {es : List Entry} {i : ℕ} {before after : List Entry} {fs : List Frame} {a e : ℕ} {l r : machine.Tree} (p : PartAt es i before (join fs a e l r) after) where
   abbrev root : Entry
   root = entryOf (join fs a e l r)
 
-  join-is : used self ≡ before ++ (root ∷ (entries l ++ (entries r ++ after)))
+  join-is : es ≡ before ++ (root ∷ (entries l ++ (entries r ++ after)))
   join-is =
       p .is
       ∙ ap (λ (x : List Entry). before ++ (x ++ after)) (entries-join fs a e l r)
       ∙ ap (λ (x : List Entry). before ++ (root ∷ x)) (append-assoc (entries l) (entries r) after)
 
   -- the sides of a join stand after it, the left one first
-  pub part-left : PartAt self (i + 1) (before ++ (root ∷ [])) l (entries r ++ after)
+  pub part-left : PartAt es (i + 1) (before ++ (root ∷ [])) l (entries r ++ after)
   part-left =
       record {
         is = join-is ∙ sym (append-assoc before (root ∷ []) (entries l ++ (entries r ++ after)));
         place = length-append before (root ∷ []) ∙ omega (arith, p .place);
       }
 
-  pub part-right : PartAt self (i + 1 + size l) (before ++ (root ∷ entries l)) r after
+  pub part-right : PartAt es (i + 1 + size l) (before ++ (root ∷ entries l)) r after
   part-right =
       record {
         is = join-is ∙ sym (append-assoc before (root ∷ entries l) (entries r ++ after));

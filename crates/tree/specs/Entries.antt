@@ -1,12 +1,15 @@
 -- The thread tree as the code has it: one entry for each position. "a tree position, preorder, root 0, left before right"
-use Prim.Native.Nat.{ℕ, _-_, _+_, _*_, _≤_}
+use Prim.Native.Nat.{ℕ, _-_, _+_, _≤_}
 use mathlib.Core.Path.{_≡_}
 use mathlib.Core.List.{List, [], _∷_, map}
 use lib.ListN.{length, take, drop, replicate}
 use Rattle.limits.specs.Limits.{POSITIONS}
+use Rattle.script.specs.Lists.{Every}
+use Rattle.machine.specs.declared.Value.{Value}
+use Rattle.machine.specs.declared.Value.the-variants.{Null as nil}
 use Rattle.machine.specs.Config as machine
 use Rattle.machine.specs.Config.{running, returning, failed, join}
-use Rattle.machine.specs.Machine.{threadCount}
+use Rattle.block.specs.Values.{Storable}
 use Rattle.block.specs.Block.{preorder, waiting}
 use Rattle.tree.specs.declared.Cell.{Cell}
 use Rattle.tree.specs.declared.Cell.the-variants.{Failed, Running, Returning, Join}
@@ -54,12 +57,12 @@ pub record Tidy (self : Tree) : Type 0 where
   pub whole : length (self .entries) ≡ POSITIONS
   pub rest : drop (self .len) (self .entries) ≡ replicate (POSITIONS - self .len) blank
 
--- The value `self` stands for the tree t.
-pub record Is (self : Tree) (t : machine.Tree) : Type 0 where
-  pub tidy : Tidy self
-  pub same : used self ≡ entries t
+-- "All words are unsigned 16-bit": those of the values too. The value of a position is null where it has none.
+abbrev pub resultOf : Cell → Value
+resultOf Failed = nil
+resultOf (Running a e) = nil
+resultOf (Returning v) = v
+resultOf (Join a e) = nil
 
--- r is how many threads the tree has that `self` stands for; whatever it stands for, r threads have places for all its positions.
-pub record ThreadsOf (self : Tree) (r : ℕ) : Type 0 where
-  pub exact : (t : machine.Tree) → Is self t → r ≡ threadCount t
-  pub room : self .len + 1 ≤ 2 * r
+abbrev pub Worded : List Entry → Type 0
+Worded es = Every (λ (x : Entry). Storable (resultOf (x .cell))) es

@@ -12,7 +12,6 @@ use Rattle.tree.specs.declared.Phase.the-variants.{Finished, Broken, Bus
 use Rattle.tree.specs.declared.Fold.{Fold}
 use Rattle.tree.specs.declared.Fold.the-variants.{Still, GoesOn, Fails}
 use Rattle.tree.specs.declared.Entry.{Entry}
-use Rattle.tree.specs.declared.Tree.{Tree}
 use Rattle.tree.specs.Entries.{entryOf}
 use Rattle.tree.specs.Parts.{PartAt}
 
@@ -38,7 +37,7 @@ abbrev pub FoldIs : Phase → Phase → Fold → Type 0
 FoldIs x y r = (st : Stores) (fs : List Frame) (a e : ℕ) → fold st fs a e (phaseIn x) (phaseIn y) ≡ outcomeOf r st fs a e
 
 -- The part at i as a join: the answer is what the machine's `fold` says. A thread has no such move.
-pub record FoldAt (self : Tree) (i : ℕ) (r : Fold) : Type 0 where
-  pub joins : {before after : List Entry} {fs : List Frame} {a e : ℕ} {left right : machine.Tree} → PartAt self i before (join fs a e left right) after
+pub record FoldAt (es : List Entry) (i : ℕ) (r : Fold) : Type 0 where
+  pub joins : {before after : List Entry} {fs : List Frame} {a e : ℕ} {left right : machine.Tree} → PartAt es i before (join fs a e left right) after
       → (st : Stores) → fold st fs a e (phase left) (phase right) ≡ outcomeOf r st fs a e
-  pub threads : {before after : List Entry} {u : machine.Tree} → size u ≡ 1 → PartAt self i before u after → r ≡ Still
+  pub threads : {before after : List Entry} {u : machine.Tree} → size u ≡ 1 → PartAt es i before u after → r ≡ Still

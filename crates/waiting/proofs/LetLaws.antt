@@ -19,24 +19,23 @@ use Rattle.machine.specs.Config.{Binding, Stores, running}
 use Rattle.machine.specs.Machine.{context, Outcome, still, full, moved, extend}
 use Rattle.block.specs.declared.Area.the-variants.{Bindings}
 use Rattle.block.specs.Layout.{counted}
-use Rattle.block.specs.Block.{framesOf, Parts, laid}
+use Rattle.block.specs.Block.{Parts, laid}
 use Rattle.representation.specs.Changed.{withBindings}
-use Rattle.tree.specs.declared.Tree.{Tree}
 use Rattle.environments.specs.Chains.{bindingsIn}
 use Rattle.state.specs.Represents.{Rest, StateAt}
-use Rattle.state.proofs.Seeing.{lying, bindings-counted}
-use Rattle.state.proofs.Moves.{seen-bindings}
+use Rattle.state.proofs.Seeing.{bindings-counted}
+use Rattle.state.proofs.Moves.{lies, seen-bindings}
 use Rattle.moves.proofs.Laws.{scope-read, no-room, some-room}
 
 -- what add_binding ensures, of the bytes b before and c after: the binding is in the stores
 abbrev pub Adds : List ℕ → List ℕ → Binding → Type 0
 Adds b c y = (p : Parts) → b ≡ bytes (laid p) → c ≡ bytes (laid (withBindings p (p .bindings ++ y ∷ [])))
 
-pub bound-more : {b c : List ℕ} {self : Tree} {i : ℕ} {x : Rest} {st : Stores} {u : machine.Tree} (y : Binding) (n : ℕ) → n ≡ counted b Bindings → n < BINDINGS → Adds b c y
-    → StateAt b self i x st u → StateAt c self i x (record { objects = st .objects; bindings = y ∷ st .bindings }) u
-bound-more {x = x} {st} {u} y n h l add s = seen-bindings s y (omega arith) (add (lying x st (framesOf u)) (s .block))
+pub bound-more : {b c : List ℕ} {i : ℕ} {x : Rest} {st : Stores} {u : machine.Tree} (y : Binding) (n : ℕ) → n ≡ counted b Bindings → n < BINDINGS → Adds b c y
+    → StateAt b i x st u → StateAt c i x (record { objects = st .objects; bindings = y ∷ st .bindings }) u
+bound-more y n h l add s = seen-bindings s y (omega arith) (add (lies s) (s .block))
 
-module _ {b : List ℕ} {self : Tree} {i : ℕ} {x : Rest} {st : Stores} {u : machine.Tree} (seen : StateAt b self i x st u) (s : List ℕ) (fs : List Frame) (v : Value) (name a d env : ℕ)
+module _ {b : List ℕ} {i : ℕ} {x : Rest} {st : Stores} {u : machine.Tree} (seen : StateAt b i x st u) (s : List ℕ) (fs : List Frame) (v : Value) (name a d env : ℕ)
     (first : Answer) (told : first ≡ inferred (programOf s) (context (bindingsIn b) env) (exprAt s a)) where
   -- the answer is that under the bindings of the stores
   read : inferred (programOf s) (context (st .bindings) env) (exprAt s a) ≡ first

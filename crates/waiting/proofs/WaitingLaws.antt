@@ -27,20 +27,24 @@ use Rattle.typing.specs.Members.{fieldsOf, definedIn}
 use Rattle.machine.specs.Machine.{object, setShut, setFields, setField, Outcome, still, full, moved, withShut, callBindings, callMethod, callObject}
 use Rattle.block.specs.declared.Area.the-variants.{Objects, Bindings}
 use Rattle.block.specs.Layout.{counted, wordIn}
-use Rattle.block.specs.Block.{framesOf, Parts, laid}
+use Rattle.block.specs.Block.{Parts, laid}
 use Rattle.representation.specs.Changed.{withObjects, withBindings, withField}
 use Rattle.members.specs.Defined.{fieldNumber, MethodIs}
 use Rattle.members.proofs.FieldLaws.{number-below}
 use Rattle.moves.proofs.FieldValues.{set-at, set-none}
 use Rattle.members.proofs.MethodLaws.{defined-none, defined-at, param-word, body-word}
-use Rattle.tree.specs.declared.Tree.{Tree}
 use Rattle.environments.proofs.LaidLaws as laid-laws
 use Rattle.environments.proofs.LaidLaws.{object-there, field-set}
 use Rattle.state.specs.Represents.{Rest, StateAt}
-use Rattle.state.proofs.Seeing.{lying, seen-few, objects-counted, bindings-counted}
-use Rattle.state.proofs.Moves.{seen-objects, seen-bindings}
+use Rattle.state.specs.Positions.{entryAt}
+use Rattle.state.proofs.Seeing.{seen-few, objects-counted, bindings-counted, seen-waiting}
+use Rattle.state.proofs.Moves.{lies, seen-objects, seen-bindings}
 use Rattle.moves.proofs.TargetLaws.{blank-object, object-is, object-word}
 use Rattle.waiting.proofs.LetLaws.{Adds}
+
+-- as many frames wait there as before
+pub still-waiting : {b c : List ℕ} {i : ℕ} {x : Rest} {st su : Stores} {u : machine.Tree} → StateAt b i x st u → StateAt c i x su u → 0 < entryAt b i .frames → 0 < entryAt c i .frames
+still-waiting s t h = omega (arith, seen-waiting s, seen-waiting t)
 
 -- what put_field ensures, of the bytes b before and c after
 abbrev pub Stored : List ℕ → List ℕ → ℕ → ℕ → Value → Type 0
@@ -64,31 +68,31 @@ fields-same [] o y e = refl
 fields-same (x ∷ xs) zero y e = let z : x ≡ y = cc in rw (← z)
 fields-same (x ∷ xs) (suc o) y e = ap (λ (ys : List Object). x ∷ ys) (fields-same xs o y e)
 
-module _ {b : List ℕ} {self : Tree} {i : ℕ} {x : Rest} {st : Stores} {u : machine.Tree} (s : StateAt b self i x st u) where
+module _ {b : List ℕ} {i : ℕ} {x : Rest} {st : Stores} {u : machine.Tree} (s : StateAt b i x st u) where
   -- one object changed
-  changed : {c : List ℕ} (o : ℕ) (y : Object) → c ≡ bytes (laid (withObjects (lying x st (framesOf u)) (set (st .objects) o y)))
-      → StateAt c self i x (record { objects = set (st .objects) o y; bindings = st .bindings }) u
+  changed : {c : List ℕ} (o : ℕ) (y : Object) → c ≡ bytes (laid (withObjects (lies s) (set (st .objects) o y)))
+      → StateAt c i x (record { objects = set (st .objects) o y; bindings = st .bindings }) u
   changed o y e = seen-objects s (set (st .objects) o y) (omega (arith, length-set (st .objects) o y, objects-counted s, seen-few s Objects)) e
 
   -- the object of a lock opened, if there is one
-  pub opens-none : (o n : ℕ) → n ≡ counted b Objects → n ≤ o → StateAt b self i x (withShut false st o) u
+  pub opens-none : (o n : ℕ) → n ≡ counted b Objects → n ≤ o → StateAt b i x (withShut false st o) u
   opens-none o n e l = rw (shut-absent false (st .objects) o (omega (arith, objects-counted s))) s
 
   -- the class of an object
   pub class-read : (o class : ℕ) (y : Object) → object (st .objects) o ≡ some y → class ≡ wordIn b Objects o 0 → class ≡ y .class
-  class-read o class y h e = object-word (lying x st (framesOf u)) y o 0 class (s .block) (s .few) h (omega arith) e
+  class-read o class y h e = object-word (lies s) y o 0 class (s .block) (s .few) h (omega arith) e
 
   -- a field that the object's class does not have, and one that it has
   module _ (p : Program) (o class f : ℕ) (v : Value) (y : Object) (h : object (st .objects) o ≡ some y) (e : class ≡ wordIn b Objects o 0) (found : Found)
       (q : found ≡ foundOf (fieldNumber (fieldsOf p class) f)) where
     pub writes-none : found ≡ Nothing
-        → StateAt b self i x (record { objects = setFields (setField v (fieldsOf p (y .class)) (y .fields) f) (st .objects) o; bindings = st .bindings }) u
+        → StateAt b i x (record { objects = setFields (setField v (fieldsOf p (y .class)) (y .fields) f) (st .objects) o; bindings = st .bindings }) u
     writes-none k =
         let n : fieldNumber (fieldsOf p (y .class)) f ≡ none = found-nothing (fieldNumber (fieldsOf p (y .class)) f) found (rw (class-read o class y h e) at q) k in
         rw (set-none (fieldsOf p (y .class)) (y .fields) f v n, fields-same (st .objects) o y h) s
 
     pub writes : {c : List ℕ} (k : ℕ) → length (y .fields) ≡ length (fieldsOf p (y .class)) → found ≡ At k → Stored b c o k v
-        → StateAt c self i x (record { objects = setFields (setField v (fieldsOf p (y .class)) (y .fields) f) (st .objects) o; bindings = st .bindings }) u
+        → StateAt c i x (record { objects = setFields (setField v (fieldsOf p (y .class)) (y .fields) f) (st .objects) o; bindings = st .bindings }) u
     writes {c} k own a stored =
         let ds = fieldsOf p (y .class) in
         let n : fieldNumber ds f ≡ some k = found-at (fieldNumber ds f) found (rw (class-read o class y h e) at q) k a in
@@ -97,20 +101,20 @@ module _ {b : List ℕ} {self : Tree} {i : ℕ} {x : Rest} {st : Stores} {u : ma
         let now : setFields (setField v ds (y .fields) f) (st .objects) o ≡ set (st .objects) o (withField (getD (st .objects) o blank-object) k v) =
         rw (set-at ds (y .fields) f v k n, ← r .1) (field-set (st .objects) o k v blank-object)
         in
-        rw now (changed o (withField (getD (st .objects) o blank-object) k v) (stored (lying x st (framesOf u)) blank-object (s .block) (r .0) there))
+        rw now (changed o (withField (getD (st .objects) o blank-object) k v) (stored (lies s) blank-object (s .block) (r .0) there))
 
   -- the two bindings of a call
   pub adds-call : {b₁ c : List ℕ} (n class o param : ℕ) (v : Value) → n ≡ counted b Bindings → n + 2 ≤ BINDINGS
       → Adds b b₁ (record { name = 0; type = class; value = ref o; link = 0 }) → Adds b₁ c (record { name = 1; type = param; value = v; link = n + 1 })
-      → StateAt c self i x (record { objects = st .objects; bindings = callBindings class o param v (st .bindings) }) u
+      → StateAt c i x (record { objects = st .objects; bindings = callBindings class o param v (st .bindings) }) u
   adds-call n class o param v e l adds adds₁ =
       let this : Binding = record { name = 0; type = class; value = ref o; link = 0 } in
-      let p = lying x st (framesOf u) in
+      let p = lies s in
       let first = seen-bindings s this (omega arith) (adds p (s .block)) in
       let k : n + 1 ≡ suc (length (st .bindings)) = omega (arith, bindings-counted s) in
       let room = one-more p this (s .block) adds in
       let second = seen-bindings first (record { name = 1; type = param; value = v; link = n + 1 }) (omega arith)
-      (adds₁ (lying x (record { objects = st .objects; bindings = this ∷ st .bindings }) (framesOf u)) (first .block)) in
+      (adds₁ (lies first) (first .block)) in
       rw k at second
 
 -- a call with too few places left
@@ -120,7 +124,7 @@ call-full st fs v o class d (suc zero) l = refl
 call-full st fs v o class d (suc (suc k)) l = absurd (omega arith)
 
 -- the method of the object's class, entered
-module _ {b : List ℕ} {self : Tree} {i : ℕ} {x : Rest} {st : Stores} {u : machine.Tree} (seen : StateAt b self i x st u) (s : List ℕ) (fs : List Frame) (m : ℕ) (v : Value) (o class : ℕ)
+module _ {b : List ℕ} {i : ℕ} {x : Rest} {st : Stores} {u : machine.Tree} (seen : StateAt b i x st u) (s : List ℕ) (fs : List Frame) (m : ℕ) (v : Value) (o class : ℕ)
     (l : o < counted b Objects) (e : class ≡ wordIn b Objects o 0) (found : Found) (is : MethodIs s class m found) where
   abbrev due : Outcome
   due = callObject (codeOf s) st fs m v (BINDINGS - counted b Bindings) o (object (st .objects) o)

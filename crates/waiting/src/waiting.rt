@@ -6,22 +6,18 @@ use environments::Lookup;
 use limits::Limits;
 use machine::Store;
 use machine::Value;
-use moves::Step;
+use moves::Effect;
 use moves::fails;
-use moves::full;
-use moves::moved;
-use moves::stays;
 use moves::target_of;
 use script::Found;
 use script::Section;
 use tree::Cell;
-use tree::Tree;
 ghost use mathlib.Core.Path.{_≡_};
 ghost use mathlib.Core.Bool.{false};
 ghost use mathlib.Core.List.{List, _∷_};
 ghost use mathlib.Core.Option.{some};
 ghost use Prim.Native.Nat.{ℕ, _+_, _-_, _<_, _≤_};
-ghost use lib.ListN.{length, getD};
+ghost use lib.ListN.{length};
 ghost use Rattle.words.specs.Word.{bytes};
 ghost use Rattle.limits.specs.Limits.{BLOCK, OBJECTS, BINDINGS};
 ghost use Rattle.script.specs.Reading.{programOf};
@@ -37,10 +33,9 @@ ghost use Rattle.block.specs.declared.Area.the-variants.{Objects, Bindings};
 ghost use Rattle.block.specs.Layout.{counted};
 ghost use Rattle.block.specs.Values.{Storable};
 ghost use Rattle.block.specs.Block.{Parts, laid};
-ghost use Rattle.tree.specs.declared.Tree as threads;
-ghost use Rattle.tree.specs.Entries.{blank};
 ghost use Rattle.environments.specs.Chains.{Chain};
 ghost use Rattle.state.specs.Represents.{Rest, StateAt, SomeState};
+ghost use Rattle.state.specs.Positions.{entryAt};
 ghost use Rattle.moves.specs.Performs.{Performs, OwnFields};
 
 // A call of the method of an object that is there, with its argument.
@@ -51,24 +46,25 @@ struct Call {
 }
 
 // "a waiting cast vanishes"
-pub fn drop_cast(block: &mut [u8], tree: Tree, i: usize, v: Value) -> Step
-    requires { ⌜ SomeState (now block) tree i × (0 < getD (tree .entries) i blank .frames) ⌝ }
+pub fn drop_cast(block: &mut [u8], i: usize, v: Value) -> Effect
+    requires { ⌜ SomeState (now block) i × (0 < entryAt (now block) i .frames) × Storable v ⌝ }
     ensures { λ r. ⌜
         ((rest : Rest) (st : Stores) (n : ℕ) (fs : List Frame) →
-        StateAt (now (block .entry)) tree i rest st (returning v (casts n ∷ fs)) →
-        Performs (now (block .entry)) tree i rest (moved st (returning v fs)) (now (block .exit)) r)
+        StateAt (now (block .entry)) i rest st (returning v (casts n ∷ fs)) →
+        Performs (now (block .entry)) i rest (moved st (returning v fs)) (now (block .exit)) r)
         ⌝ }
 {
-    moved(state::pop(block, tree, i, Cell::Returning(v)))
+    state::pop(block, i, Cell::Returning(v));
+    Effect::Moved
 }
 
 // The object o opened, if there is one.
 fn open_object(block: &mut [u8], o: u16)
     requires { ⌜ (length (now block) ≡ BLOCK) × (counted (now block) Objects ≤ OBJECTS) ⌝ }
     ensures { λ r. ⌜
-        ((tree : threads.Tree) (i : ℕ) (rest : Rest) (st : Stores) (u : machine.Tree) →
-        StateAt (now (block .entry)) tree i rest st u →
-        StateAt (now (block .exit)) tree i rest (withShut false st o) u)
+        ((i : ℕ) (rest : Rest) (st : Stores) (u : machine.Tree) →
+        StateAt (now (block .entry)) i rest st u →
+        StateAt (now (block .exit)) i rest (withShut false st o) u)
         ⌝ }
 {
     let n = o as usize;
@@ -79,27 +75,28 @@ fn open_object(block: &mut [u8], o: u16)
 }
 
 // "A value at a lock frame opens the object."
-pub fn open_lock(block: &mut [u8], tree: Tree, i: usize, v: Value, o: u16) -> Step
-    requires { ⌜ SomeState (now block) tree i × (0 < getD (tree .entries) i blank .frames) ⌝ }
+pub fn open_lock(block: &mut [u8], i: usize, v: Value, o: u16) -> Effect
+    requires { ⌜ SomeState (now block) i × (0 < entryAt (now block) i .frames) × Storable v ⌝ }
     ensures { λ r. ⌜
         ((rest : Rest) (st : Stores) (fs : List Frame) →
-        StateAt (now (block .entry)) tree i rest st (returning v (locks o ∷ fs)) →
-        Performs (now (block .entry)) tree i rest (moved (withShut false st o) (returning v fs)) (now (block .exit)) r)
+        StateAt (now (block .entry)) i rest st (returning v (locks o ∷ fs)) →
+        Performs (now (block .entry)) i rest (moved (withShut false st o) (returning v fs)) (now (block .exit)) r)
         ⌝ }
 {
     open_object(block, o);
-    moved(state::pop(block, tree, i, Cell::Returning(v)))
+    state::pop(block, i, Cell::Returning(v));
+    Effect::Moved
 }
 
 // v stored in the field f of the object o, if its class has one.
 fn write_field(s: &[u8], starts: &[u16], block: &mut [u8], o: usize, f: u16, v: Value)
     requires { ⌜ WithinLayout (now s) × Starts (now s) (now starts) × (length (now block) ≡ BLOCK) × (o < OBJECTS) × Storable v ⌝ }
     ensures { λ r. ⌜
-        ((tree : threads.Tree) (i : ℕ) (rest : Rest) (st : Stores) (u : machine.Tree) (y : Object) →
-        StateAt (now (block .entry)) tree i rest st u →
+        ((i : ℕ) (rest : Rest) (st : Stores) (u : machine.Tree) (y : Object) →
+        StateAt (now (block .entry)) i rest st u →
         OwnFields (codeOf (now (s .entry))) (st .objects) →
         object (st .objects) o ≡ some y →
-        StateAt (now (block .exit)) tree i rest
+        StateAt (now (block .exit)) i rest
         (record {
           objects = setFields (setField v (fieldsOf (programOf (now (s .entry))) (y .class)) (y .fields) f) (st .objects) o;
           bindings = st .bindings;
@@ -115,38 +112,31 @@ fn write_field(s: &[u8], starts: &[u16], block: &mut [u8], o: usize, f: u16, v: 
 }
 
 // "a waiting write stores and gives null"; "Targets are tested after the argument; null fails the thread."
-pub fn store_value(
-    s: &[u8],
-    starts: &[u16],
-    block: &mut [u8],
-    tree: Tree,
-    i: usize,
-    w: WaitingMember,
-) -> Step
+pub fn store_value(s: &[u8], starts: &[u16], block: &mut [u8], i: usize, w: WaitingMember) -> Effect
     requires { ⌜
-        WithinLayout (now s) × Starts (now s) (now starts) × SomeState (now block) tree i × (0 < getD (tree .entries) i blank .frames) ×
+        WithinLayout (now s) × Starts (now s) (now starts) × SomeState (now block) i × (0 < entryAt (now block) i .frames) ×
         Chain (now block) (w .env) × Storable (w .value)
         ⌝ }
     ensures { λ r. ⌜
         ((rest : Rest) (st : Stores) (g : Frame) (fs : List Frame) →
-        StateAt (now (block .entry)) tree i rest st (returning (w .value) (g ∷ fs)) →
+        StateAt (now (block .entry)) i rest st (returning (w .value) (g ∷ fs)) →
         OwnFields (codeOf (now (s .entry))) (st .objects) →
-        Performs (now (block .entry)) tree i rest
+        Performs (now (block .entry)) i rest
         (updateTarget (codeOf (now (s .entry))) st fs (w .member) (w .value) (find (scope (st .bindings) (w .env)) (w .target)))
         (now (block .exit)) r)
         ⌝ }
 {
     let found = target_of(block, w.env, w.target);
     let Lookup::Bound(value) = found else {
-        return stays(tree);
+        return Effect::Still;
     };
     let Value::Ref(o) = value else {
-        return fails(block, tree, i);
+        return fails(block, i);
     };
-    let after = state::pop(block, tree, i, Cell::Returning(Value::Null));
+    state::pop(block, i, Cell::Returning(Value::Null));
     let v = w.value;
     write_field(s, starts, block, o as usize, w.member, v);
-    moved(after)
+    Effect::Moved
 }
 
 // The two bindings of a call, after n others: `this` with the object's class, and the parameter with its declared type.
@@ -155,9 +145,9 @@ fn add_call(block: &mut [u8], n: usize, class: u16, o: u16, param: u16, v: Value
         (n ≡ counted (now block) Bindings) × (n + 2 ≤ BINDINGS) × (o < OBJECTS) × Storable v × ((p : Parts) × (now block ≡ bytes (laid p)))
         ⌝ }
     ensures { λ r. ⌜
-        ((tree : threads.Tree) (i : ℕ) (rest : Rest) (st : Stores) (u : machine.Tree) →
-        StateAt (now (block .entry)) tree i rest st u →
-        StateAt (now (block .exit)) tree i rest (record { objects = st .objects; bindings = callBindings class o param v (st .bindings) }) u)
+        ((i : ℕ) (rest : Rest) (st : Stores) (u : machine.Tree) →
+        StateAt (now (block .entry)) i rest st u →
+        StateAt (now (block .exit)) i rest (record { objects = st .objects; bindings = callBindings class o param v (st .bindings) }) u)
         ⌝ }
 {
     areas::add_binding(block, 0, class, Value::Ref(o), 0);
@@ -165,13 +155,13 @@ fn add_call(block: &mut [u8], n: usize, class: u16, o: u16, param: u16, v: Value
 }
 
 // "a waiting call adds two .. and enters the body with no others", where the object o is there.
-fn call_object(s: &[u8], starts: &[u16], block: &mut [u8], tree: Tree, i: usize, call: Call) -> Step
+fn call_object(s: &[u8], starts: &[u16], block: &mut [u8], i: usize, call: Call) -> Effect
     requires { ⌜ WithinLayout (now s) × Starts (now s) (now starts) ×
-        SomeState (now block) tree i × (0 < getD (tree .entries) i blank .frames) × (call .object < counted (now block) Objects) × Storable (call .value) ⌝ }
+        SomeState (now block) i × (0 < entryAt (now block) i .frames) × (call .object < counted (now block) Objects) × Storable (call .value) ⌝ }
     ensures { λ r. ⌜
         ((rest : Rest) (st : Stores) (g : Frame) (fs : List Frame) →
-        StateAt (now (block .entry)) tree i rest st (returning (call .value) (g ∷ fs)) →
-        Performs (now (block .entry)) tree i rest
+        StateAt (now (block .entry)) i rest st (returning (call .value) (g ∷ fs)) →
+        Performs (now (block .entry)) i rest
         (callObject (codeOf (now (s .entry))) st fs (call .method) (call .value) (BINDINGS - counted (now (block .entry)) Bindings)
         (call .object) (object (st .objects) (call .object)))
         (now (block .exit)) r)
@@ -179,17 +169,18 @@ fn call_object(s: &[u8], starts: &[u16], block: &mut [u8], tree: Tree, i: usize,
 {
     let class = areas::word(block, Area::Objects, call.object as usize, Layout::CLASS);
     let Found::At(j) = members::method_record(s, starts, class, call.method) else {
-        return stays(tree);
+        return Effect::Still;
     };
     let n = areas::count(block, Area::Bindings);
     if Limits::BINDINGS < n + 2 {
-        return full(tree, Store::Bindings);
+        return Effect::Full(Store::Bindings);
     }
     let param = sections::record_word(s, Section::Methods, j, 1);
     let body = sections::record_word(s, Section::Methods, j, 3);
     let v = call.value;
     add_call(block, n, class, call.object, param, v);
-    moved(state::pop(block, tree, i, Cell::Running(body, (n + 2) as u16)))
+    state::pop(block, i, Cell::Running(body, (n + 2) as u16));
+    Effect::Moved
 }
 
 // "a waiting call adds two, this with the object's class and the parameter with its declared type, and enters the body with no others"
@@ -197,18 +188,17 @@ pub fn enter_method(
     s: &[u8],
     starts: &[u16],
     block: &mut [u8],
-    tree: Tree,
     i: usize,
     w: WaitingMember,
-) -> Step
+) -> Effect
     requires { ⌜
-        WithinLayout (now s) × Starts (now s) (now starts) × SomeState (now block) tree i × (0 < getD (tree .entries) i blank .frames) ×
+        WithinLayout (now s) × Starts (now s) (now starts) × SomeState (now block) i × (0 < entryAt (now block) i .frames) ×
         Chain (now block) (w .env) × Storable (w .value)
         ⌝ }
     ensures { λ r. ⌜
         ((rest : Rest) (st : Stores) (g : Frame) (fs : List Frame) →
-        StateAt (now (block .entry)) tree i rest st (returning (w .value) (g ∷ fs)) →
-        Performs (now (block .entry)) tree i rest
+        StateAt (now (block .entry)) i rest st (returning (w .value) (g ∷ fs)) →
+        Performs (now (block .entry)) i rest
         (callTarget (codeOf (now (s .entry))) st fs (w .member) (w .value) (BINDINGS - counted (now (block .entry)) Bindings)
         (find (scope (st .bindings) (w .env)) (w .target)))
         (now (block .exit)) r)
@@ -216,10 +206,10 @@ pub fn enter_method(
 {
     let found = target_of(block, w.env, w.target);
     let Lookup::Bound(value) = found else {
-        return stays(tree);
+        return Effect::Still;
     };
     let Value::Ref(o) = value else {
-        return fails(block, tree, i);
+        return fails(block, i);
     };
     let v = w.value;
     let call = Call {
@@ -227,5 +217,5 @@ pub fn enter_method(
         object: o,
         method: w.member,
     };
-    call_object(s, starts, block, tree, i, call)
+    call_object(s, starts, block, i, call)
 }

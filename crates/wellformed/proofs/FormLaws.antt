@@ -80,7 +80,7 @@ module _ (s : List ℕ) (t : ℕ) (b : List ℕ) where
           let d = in-order-decodes (fieldCount s) b order in
           rw (d, few-within c (encode-decode (fieldCount s) b c d .1 .few), and-true (coveredTest (c .stores .objects) (c .tree))) refl
 
-      pub asked : {starts forks table : List ℕ} → Blank s starts forks table → Asked s b
+      pub asked : {starts facts table : List ℕ} → Blank s starts facts table → Asked s b
       asked k = ordered-asked (k .within) order
 
       pub few-bindings : counted b Bindings ≤ BINDINGS
@@ -97,7 +97,7 @@ module _ (s : List ℕ) (t : ℕ) (b : List ℕ) where
           fits : stores ≡ true
           fits = sym fit ∙ not-false p h
 
-          pub ready : {starts forks table : List ℕ} → Blank s starts forks table → Ready s starts forks table b
+          pub ready : {starts facts table : List ℕ} → Blank s starts facts table → Ready s starts facts table b
           ready k =
               let passed = stores-passed s b fits in
               record {

@@ -18,12 +18,12 @@ ghost use Rattle.calls.specs.Calls.{configOf};
 pub fn well_formed(
     s: &[u8],
     starts: &[u16],
-    forks: &[u8],
+    facts: &[u16],
     table: &mut [u16],
     t: u16,
     block: &[u8],
 ) -> bool
-    requires { ⌜ Blank (now s) (now starts) (now forks) (now table) × (length (now block) ≡ BLOCK) ⌝ }
+    requires { ⌜ Blank (now s) (now starts) (now facts) (now table) × (length (now block) ≡ BLOCK) ⌝ }
     ensures { λ r. ⌜ configOf (now (s .entry)) t (now (block .entry)) ≡ only r (some (configIn (fieldCount (now (s .entry))) (now (block .entry)))) ⌝ }
     ensures { λ r. ⌜ now (table .exit) ≡ now (table .entry) ⌝ }
 {
@@ -33,7 +33,7 @@ pub fn well_formed(
     if !stores_fit(s, starts, block) {
         return false;
     }
-    if !tree_fits(s, starts, forks, table, block, t) {
+    if !tree_fits(s, starts, facts, table, block, t) {
         return false;
     }
     locks_fit(block)

@@ -68,14 +68,14 @@ const LOCK: u16 = 3;
 /// Numbers of nodes, objects, bindings and types are well-formedness's to judge, except that an
 /// object's class says which of its words are fields.
 pub fn read(block: &[u8], types: &Types) -> Option<State> {
-    let words: Vec<u16> = block.as_chunks().0.iter().map(|pair| u16::from_le_bytes(*pair)).collect();
-    let [objects, bindings, frames, positions]: [u16; HEADER] = words[..HEADER].try_into().ok()?;
-    let objects = records::<OBJECT>(&words[OBJECTS_AT..BINDINGS_AT], objects)?;
-    let bindings = records::<BINDING>(&words[BINDINGS_AT..POSITIONS_AT], bindings)?;
-    let mut positions = records::<POSITION>(&words[POSITIONS_AT..FRAMES_AT], positions)?.iter();
-    let mut frames = records::<FRAME>(&words[FRAMES_AT..END], frames)?.iter();
+    let count = |area: Area| u16::from_le_bytes([block[area.count_at()], block[area.count_at() + 1]]);
+    let objects = records::<OBJECT>(&block[Area::Objects.bytes()], count(Area::Objects))?;
+    let bindings = records::<BINDING>(&block[Area::Bindings.bytes()], count(Area::Bindings))?;
+    let positions = records::<POSITION>(&block[Area::Positions.bytes()], count(Area::Positions))?;
+    let frames = records::<FRAME>(&block[Area::Frames.bytes()], count(Area::Frames))?;
+    let (mut positions, mut frames) = (positions.iter(), frames.iter());
     let tree = read_tree(&mut positions, &mut frames)?;
-    let nothing_over = positions.len() == 0 && frames.len() == 0 && is_zero(&words[END..]);
+    let nothing_over = positions.len() == 0 && frames.len() == 0 && is_zero(&block[2 * END..]);
     let state = State {
         objects: objects.iter().map(|record| read_object(record, types)).collect::<Option<_>>()?,
         bindings: bindings.iter().map(read_binding).collect(),
@@ -85,13 +85,16 @@ pub fn read(block: &[u8], types: &Types) -> Option<State> {
 }
 
 /// The first `count` records of an area, if it has so many and zeros behind them.
-fn records<const W: usize>(area: &[u16], count: u16) -> Option<&[[u16; W]]> {
-    let (used, rest) = area.split_at_checked(W * count as usize)?;
-    is_zero(rest).then_some(used.as_chunks().0)
+fn records<const W: usize>(area: &[u8], count: u16) -> Option<Vec<[u16; W]>> {
+    let (used, rest) = area.split_at_checked(2 * W * count as usize)?;
+    let word = |record: &[u8], at: usize| u16::from_le_bytes([record[2 * at], record[2 * at + 1]]);
+    let record = |record: &[u8]| std::array::from_fn(|at| word(record, at));
+    is_zero(rest).then(|| used.chunks_exact(2 * W).map(record).collect())
 }
 
-fn is_zero(words: &[u16]) -> bool {
-    words.iter().all(|&word| word == 0)
+/// All bytes in one sum, which is faster than a look at each.
+fn is_zero(bytes: &[u8]) -> bool {
+    bytes.iter().fold(0, |all, byte| all | byte) == 0
 }
 
 /// "0 is null, n + 1 is object number n."
@@ -110,7 +113,7 @@ fn read_object(&[class, shut, ref values @ ..]: &[u16; OBJECT], types: &Types) -
     }
     let (fields, unused) = values.split_at_checked(types.fields(class).len())?;
     let fields = fields.iter().copied().map(read_value).collect();
-    is_zero(unused).then_some(Object { class, shut: shut == 1, fields })
+    unused.iter().all(|&word| word == 0).then_some(Object { class, shut: shut == 1, fields })
 }
 
 fn read_binding(&[name, ty, value, link]: &[u16; BINDING]) -> Binding {
@@ -156,15 +159,21 @@ pub fn write(state: &State) -> Vec<u8> {
     }
     let objects: Vec<[u16; OBJECT]> = state.objects.iter().map(object_record).collect();
     let bindings: Vec<[u16; BINDING]> = state.bindings.iter().map(binding_record).collect();
-    let mut words = [0; LENGTH / 2];
-    let mut put = |at: usize, records: &[u16]| words[at..at + records.len()].copy_from_slice(records);
+    let mut block = vec![0; LENGTH];
     let counts = [objects.len(), bindings.len(), frames.len(), positions.len()].map(|count| count as u16);
-    put(0, &counts);
-    put(OBJECTS_AT, objects.as_flattened());
-    put(BINDINGS_AT, bindings.as_flattened());
-    put(POSITIONS_AT, positions.as_flattened());
-    put(FRAMES_AT, frames.as_flattened());
-    words.into_iter().flat_map(u16::to_le_bytes).collect()
+    put(&mut block, &counts);
+    put(&mut block[Area::Objects.bytes()], objects.as_flattened());
+    put(&mut block[Area::Bindings.bytes()], bindings.as_flattened());
+    put(&mut block[Area::Positions.bytes()], positions.as_flattened());
+    put(&mut block[Area::Frames.bytes()], frames.as_flattened());
+    block
+}
+
+/// Words, low byte first, at the beginning of these bytes.
+fn put(bytes: &mut [u8], words: &[u16]) {
+    for (to, word) in bytes.chunks_exact_mut(2).zip(words) {
+        to.copy_from_slice(&word.to_le_bytes());
+    }
 }
 
 fn value_word(value: Value) -> u16 {

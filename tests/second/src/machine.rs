@@ -3,10 +3,10 @@
 use crate::expr::Expr;
 use crate::program::Program;
 use crate::state::{
-    chain, Binding, Closure, Environment, Focus, Frame, Object, Position, State, Tree, Value, MOST_BINDINGS,
+    chain, held, Binding, Closure, Environment, Focus, Frame, Object, Position, State, Tree, Value, MOST_BINDINGS,
     MOST_FRAMES, MOST_OBJECTS, MOST_THREADS,
 };
-use crate::types::Type;
+use crate::types::{Type, UNIT};
 
 /// The names of the two variables that a body begins with.
 const THIS: u16 = 0;
@@ -73,35 +73,41 @@ impl Machine<'_> {
         if self.state.tree.is_failed() {
             return Some(Stop::Failed);
         }
-        let stuck = !self.state.tree.positions().iter().any(|position| self.can_move(position));
+        let positions = self.state.tree.positions();
+        let stuck = !(0..positions.len()).any(|number| self.can_move(&positions, number));
         stuck.then_some(Stop::Stuck)
     }
 
     /// By position, whether it can move.
     pub fn offer(&self) -> Vec<bool> {
-        self.state.tree.positions().iter().map(|position| self.can_move(position)).collect()
+        let positions = self.state.tree.positions();
+        (0..positions.len()).map(|number| self.can_move(&positions, number)).collect()
     }
 
     /// "Unless waiting, finished or failed, it can move. A join can when both sides are finished
     /// threads or one is a failed thread."
-    fn can_move(&self, position: &Position) -> bool {
-        match &position.tree.focus {
-            Focus::Node(at) => !self.waits(*at, &position.held),
-            Focus::Value(_) => !position.tree.is_finished(),
+    fn can_move(&self, positions: &[Position], number: usize) -> bool {
+        let tree = positions[number].tree;
+        match &tree.focus {
+            Focus::Node(at) => {
+                !self.shut_for(*at).is_some_and(|object| held(positions, number).all(|other| other != object))
+            }
+            Focus::Value(_) => !tree.is_finished(),
             Focus::Failed => false,
             Focus::Join { sides, .. } => sides.iter().all(Tree::is_finished) || sides.iter().any(Tree::is_failed),
         }
     }
 
-    /// "A thread waits when its move due is a lock on a shut object that it does not hold."
-    fn waits(&self, at: Closure, held: &[u16]) -> bool {
+    /// The shut object that the move due at a node locks, if it does: "A thread waits when its move due is a lock on a shut
+    /// object that it does not hold."
+    fn shut_for(&self, at: Closure) -> Option<u16> {
         let Expr::Lock { target, .. } = self.program.expressions[at.node as usize] else {
-            return false;
+            return None;
         };
         let Value::Object(object) = value_of(&self.state.bindings, at.environment, target) else {
-            return false;
+            return None;
         };
-        self.state.objects[object as usize].shut && !held.contains(&object)
+        self.state.objects[object as usize].shut.then_some(object)
     }
 
     /// The move of the chosen position, made if it is due and has room.
@@ -110,7 +116,11 @@ impl Machine<'_> {
         let positions = self.state.tree.positions();
         let threads = positions.iter().filter(|position| !matches!(position.tree.focus, Focus::Join { .. })).count();
         let frames: usize = positions.iter().map(|position| position.tree.frames.len()).sum();
-        let held = positions.into_iter().nth(choice).ok_or(Unmoved::PassedOver)?.held;
+        let position = positions.get(choice).ok_or(Unmoved::PassedOver)?;
+        let held = match &position.tree.focus {
+            Focus::Node(at) if self.shut_for(*at).is_some() => held(&positions, choice).collect(),
+            _ => vec![],
+        };
         let State { objects, bindings, tree } = &mut self.state;
         let tree = tree.position_mut(choice).ok_or(Unmoved::PassedOver)?;
         let (more_frames, more_threads) = (MOST_FRAMES - frames, MOST_THREADS - threads);
@@ -153,6 +163,7 @@ struct Thread<'a> {
     objects: &'a mut Vec<Object>,
     bindings: &'a mut Vec<Binding>,
     frames: &'a mut Vec<Frame>,
+    /// Where its move due locks a shut object, the objects that it holds.
     held: Vec<u16>,
     more_frames: usize,
     more_threads: usize,
@@ -269,10 +280,24 @@ impl Thread<'_> {
         }
     }
 
-    /// "The one inferred for the let's first part under the frame's bindings."
+    /// "The one inferred for the let's first part under the frame's bindings." There is one; where the part has no last part of its own, it takes no walk.
     fn infer(&self, at: Closure, bound: u16) -> Type {
-        let bindings = chain(self.bindings, at.environment).map(|binding| (binding.name, binding.ty));
-        let inferred = self.program.typer().with(bindings).infer(bound);
+        let bindings = || chain(self.bindings, at.environment).map(|binding| (binding.name, binding.ty));
+        let nearest = |name: u16| bindings().find(|binding| binding.0 == name).map(|binding| binding.1);
+        let types = &self.program.types;
+        let inferred = match self.program.expressions[bound as usize] {
+            Expr::New { class } => Some(class),
+            Expr::Cast { ty, .. } => Some(ty),
+            Expr::Write { .. } => Some(UNIT),
+            Expr::Variable { variable } => nearest(variable),
+            Expr::Read { target, field } => nearest(target).and_then(|ty| types.field(ty, field)),
+            Expr::Call { target, method, .. } => {
+                nearest(target).and_then(|ty| types.method(ty, method)).map(|found| found.result)
+            }
+            Expr::Null | Expr::Let { .. } | Expr::Fork { .. } | Expr::Lock { .. } => {
+                self.program.typer().with(bindings()).infer(bound).ok()
+            }
+        };
         inferred.expect("well-formed let frames have a type for their first part")
     }
 

@@ -81,11 +81,17 @@ pub struct State {
     pub tree: Tree,
 }
 
-/// A tree position, with the objects that the thread there holds.
+/// A tree position.
 pub struct Position<'t> {
     pub tree: &'t Tree,
-    /// Its own lock frames' and those of the joins above whose leftmost thread it belongs to.
-    pub held: Vec<u16>,
+    /// The number of the topmost join whose leftmost thread is here or beneath; this position's own if it is in no join, or the right side of one.
+    top: usize,
+}
+
+/// The objects that the thread at this position holds: those of its own lock frames, and of the joins whose leftmost thread it belongs to. These stand right before it, since a join comes before
+/// its left side.
+pub fn held<'a>(positions: &'a [Position], number: usize) -> impl Iterator<Item = u16> + 'a {
+    positions[positions[number].top..=number].iter().flat_map(|position| position.tree.locks())
 }
 
 impl State {
@@ -133,18 +139,24 @@ impl Tree {
     /// Every position, "preorder, root 0, left before right".
     pub fn positions(&self) -> Vec<Position<'_>> {
         let mut positions = vec![];
-        self.add_positions(vec![], &mut positions);
+        self.add_positions(0, &mut positions);
         positions
     }
 
-    /// `held` is what the joins above keep for the leftmost thread here.
-    fn add_positions<'t>(&'t self, mut held: Vec<u16>, positions: &mut Vec<Position<'t>>) {
-        held.extend(self.locks());
-        positions.push(Position { tree: self, held: held.clone() });
+    fn add_positions<'t>(&'t self, top: usize, positions: &mut Vec<Position<'t>>) {
+        positions.push(Position { tree: self, top });
         if let Focus::Join { sides, .. } = &self.focus {
             let [left, right] = &**sides;
-            left.add_positions(held, positions);
-            right.add_positions(vec![], positions); // "the left thread keeps the locks, the right has none"
+            left.add_positions(top, positions);
+            right.add_positions(positions.len(), positions); // "the left thread keeps the locks, the right has none"
+        }
+    }
+
+    /// How many positions there are.
+    fn size(&self) -> usize {
+        match &self.focus {
+            Focus::Join { sides, .. } => 1 + sides.iter().map(Tree::size).sum::<usize>(),
+            Focus::Node(_) | Focus::Value(_) | Focus::Failed => 1,
         }
     }
 
@@ -156,7 +168,7 @@ impl Tree {
                 return None;
             };
             let [left, right] = &mut **sides;
-            let size = left.positions().len();
+            let size = left.size();
             (tree, number) = if number <= size { (left, number - 1) } else { (right, number - 1 - size) };
         }
         Some(tree)

@@ -66,6 +66,11 @@ impl<'a> Typer<'a> {
         self
     }
 
+    /// The types of the script's variables: what a node's type depends on, beside the node.
+    pub fn types(&self) -> &[Option<Type>] {
+        &self.environment
+    }
+
     /// The type of a variable, by the name that the file gives it.
     pub fn variable(&self, name: u16) -> Option<Type> {
         let variable = self.typing.names.binary_search(&name).ok()?;

@@ -6,7 +6,8 @@ use crate::program::Program;
 use crate::state::{Binding, Closure, Environment, Focus, Frame, Object, State, Tree, Value};
 use crate::types::{Type, UNIT};
 use crate::typing::Typer;
-use std::collections::HashSet;
+use std::cell::RefCell;
+use std::collections::{HashMap, HashSet};
 
 /// What the surroundings of a value ask of it.
 #[derive(Clone, Copy, Debug, PartialEq, Eq)]
@@ -18,7 +19,7 @@ enum Want {
 
 /// Whether a state that a block was read as is well formed.
 pub fn well_formed(program: &Program, state: &State) -> bool {
-    let judge = Judge { program, state };
+    let judge = Judge { program, state, lets: RefCell::default() };
     // Bindings come before the tree: typing follows their links.
     state.objects.iter().all(|object| judge.object_fits(object))
         && (0u16..).zip(&state.bindings).all(|(index, binding)| judge.binding_fits(index, binding))
@@ -26,10 +27,15 @@ pub fn well_formed(program: &Program, state: &State) -> bool {
         && judge.locks_fit()
 }
 
+/// A node, and the types of the script's variables.
+type TypedNode = (u16, Vec<Option<Type>>);
+
 /// A state under judgement.
 struct Judge<'a> {
     program: &'a Program,
     state: &'a State,
+    /// What was found of let frames: a method that calls itself leaves many that are alike.
+    lets: RefCell<HashMap<TypedNode, Option<(Type, Type)>>>,
 }
 
 impl<'a> Judge<'a> {
@@ -118,7 +124,11 @@ impl<'a> Judge<'a> {
                 let signature = self.program.types.method(ty, method)?;
                 Some((signature.result, signature.parameter))
             }
-            Expr::Let { bound, .. } => Some((typer.infer(at.node).ok()?, typer.infer(bound).ok()?)),
+            Expr::Let { bound, .. } => {
+                let key = (at.node, typer.types().to_vec());
+                let infer = || Some((typer.infer(at.node).ok()?, typer.infer(bound).ok()?));
+                *self.lets.borrow_mut().entry(key).or_insert_with(infer)
+            }
             _ => None,
         }
     }

@@ -3,7 +3,7 @@
 use second::cases::{any_case, Case, Origin};
 use second::generate::Rng;
 use second::program::Program;
-use second::state::{Focus, State};
+use second::state::{held, Focus, State};
 use second::{block, offer, run, Answer, RunReply, FLAGS};
 
 const CASES: usize = 700;
@@ -121,22 +121,22 @@ fn stops_say_what_the_root_is() {
 
 #[test]
 fn a_lock_has_at_most_one_holder() {
-    let mut held = 0;
+    let mut held_in_all = 0;
     for (case, _) in cases(6) {
         let (_, after) = ran(&case, &case.block, &case.choices);
         let state = state(&case, &after);
         let positions = state.tree.positions();
         let none_failed = !positions.iter().any(|position| position.tree.is_failed());
         for (number, object) in (0..).zip(&state.objects) {
-            let is_thread = |focus: &Focus| matches!(focus, Focus::Node(_) | Focus::Value(_));
-            let holds = |object: u16| positions.iter().filter(move |position| position.held.contains(&object));
-            let holders = holds(number).filter(|position| is_thread(&position.tree.focus)).count();
+            let is_thread = |at: usize| matches!(positions[at].tree.focus, Focus::Node(_) | Focus::Value(_));
+            let holds = |at: usize| is_thread(at) && held(&positions, at).any(|other| other == number);
+            let holders = (0..positions.len()).filter(|&at| holds(at)).count();
             assert!(holders <= usize::from(object.shut));
             assert!(!none_failed || holders == usize::from(object.shut));
-            held += holders;
+            held_in_all += holders;
         }
     }
-    assert!(held > CASES / 2, "{held}");
+    assert!(held_in_all > CASES / 2, "{held_in_all}");
 }
 
 /// "Objects and bindings are never freed", and what a binding says is never changed.

@@ -4,13 +4,10 @@ use Rattle.environments.proofs.infer_under.Statement.{statement}
 use Rattle.environments.proofs.infer_under.Tie as tie
 
 fill-requires : tie.Need-fill-requires
-fill-requires c κs = (c .before .before .before .before .before .before .pre .1 .0, c .before .before .before .before .before .before .pre .1 .1, laws.blank-zeros (c .before .before .before .before .before .before .pre .0 .0))
+fill-requires c κs = let lent = c .before .before .before .before .before .before .pre .0 .0 in ((lent .within, lent .known, lent .size, lent .zeros), (c .before .before .before .before .before .before .pre .1 .0, c .before .before .before .before .before .before .pre .1 .1))
 
 infer-requires : tie.Need-infer-requires
 infer-requires c κs = laws.at-node (c .before .before .before .before .before .before .before .before .before .before .pre .0 .0) (c .before .before .before .before .before .before .before .before .before .before .pre .1 .2) (c .before .before .before .fill .ensures .0) _ (c .before .before .before .fill .ensures .1) (c .before .before .before .before .before .before .before .before .before .before .pre .0 .1)
-
-empty-requires : tie.Need-empty-requires
-empty-requires c κs = (c .before .before .before .before .before .before .before .before .before .before .before .before .before .before .pre .1 .0, laws.still-filled (c .before .before .before .before .before .before .before .before .before .before .before .before .before .before .pre .0 .0) (c .before .before .before .before .before .before .before .before .before .before .before .before .before .before .pre .1 .2) (c .before .before .before .before .before .before .before .fill .ensures .0) (c .before .before .before .infer .ensures .1))
 
 returns : tie.Need-returns
 returns c = (
@@ -20,4 +17,4 @@ returns c = (
 
 pub infer-under-spec : {M : Type 1} → statement M
 infer-under-spec =
-    tie.close (tie.spec fill-requires infer-requires empty-requires (λ c. search needs) returns)
+    tie.close (tie.spec fill-requires infer-requires (λ c κs. search needs) (λ c. search needs) returns)

@@ -1,21 +1,14 @@
 use borrow.Author.Needs.{needs}
-use Rattle.moves.proofs.Laws.{inside}
 use Rattle.choices.proofs.NodeLaws as laws
 use Rattle.choices.proofs.nodes.run_node.Statement.{statement}
 use Rattle.choices.proofs.nodes.run_node.Tie as tie
 
 give-value-requires : tie.Need-give-value-requires
 give-value-requires c κs =
-    (c .before .before .before .before .before .before .before .before .before .pre .3 .seen .tidy, inside (c .before .before .before .before .before .before .before .before .before .pre .3), c .before .before .before .before .before .before .before .before .before .pre .4)
-
-become-join-requires : tie.Need-become-join-requires
-become-join-requires c κs = (c .before .before .before .before .before .before .before .before .pre .3 .seen .tidy, inside (c .before .before .before .before .before .before .before .before .pre .3))
-
-become-null-requires : tie.Need-become-null-requires
-become-null-requires c κs = (c .before .before .before .before .before .before .before .before .pre .3 .seen .tidy, inside (c .before .before .before .before .before .before .before .before .pre .3))
+    (c .before .before .before .before .before .before .before .before .before .pre .0 .3, c .before .before .before .before .before .before .before .before .before .pre .1 .0, c .before .before .before .before .before .before .before .before .before .pre .1 .1)
 
 returns : tie.Need-returns
-returns c = λ c₀ p rest fs own h. laws.at-var _ c₀ p fs _ _ (record { kind-is = c .before .before .before .before .before .before .node-word .ensures .0; first = c .before .before .before .before .before .node-word2 .ensures .0; second = c .before .before .before .before .node-word3 .ensures .0; third = c .before .before .before .node-word4 .ensures .0 }) (c .before .before .match .keys1) (c .give-value .ensures rest (c₀ .stores) _ fs (h .seen))
+returns c = λ c₀ p rest fs own h. laws.at-var _ c₀ p fs _ _ (record { kind-is = c .before .before .before .before .before .before .before .before .node-word .ensures .0; first = c .before .before .before .before .before .before .before .node-word2 .ensures .0; second = c .before .before .before .before .before .before .node-word3 .ensures .0; third = c .before .before .before .before .before .node-word4 .ensures .0 }) (c .before .before .before .before .match .keys1) (c .before .before .give-value .ensures rest (c₀ .stores) _ fs (h .seen))
 
 returns-2 : tie.Need-returns-2
 returns-2 c =
@@ -42,7 +35,7 @@ returns-7 c =
     λ c₀ p rest fs own h. laws.at-cast _ c₀ p fs _ _ (record { kind-is = c .before .before .before .before .before .before .before .before .node-word .ensures .0; first = c .before .before .before .before .before .before .before .node-word2 .ensures .0; second = c .before .before .before .before .before .before .node-word3 .ensures .0; third = c .before .before .before .before .before .node-word4 .ensures .0 }) (h .represents) (c .before .before .before .before .match .keys7) (c .before .before .leave-frame4 .ensures rest (c₀ .stores) _ fs (h .seen))
 
 returns-8 : tie.Need-returns-8
-returns-8 c = λ c₀ p rest fs own h. laws.at-fork _ c₀ p fs _ _ (record { kind-is = c .before .before .before .before .before .node-word .ensures .0; first = c .before .before .before .before .node-word2 .ensures .0; second = c .before .before .before .node-word3 .ensures .0; third = c .before .before .node-word4 .ensures .0 }) (c .before .match .keys8) (c .become-join .ensures _ (c₀ .tree) rest (c₀ .stores) _ fs (h .represents .tree) (h .seen))
+returns-8 c = λ c₀ p rest fs own h. laws.at-fork _ c₀ p fs _ _ (record { kind-is = c .before .before .before .before .before .before .before .before .node-word .ensures .0; first = c .before .before .before .before .before .before .before .node-word2 .ensures .0; second = c .before .before .before .before .before .before .node-word3 .ensures .0; third = c .before .before .before .before .before .node-word4 .ensures .0 }) (c .before .before .before .before .match .keys8) (c .before .before .become-join .ensures c₀ rest (c₀ .stores) _ fs (h .represents) (h .seen))
 
 returns-9 : tie.Need-returns-9
 returns-9 c =
@@ -50,7 +43,7 @@ returns-9 c =
 
 returns-10 : tie.Need-returns-10
 returns-10 c =
-    λ c₀ p rest fs own h. laws.at-null _ c₀ p fs _ _ (record { kind-is = c .before .before .before .before .before .node-word .ensures .0; first = c .before .before .before .before .node-word2 .ensures .0; second = c .before .before .before .node-word3 .ensures .0; third = c .before .before .node-word4 .ensures .0 }) (c .before .match .rest .0 .0 .0 .0 .0 .0 .0 .0 .1) (c .before .match .rest .0 .0 .0 .0 .0 .0 .0 .1) (c .before .match .rest .0 .0 .0 .0 .0 .0 .1) (c .before .match .rest .0 .0 .0 .0 .0 .1) (c .before .match .rest .0 .0 .0 .0 .1) (c .before .match .rest .0 .0 .0 .1) (c .before .match .rest .0 .0 .1) (c .before .match .rest .0 .1) (c .before .match .rest .1) (c .become-null .ensures _ rest (c₀ .stores) _ _ fs (h .seen))
+    λ c₀ p rest fs own h. laws.at-null _ c₀ p fs _ _ (record { kind-is = c .before .before .before .before .before .before .before .before .node-word .ensures .0; first = c .before .before .before .before .before .before .before .node-word2 .ensures .0; second = c .before .before .before .before .before .before .node-word3 .ensures .0; third = c .before .before .before .before .before .node-word4 .ensures .0 }) (c .before .before .before .before .match .rest .0 .0 .0 .0 .0 .0 .0 .0 .1) (c .before .before .before .before .match .rest .0 .0 .0 .0 .0 .0 .0 .1) (c .before .before .before .before .match .rest .0 .0 .0 .0 .0 .0 .1) (c .before .before .before .before .match .rest .0 .0 .0 .0 .0 .1) (c .before .before .before .before .match .rest .0 .0 .0 .0 .1) (c .before .before .before .before .match .rest .0 .0 .0 .1) (c .before .before .before .before .match .rest .0 .0 .1) (c .before .before .before .before .match .rest .0 .1) (c .before .before .before .before .match .rest .1) (c .before .before .become-null .ensures rest (c₀ .stores) _ _ fs (h .seen))
 
 pub run-node-spec : {M : Type 1} → statement M
 run-node-spec =
@@ -67,9 +60,9 @@ run-node-spec =
     (λ c κs. search needs)
     (λ c κs. search needs)
     (λ c κs. search needs)
-    become-join-requires
     (λ c κs. search needs)
-    become-null-requires
+    (λ c κs. search needs)
+    (λ c κs. search needs)
     (λ c. search needs)
     returns
     (λ c. search needs)
@@ -84,7 +77,9 @@ run-node-spec =
     returns-6
     (λ c. search needs)
     returns-7
+    (λ c. search needs)
     returns-8
     (λ c. search needs)
     returns-9
+    (λ c. search needs)
     returns-10)

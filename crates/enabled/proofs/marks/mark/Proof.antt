@@ -7,10 +7,10 @@ use Rattle.enabled.proofs.marks.mark.Statement.{statement}
 use Rattle.enabled.proofs.marks.mark.Tie as tie
 
 abbrev Inv-loop : tie.InvT-loop
-Inv-loop s block tree flags₀ n₀ flags n = Marked s block tree flags n
+Inv-loop s block flags₀ n₀ flags n = Marked s block flags n
 
 abbrev μ-loop : tie.MeasureT-loop
-μ-loop s block tree flags₀ n₀ flags n = FLAGS - n
+μ-loop s block flags₀ n₀ flags n = FLAGS - n
 
 loop-holds : tie.Need-loop-holds Inv-loop μ-loop
 loop-holds c = mark-none (c .before .before .before .pre .2)

@@ -1,16 +1,14 @@
 use borrow.Author.Needs.{needs}
 use mathlib.Core.Path.{refl}
-use Rattle.engine.proofs.Replies.{accepted, refused}
+use Rattle.engine.proofs.Replies.{lent}
 use Rattle.engine.proofs.check.oolong_check.Statement.{statement}
 use Rattle.engine.proofs.check.oolong_check.Tie as tie
 
-returns : tie.Need-returns
-returns c = (refl, accepted _ _ (c .before .before .before .verdict-of .ensures) _ (c .before .v .given .1))
+check-script-requires : tie.Need-check-script-requires
+check-script-requires c κs = lent
 
-returns-2 : tie.Need-returns-2
-returns-2 c = (refl, refused _ _ (c .before .before .before .before .verdict-of .ensures) _ _ _ (c .before .before .v2 .given .1) (c .number-of .ensures))
+returns : tie.Need-returns
+returns c = let told = c .before .before .check-script .ensures in (refl, (told .0, (told .1 .0, told .1 .1 .0)))
 
 pub oolong-check-spec : {M : Type 1} → statement M
-oolong-check-spec =
-    tie.close
-    (tie.spec (λ c κs. search needs) (λ c. search needs) (λ c. search needs) (λ c κs. search needs) returns returns-2)
+oolong-check-spec = tie.close (tie.spec (λ c. search needs) (λ c. search needs) check-script-requires returns)

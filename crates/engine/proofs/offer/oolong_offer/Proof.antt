@@ -1,45 +1,52 @@
 use borrow.Author.Needs.{needs}
 use mathlib.Core.Path.{refl}
+use Rattle.engine.proofs.Replies.{lent, tables}
 use Rattle.engine.proofs.RunReplies as laws
 use Rattle.engine.proofs.OfferReplies.{offer-block}
 use Rattle.engine.proofs.OfferReplies as replies
 use Rattle.engine.proofs.offer.oolong_offer.Statement.{statement}
 use Rattle.engine.proofs.offer.oolong_offer.Tie as tie
 
+check-script-requires : tie.Need-check-script-requires
+check-script-requires c κs = lent
+
 returns : tie.Need-returns
-returns c = (refl, (offer-block _ _ _, replies.offer-script-refused _ _ _ _ _ (c .before .before .oolong-check .ensures .1 .0) (c .before .before .oolong-check .ensures .1 .1 .0) (c .if1 .taken)))
+returns c = (refl, (offer-block _ _ _, replies.offer-script-refused _ _ _ _ _ (c .before .before .before .before .check-script .ensures .0) (c .before .before .before .before .check-script .ensures .1 .0) (c .if1 .taken)))
 
 returns-2 : tie.Need-returns-2
-returns-2 c = (refl, (offer-block _ _ _, replies.offer-block-refused _ _ _ _ (laws.type-is _ _ _ (c .before .before .before .before .oolong-check .ensures .1 .0) (c .before .before .if1 .left) (c .before .before .before .before .oolong-check .ensures .1 .1 .1)) _ (c .before .if2 .taken) (c .lent-number .ensures)))
+returns-2 c = (refl, (offer-block _ _ _, replies.offer-block-refused _ _ _ _ (laws.type-is _ _ _ (c .before .before .before .before .before .before .check-script .ensures .0) (c .before .before .if1 .left) (c .before .before .before .before .before .before .check-script .ensures .1 .1 .0)) _ (c .before .if2 .taken) (c .lent-number .ensures)))
 
 returns-3 : tie.Need-returns-3
-returns-3 c = (refl, (offer-block _ _ _, replies.offer-flags-refused _ _ _ _ (laws.type-is _ _ _ (c .before .before .before .before .before .oolong-check .ensures .1 .0) (c .before .before .before .if1 .left) (c .before .before .before .before .before .oolong-check .ensures .1 .1 .1)) (c .before .before .if2 .left) _ (c .before .if3 .taken) (c .lent-number2 .ensures)))
+returns-3 c = (refl, (offer-block _ _ _, replies.offer-flags-refused _ _ _ _ (laws.type-is _ _ _ (c .before .before .before .before .before .before .before .check-script .ensures .0) (c .before .before .before .if1 .left) (c .before .before .before .before .before .before .before .check-script .ensures .1 .1 .0)) (c .before .before .if2 .left) _ (c .before .if3 .taken) (c .lent-number2 .ensures)))
 
 offer-requires : tie.Need-offer-requires
 offer-requires c κs =
-    let ensures = c .before .before .before .before .before .oolong-check .ensures .1 in
-    ((laws.within _ _ (laws.type-is _ _ _ (ensures .0) (c .before .before .before .if1 .left) (ensures .1 .1)), (laws.type-is _ _ _ (ensures .0) (c .before .before .before .if1 .left) (ensures .1 .1))), (c .before .before .if2 .left, c .before .if3 .left))
+    let acc = laws.type-is _ _ _ (c .before .before .before .before .before .before .before .before .before .check-script .ensures .0) (c .before .before .before .before .before .if1 .left) (c .before .before .before .before .before .before .before .before .before .check-script .ensures .1 .1 .0) in
+    let made = tables _ _ _ _ acc (c .before .before .before .before .before .before .before .before .before .check-script .ensures .1 .1 .1) in
+    ((laws.within _ _ acc, made .0, made .1, acc), (c .before .before .before .before .if2 .left, c .before .before .before .if3 .left))
 
 returns-4 : tie.Need-returns-4
 returns-4 c =
-    let back = c .before .before .before .before in
-    (refl, (offer-block _ _ _, replies.offer-form-refused _ _ _ _ (laws.type-is _ _ _ (back .before .before .before .before .before .before .oolong-check .ensures .1 .0) (back .before .before .before .before .if1 .left) (back .before .before .before .before .before .before .oolong-check .ensures .1 .1 .1)) (back .before .before .before .if2 .left) (back .before .before .if3 .left) (back .offer .result) (back .offer .ensures .0) (back .offer .ensures .1) _ (c .before .if4 .taken) (c .lent-number3 .ensures)))
+    (refl, (offer-block _ _ _, replies.offer-form-refused _ _ _ _ (laws.type-is _ _ _ (c .before .before .before .before .before .before .before .before .before .before .before .before .before .before .check-script .ensures .0) (c .before .before .before .before .before .before .before .before .before .before .if1 .left) (c .before .before .before .before .before .before .before .before .before .before .before .before .before .before .check-script .ensures .1 .1 .0)) (c .before .before .before .before .before .before .before .before .before .if2 .left) (c .before .before .before .before .before .before .before .before .if3 .left) (c .before .before .before .before .offer .result) (c .before .before .before .before .offer .ensures .0) (c .before .before .before .before .offer .ensures .1) _ (c .before .if4 .taken) (c .lent-number3 .ensures)))
 
 returns-5 : tie.Need-returns-5
 returns-5 c =
-    let back = c .before .before .before .before .before in
-    (refl, (offer-block _ _ _, replies.offer-done _ _ _ _ (laws.type-is _ _ _ (back .before .before .before .before .oolong-check .ensures .1 .0) (back .before .before .if1 .left) (back .before .before .before .before .oolong-check .ensures .1 .1 .1)) (back .before .if2 .left) (back .if3 .left) (c .before .before .before .offer .result) (c .before .before .before .offer .ensures .0) (c .before .before .before .offer .ensures .1) (c .if4 .left)))
+    (refl, (offer-block _ _ _, replies.offer-done _ _ _ _ (laws.type-is _ _ _ (c .before .before .before .before .before .before .before .before .before .before .before .before .before .check-script .ensures .0) (c .before .before .before .before .before .before .before .before .before .if1 .left) (c .before .before .before .before .before .before .before .before .before .before .before .before .before .check-script .ensures .1 .1 .0)) (c .before .before .before .before .before .before .before .before .if2 .left) (c .before .before .before .before .before .before .before .if3 .left) (c .before .before .before .offer .result) (c .before .before .before .offer .ensures .0) (c .before .before .before .offer .ensures .1) (c .if4 .left)))
 
 pub oolong-offer-spec : {M : Type 1} → statement M
 oolong-offer-spec =
     tie.close
     (tie.spec
-    (λ c κs. search needs)
+    (λ c. search needs)
+    (λ c. search needs)
+    check-script-requires
     returns
     (λ c κs. search needs)
     returns-2
     (λ c κs. search needs)
     returns-3
+    (λ c. search needs)
+    (λ c. search needs)
     offer-requires
     (λ c κs. search needs)
     (λ c. search needs)

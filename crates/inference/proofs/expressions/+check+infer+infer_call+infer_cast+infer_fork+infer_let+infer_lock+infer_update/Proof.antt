@@ -366,8 +366,11 @@ module _ (t : ℕ) where
   infer-cast-returns : infer-cast-lts.Need-returns (infer-cast-R t) (infer-cast-at t) infer-cast.Post
   infer-cast-returns c = let p = c .before .before .before .before .before .before .before .before .before .before .pre .1 in (laws.at-cast (p .0) _ _ _ (p .1) (c .before .before .before .before .before .node-word .ensures .0) (c .before .before .before .before .node-word2 .ensures .0) (c .before .before .check .ensures .0), c .before .before .check .ensures .1)
 
+  infer-fork-mul-if1 : infer-fork-lts.Need-mul-if1 (infer-fork-R t) (infer-fork-at t) infer-fork.Post
+  infer-fork-mul-if1 c = search needs
+
   infer-fork-shared-slice-read-if1 : infer-fork-lts.Need-shared-slice-read-if1 (infer-fork-R t) (infer-fork-at t) infer-fork.Post
-  infer-fork-shared-slice-read-if1 c = let p = c .before .before .before .before .before .pre .1 in omega (arith, p .0 .sharing .size, p .0 .there, p .0 .within .counts-are .within nodes)
+  infer-fork-shared-slice-read-if1 c = let p = c .before .before .before .before .before .pre .1 in laws.fact-there (p .0 .known) (p .0 .within) (p .0 .there)
 
   infer-fork-returns : infer-fork-lts.Need-returns (infer-fork-R t) (infer-fork-at t) infer-fork.Post
   infer-fork-returns c = let p = c .before .before .before .before .before .before .pre .1 in (laws.fork-shared (p .0) (p .1) (c .if1 .taken), refl)
@@ -413,7 +416,7 @@ module _ (t : ℕ) where
   infer-fork-returns-3 c =
       let back = c .before .before .before .before .before .before .before .before .before .before .before in
       let back2 = c .before .before .before .before in
-      let p = back .before .before .before .before .before .before .before .before .before .pre .1 in (laws.fork-right (p .0) (p .1) (back .before .before .before .if1 .left) _ _ (back .before .before .node-word .ensures .0) (back .infer .ensures .0) _ (back2 .before .before .before .enum-told .given .1) _ _ (back2 .before .before .node-word2 .ensures .0) (laws.same-env _ _ (back .infer .ensures .1) (back2 .infer2 .ensures .0)) _ _ (c .enum-told4 .given .1), back2 .infer2 .ensures .1 ∙ back .infer .ensures .1)
+      let p = back .before .before .before .before .before .before .before .before .before .pre .1 in (laws.fork-right (p .0) (p .1) (back .before .before .before .if1 .left) _ _ (back .before .before .node-word .ensures .0) (back .infer .ensures .0) _ (back2 .before .before .before .enum-told .given .1) _ _ (back2 .before .before .node-word2 .ensures .0) (laws.same-env _ _ _ (back .infer .ensures .1) (back2 .infer2 .ensures .0)) _ _ (c .enum-told4 .given .1), back2 .infer2 .ensures .1 ∙ back .infer .ensures .1)
 
   infer-fork-node-word-requires-3 : infer-fork-lts.Need-node-word-requires-3 (infer-fork-R t) (infer-fork-at t) infer-fork.Post
   infer-fork-node-word-requires-3 c κs = search needs
@@ -428,7 +431,7 @@ module _ (t : ℕ) where
   infer-fork-returns-4 : infer-fork-lts.Need-returns-4 (infer-fork-R t) (infer-fork-at t) infer-fork.Post
   infer-fork-returns-4 c =
       let back = c .before .before .before .before .before .before .before .before .before in
-      let p = back .before .before .before .before .before .before .before .before .before .before .before .before .before .before .before .before .pre .1 in (laws.fork-last (p .0) (p .1) (back .before .before .before .before .before .before .before .before .before .before .if1 .left) _ _ (back .before .before .before .before .before .before .before .before .before .node-word .ensures .0) (back .before .before .before .before .before .before .before .infer .ensures .0) _ (back .before .before .before .enum-told .given .1) _ _ (back .before .before .node-word2 .ensures .0) (laws.same-env _ _ (back .before .before .before .before .before .before .before .infer .ensures .1) (back .infer2 .ensures .0)) _ _ _ (c .before .before .before .before .before .enum-told3 .given .1) (c .before .before .before .before .node-word3 .ensures .0) (laws.same-env _ _ (back .infer2 .ensures .1 ∙ back .before .before .before .before .before .before .before .infer .ensures .1) (c .before .before .infer3 .ensures .0)), c .before .before .infer3 .ensures .1 ∙ back .infer2 .ensures .1 ∙ back .before .before .before .before .before .before .before .infer .ensures .1)
+      let p = back .before .before .before .before .before .before .before .before .before .before .before .before .before .before .before .before .pre .1 in (laws.fork-last (p .0) (p .1) (back .before .before .before .before .before .before .before .before .before .before .if1 .left) _ _ (back .before .before .before .before .before .before .before .before .before .node-word .ensures .0) (back .before .before .before .before .before .before .before .infer .ensures .0) _ (back .before .before .before .enum-told .given .1) _ _ (back .before .before .node-word2 .ensures .0) (laws.same-env _ _ _ (back .before .before .before .before .before .before .before .infer .ensures .1) (back .infer2 .ensures .0)) _ _ _ (c .before .before .before .before .before .enum-told3 .given .1) (c .before .before .before .before .node-word3 .ensures .0) (laws.same-env _ _ _ (back .infer2 .ensures .1 ∙ back .before .before .before .before .before .before .before .infer .ensures .1) (c .before .before .infer3 .ensures .0)), c .before .before .infer3 .ensures .1 ∙ back .infer2 .ensures .1 ∙ back .before .before .before .before .before .before .before .infer .ensures .1)
 
   infer-let-node-word-requires : infer-let-lts.Need-node-word-requires (infer-let-R t) (infer-let-at t) infer-let.Post
   infer-let-node-word-requires c κs = search needs
@@ -451,49 +454,50 @@ module _ (t : ℕ) where
       let back = c .before .before .before .before in
       let p = back .before .before .before .before .before .before .before .pre .1 in (laws.let-first (p .0) _ _ (p .1) (back .before .before .node-word .ensures .0) (back .infer .ensures .0) _ _ (c .enum-told .given .1), back .infer .ensures .1)
 
-  infer-let-node-word-requires-2 : infer-let-lts.Need-node-word-requires-2 (infer-let-R t) (infer-let-at t) infer-let.Post
-  infer-let-node-word-requires-2 c κs = search needs
+  infer-let-mul-rank : infer-let-lts.Need-mul-rank (infer-let-R t) (infer-let-at t) infer-let.Post
+  infer-let-mul-rank c = search needs
 
-  infer-let-cast-x : infer-let-lts.Need-cast-x (infer-let-R t) (infer-let-at t) infer-let.Post
-  infer-let-cast-x c = search needs
+  infer-let-shared-slice-read-rank : infer-let-lts.Need-shared-slice-read-rank (infer-let-R t) (infer-let-at t) infer-let.Post
+  infer-let-shared-slice-read-rank c = let p = c .before .before .before .before .before .before .before .before .before .before .before .before .before .pre .1 in laws.fact-there (p .0 .known) (p .0 .within) (p .0 .there)
+
+  infer-let-cast-rank : infer-let-lts.Need-cast-rank (infer-let-R t) (infer-let-at t) infer-let.Post
+  infer-let-cast-rank c = let p = c .before .before .before .before .before .before .before .before .before .before .before .before .before .pre .1 in omega (arith, laws.rank-small (p .0 .known) (laws.let-rank (p .0) (p .1)))
 
   infer-let-mul-outer : infer-let-lts.Need-mul-outer (infer-let-R t) (infer-let-at t) infer-let.Post
-  infer-let-mul-outer c = search needs
+  infer-let-mul-outer c = let p = c .before .before .before .before .before .before .before .before .before .before .before .before .before .pre .1 in omega (arith, laws.rank-small (p .0 .known) (laws.let-rank (p .0) (p .1)))
 
   infer-let-slice-read-outer : infer-let-lts.Need-slice-read-outer (infer-let-R t) (infer-let-at t) infer-let.Post
-  infer-let-slice-read-outer c = let p = c .before .before .before .before .before .before .before .before .before .before .before .before .before .before .pre .1 in laws.word-there (c .before .before .before .before .before .before .before .infer .ensures .1) (laws.let-named (p .0) (p .1) (c .before .node-word2 .ensures .0))
+  infer-let-slice-read-outer c = let p = c .before .before .before .before .before .before .before .before .before .before .before .before .before .before .pre .1 in laws.word-there (c .before .before .before .before .before .before .before .infer .ensures .1) (laws.let-there (p .0) (p .1))
 
   infer-let-add-env : infer-let-lts.Need-add-env (infer-let-R t) (infer-let-at t) infer-let.Post
   infer-let-add-env c = let p = c .before .before .before .before .before .before .before .before .before .before .before .before .before .before .pre .1 in omega (arith, laws.let-small (p .0) _ _ (p .1) (c .before .before .before .before .before .before .before .before .before .node-word .ensures .0) (c .before .before .before .before .before .before .before .infer .ensures .0) _ (c .before .before .before .first .given .1))
 
   infer-let-mul-env : infer-let-lts.Need-mul-env (infer-let-R t) (infer-let-at t) infer-let.Post
-  infer-let-mul-env c = search needs
+  infer-let-mul-env c = let p = c .before .before .before .before .before .before .before .before .before .before .before .before .before .before .pre .1 in omega (arith, laws.rank-small (p .0 .known) (laws.let-rank (p .0) (p .1)))
 
   infer-let-slice-write-env : infer-let-lts.Need-slice-write-env (infer-let-R t) (infer-let-at t) infer-let.Post
-  infer-let-slice-write-env c = let p = c .before .before .before .before .before .before .before .before .before .before .before .before .before .before .pre .1 in laws.word-there (c .before .before .before .before .before .before .before .infer .ensures .1) (laws.let-named (p .0) (p .1) (c .before .node-word2 .ensures .0))
+  infer-let-slice-write-env c = let p = c .before .before .before .before .before .before .before .before .before .before .before .before .before .before .pre .1 in laws.word-there (c .before .before .before .before .before .before .before .infer .ensures .1) (laws.let-there (p .0) (p .1))
 
-  infer-let-node-word-requires-3 : infer-let-lts.Need-node-word-requires-3 (infer-let-R t) (infer-let-at t) infer-let.Post
-  infer-let-node-word-requires-3 c κs = search needs
+  infer-let-node-word-requires-2 : infer-let-lts.Need-node-word-requires-2 (infer-let-R t) (infer-let-at t) infer-let.Post
+  infer-let-node-word-requires-2 c κs = search needs
 
   infer-let-infer-requires-2 : infer-let-lts.Need-infer-requires-2 (infer-let-R t) (infer-let-at t) infer-let.Post
   unfolding kindOf
-  infer-let-infer-requires-2 c κs = let p = c .before .before .before .before .before .before .before .before .before .before .before .before .before .before .before .before .pre .1 in let h = laws.part (p .0) 5 _ _ (p .1) (c .before .node-word3 .ensures .0) second in (omega (arith, h .later, h .there, c .before .before .before .before .before .before .before .before .before .before .before .before .before .before .before .before .pre .0), laws.let-under (p .0) _ _ (p .1) (c .before .before .before .before .before .before .before .before .before .before .before .node-word .ensures .0) (c .before .before .before .before .before .before .before .before .before .infer .ensures .0) _ (c .before .before .before .before .before .first .given .1) _ _ (c .before .before .before .node-word2 .ensures .0) (c .before .before .before .before .before .before .before .before .before .infer .ensures .1) _ h)
+  infer-let-infer-requires-2 c κs = let p = c .before .before .before .before .before .before .before .before .before .before .before .before .before .before .before .before .pre .1 in let h = laws.part (p .0) 5 _ _ (p .1) (c .before .node-word2 .ensures .0) second in (omega (arith, h .later, h .there, c .before .before .before .before .before .before .before .before .before .before .before .before .before .before .before .before .pre .0), laws.let-under (p .0) _ _ (p .1) (c .before .before .before .before .before .before .before .before .before .before .before .node-word .ensures .0) (c .before .before .before .before .before .before .before .before .before .infer .ensures .0) _ (c .before .before .before .before .before .first .given .1) _ (c .before .before .before .before .before .before .before .before .before .infer .ensures .1) _ h)
 
   infer-let-mul-env-2 : infer-let-lts.Need-mul-env-2 (infer-let-R t) (infer-let-at t) infer-let.Post
-  infer-let-mul-env-2 c = search needs
+  infer-let-mul-env-2 c = let p = c .before .before .before .before .before .before .before .before .before .before .before .before .before .before .before .before .before .before .before .pre .1 in omega (arith, laws.rank-small (p .0 .known) (laws.let-rank (p .0) (p .1)))
 
   infer-let-slice-write-env-2 : infer-let-lts.Need-slice-write-env-2 (infer-let-R t) (infer-let-at t) infer-let.Post
   infer-let-slice-write-env-2 c =
-      let back = c .before .before .before .before .before .before .before .before .before .before .before .before in
-      let p = back .before .before .before .before .before .before .before .pre .1 in laws.word-still _ _ (back .infer .ensures .1) (laws.let-named (p .0) (p .1) (c .before .before .before .before .before .before .node-word2 .ensures .0)) (c .before .before .infer2 .ensures .1)
+      let p = c .before .before .before .before .before .before .before .before .before .before .before .before .before .before .before .before .before .before .before .pre .1 in laws.word-still _ _ (c .before .before .before .before .before .before .before .before .before .before .before .before .infer .ensures .1) (laws.let-there (p .0) (p .1)) (c .before .before .infer2 .ensures .1)
 
   infer-let-same-length-2 : infer-let-lts.Need-same-length-2 (infer-let-R t) (infer-let-at t) infer-let.Post
   infer-let-same-length-2 c = ap length (laws.word-back _ _ (c .before .before .before .before .before .before .before .before .before .before .before .before .infer .ensures .1) (c .before .before .infer2 .ensures .1))
 
   infer-let-returns-2 : infer-let-lts.Need-returns-2 (infer-let-R t) (infer-let-at t) infer-let.Post
   infer-let-returns-2 c =
-      let back = c .before .before .before .before .before .before .before .before .before .before .before .before in
-      let p = back .before .before .before .before .before .before .before .pre .1 in (laws.let-last (p .0) _ _ (p .1) (back .before .before .node-word .ensures .0) (back .infer .ensures .0) _ (c .before .before .before .before .before .before .before .before .first .given .1) _ _ (c .before .before .before .before .before .before .node-word2 .ensures .0) (back .infer .ensures .1) _ _ (c .before .before .before .before .node-word3 .ensures .0) (c .before .before .infer2 .ensures .0), laws.word-back _ _ (back .infer .ensures .1) (c .before .before .infer2 .ensures .1))
+      let p = c .before .before .before .before .before .before .before .before .before .before .before .before .before .before .before .before .before .before .before .pre .1 in (laws.let-last (p .0) _ _ (p .1) (c .before .before .before .before .before .before .before .before .before .before .before .before .before .before .node-word .ensures .0) (c .before .before .before .before .before .before .before .before .before .before .before .before .infer .ensures .0) _ (c .before .before .before .before .before .before .before .before .first .given .1) _ (c .before .before .before .before .before .before .before .before .before .before .before .before .infer .ensures .1) _ _ (c .before .before .before .before .node-word2 .ensures .0) (c .before .before .infer2 .ensures .0), laws.word-back _ _ (c .before .before .before .before .before .before .before .before .before .before .before .before .infer .ensures .1) (c .before .before .infer2 .ensures .1))
 
   infer-lock-infer-var-requires : infer-lock-lts.Need-infer-var-requires (infer-lock-R t) (infer-lock-at t) infer-lock.Post
   infer-lock-infer-var-requires c κs = let p = c .before .before .before .before .before .pre .1 in laws.lock-target (p .0) (p .1)
@@ -655,6 +659,7 @@ pub +check+infer+infer-call+infer-cast+infer-fork+infer-let+infer-lock+infer-upd
     (infer-cast-returns t))
     (λ t. infer-fork-lts.spec (infer-fork-R t) (infer-fork-at t)
     infer-fork.Post
+    (infer-fork-mul-if1 t)
     (infer-fork-shared-slice-read-if1 t)
     (infer-fork-returns t)
     (infer-fork-node-word-requires t)
@@ -681,14 +686,15 @@ pub +check+infer+infer-call+infer-cast+infer-fork+infer-let+infer-lock+infer-upd
     (infer-let-enum-told t)
     (infer-let-same-length t)
     (infer-let-returns t)
-    (infer-let-node-word-requires-2 t)
-    (infer-let-cast-x t)
+    (infer-let-mul-rank t)
+    (infer-let-shared-slice-read-rank t)
+    (infer-let-cast-rank t)
     (infer-let-mul-outer t)
     (infer-let-slice-read-outer t)
     (infer-let-add-env t)
     (infer-let-mul-env t)
     (infer-let-slice-write-env t)
-    (infer-let-node-word-requires-3 t)
+    (infer-let-node-word-requires-2 t)
     (infer-let-infer-requires-2 t)
     (infer-let-mul-env-2 t)
     (infer-let-slice-write-env-2 t)

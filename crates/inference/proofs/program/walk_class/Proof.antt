@@ -10,10 +10,10 @@ use Rattle.inference.proofs.program.walk_class.Statement.{statement}
 use Rattle.inference.proofs.program.walk_class.Tie as tie
 
 abbrev Inv-loop : tie.InvT-loop
-Inv-loop s starts forks env₀ c class first end m₀ env m = MethodsLeft s env₀ env c class end m
+Inv-loop s starts facts env₀ c class first end m₀ env m = MethodsLeft s env₀ env c class end m
 
 abbrev μ-loop : tie.MeasureT-loop
-μ-loop s starts forks env₀ c class first end m₀ env m = end - m
+μ-loop s starts facts env₀ c class first end m₀ env m = end - m
 
 add-class-2 : tie.Need-add-class-2 Inv-loop μ-loop
 add-class-2 c = omega (arith, c .before .before .before .before .before .pre .0 .within .counts-are .within classes)

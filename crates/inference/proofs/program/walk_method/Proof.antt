@@ -18,6 +18,9 @@ check-requires c κs =
     let pre = c .before .before .before .before .before .before .before .before .pre in
     laws.body-at (pre .0) _ _ (pre .1) (pre .2) _ _ (c .before .before .before .record-word .ensures .0) (c .before .record-word3 .ensures .0)
 
+slice-write-env-3 : tie.Need-slice-write-env-3
+slice-write-env-3 c = laws.parameter-there (c .before .before .before .before .before .before .before .before .before .before .before .pre .0) _ _ (c .before .before .check .ensures .1)
+
 slice-write-env-4 : tie.Need-slice-write-env-4
 slice-write-env-4 c = laws.this-there (c .before .before .before .before .before .before .before .before .before .before .before .pre .0) _ _ (c .before .before .check .ensures .1)
 
@@ -41,7 +44,7 @@ walk-method-spec =
     add-env-2
     (λ c. search needs)
     check-requires
-    (λ c. search needs)
+    slice-write-env-3
     slice-write-env-4
     same-length
     returns)

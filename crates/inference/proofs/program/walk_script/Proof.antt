@@ -7,10 +7,10 @@ use Rattle.inference.proofs.program.walk_script.Statement.{statement}
 use Rattle.inference.proofs.program.walk_script.Tie as tie
 
 abbrev Inv-loop : tie.InvT-loop
-Inv-loop s starts forks env₀ count c₀ env c = ClassesLeft s env₀ env c
+Inv-loop s starts facts env₀ count c₀ env c = ClassesLeft s env₀ env c
 
 abbrev μ-loop : tie.MeasureT-loop
-μ-loop s starts forks env₀ count c₀ env c = count - c
+μ-loop s starts facts env₀ count c₀ env c = count - c
 
 loop-holds : tie.Need-loop-holds Inv-loop μ-loop
 loop-holds c = laws.classes-first _ _

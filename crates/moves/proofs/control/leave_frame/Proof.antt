@@ -1,6 +1,7 @@
 use borrow.Author.Needs.{needs}
 use Rattle.state.proofs.Seeing.{seen-length}
 use Rattle.moves.proofs.Laws as laws
+use Rattle.moves.specs.Performs.{performs-full, performs-moved}
 use Rattle.moves.proofs.control.leave_frame.Statement.{statement}
 use Rattle.moves.proofs.control.leave_frame.Tie as tie
 
@@ -8,20 +9,18 @@ count-requires : tie.Need-count-requires
 count-requires c κs = seen-length (c .before .before .pre .seen)
 
 returns : tie.Need-returns
-returns c = λ x st a₀ fs s. rw (laws.no-room (c .before .before .count .ensures .0) (c .before .if1 .taken)) (c .full .ensures _ _ x)
+returns c = λ x st a₀ fs s. rw (laws.no-room (c .before .count .ensures .0) (c .if1 .taken)) performs-full
 
 returns-2 : tie.Need-returns-2
-returns-2 c = λ x st a₀ fs s. rw (laws.some-room (c .before .before .before .before .before .before .count .ensures .0) (c .before .before .before .before .before .if1 .left)) (c .moved .ensures _ _ _ _ x st _ (c .before .before .before .push .ensures x st a₀ _ fs s))
+returns-2 c = λ x st a₀ fs s. rw (laws.some-room (c .before .before .before .before .before .count .ensures .0) (c .before .before .before .before .if1 .left)) (performs-moved (c .before .before .push .ensures x st a₀ _ fs s))
 
 pub leave-frame-spec : {M : Type 1} → statement M
 leave-frame-spec =
     tie.close
     (tie.spec
     count-requires
-    (λ c κs. search needs)
     (λ c. search needs)
     returns
-    (λ c κs. search needs)
     (λ c κs. search needs)
     (λ c. search needs)
     returns-2)

@@ -6,16 +6,16 @@ use Rattle.moves.proofs.targets.target_of.Statement.{statement}
 use Rattle.moves.proofs.targets.target_of.Tie as tie
 
 returns : tie.Need-returns
-returns c = λ tree i rest st u seen. laws.finds-nothing seen _ _ (looked _ _ _ seen (c .before .before .variable .ensures)) (c .enum-told .given .1)
+returns c = λ i rest st u seen. laws.finds-nothing seen _ _ (looked _ _ _ seen (c .before .before .variable .ensures)) (c .enum-told .given .1)
 
 returns-2 : tie.Need-returns-2
-returns-2 c = λ tree i rest st u seen. laws.finds-null seen _ _ (looked _ _ _ seen (c .before .before .before .before .before .variable .ensures)) _ (c .before .before .before .found .given .1) (c .enum-told2 .given .1)
+returns-2 c = λ i rest st u seen. laws.finds-null seen _ _ (looked _ _ _ seen (c .before .before .before .before .before .variable .ensures)) _ (c .before .before .before .found .given .1) (c .enum-told2 .given .1)
 
 returns-3 : tie.Need-returns-3
-returns-3 c = λ tree i rest st u seen. laws.finds-absent seen _ _ (looked _ _ _ seen (c .before .before .before .before .before .before .before .before .variable .ensures)) _ (c .before .before .before .before .before .before .found .given .1) _ _ (c .before .before .before .value .given .1) (c .before .count .ensures .0) (c .if1 .taken)
+returns-3 c = λ i rest st u seen. laws.finds-absent seen _ _ (looked _ _ _ seen (c .before .before .before .before .before .before .before .before .variable .ensures)) _ (c .before .before .before .before .before .before .found .given .1) _ _ (c .before .before .before .value .given .1) (c .before .count .ensures .0) (c .if1 .taken)
 
 returns-4 : tie.Need-returns-4
-returns-4 c = λ tree i rest st u seen. laws.finds-object seen _ _ (looked _ _ _ seen (c .before .before .before .before .before .before .before .before .variable .ensures)) _ (c .before .before .before .before .before .before .found .given .1) _ _ (c .before .before .before .value .given .1) (c .before .count .ensures .0) (omega (arith, c .if1 .left))
+returns-4 c = λ i rest st u seen. laws.finds-object seen _ _ (looked _ _ _ seen (c .before .before .before .before .before .before .before .before .variable .ensures)) _ (c .before .before .before .before .before .before .found .given .1) _ _ (c .before .before .before .value .given .1) (c .before .count .ensures .0) (omega (arith, c .if1 .left))
 
 pub target-of-spec : {M : Type 1} → statement M
 target-of-spec =

@@ -9,10 +9,10 @@ use Rattle.runs.proofs.runs.follow.Statement.{statement}
 use Rattle.runs.proofs.runs.follow.Tie as tie
 
 abbrev Inv-loop : tie.InvT-loop
-Inv-loop s starts forks table₀ block₀ choices now₀ read₀ moves₀ table block now read moves = (table ≡ table₀) × (length block ≡ length block₀) × Loop s block₀ now₀ choices block now read moves
+Inv-loop s starts facts table₀ block₀ choices read₀ moves₀ table block read moves = (table ≡ table₀) × (length block ≡ length block₀) × Loop s block₀ choices block read moves
 
 abbrev μ-loop : tie.MeasureT-loop
-μ-loop s starts forks table₀ block₀ choices now₀ read₀ moves₀ table block now read moves = length choices - read
+μ-loop s starts facts table₀ block₀ choices read₀ moves₀ table block read moves = length choices - read
 
 loop-holds : tie.Need-loop-holds Inv-loop μ-loop
 loop-holds c = (refl, refl, laws.loop-begun (c .before .before .before .before .before .before .pre .1 .1))
@@ -29,16 +29,16 @@ add-moves : tie.Need-add-moves Inv-loop μ-loop
 add-moves c = omega (arith, c .before .before .before .before .before .before .before .before .before .before .before .loop .inv .2 .fewer, c .before .before .before .before .before .before .before .before .before .before .before .loop .inv .2 .few, c .before .before .before .before .before .take-choice .ensures .1 .1, c .before .before .before .before .before .before .before .before .before .before .before .before .before .before .before .before .before .before .pre .1 .0)
 
 same-length : tie.Need-same-length Inv-loop μ-loop
-same-length c = ap length (c .before .before .before .before .before .before .before .before .before .before .take-choice .ensures .1 .0 ∙ c .before .before .before .before .before .before .before .before .before .before .before .before .before .before .before .before .loop .inv .0)
+same-length c = ap length (c .before .before .before .before .before .before .before .before .before .take-choice .ensures .1 .0 ∙ c .before .before .before .before .before .before .before .before .before .before .before .before .before .before .before .loop .inv .0)
 
 same-length-2 : tie.Need-same-length-2 Inv-loop μ-loop
-same-length-2 c = omega (arith, c .before .before .before .before .before .before .before .before .before .before .before .before .before .before .before .before .loop .inv .1)
+same-length-2 c = omega (arith, c .before .before .before .before .before .before .before .before .before .before .before .before .before .before .before .loop .inv .1)
 
 returns : tie.Need-returns Inv-loop μ-loop
-returns c = rw (c .ran .ensures) ((λ x. laws.loop-stops (c .before .before .before .before .before .before .before .before .before .before .before .before .before .before .before .before .loop .inv .2) (omega arith) (c .before .before .before .before .before .before .before .before .before .before .take-choice .ensures .1 .1) _ (c .before .before .before .before .before .before .before .before .before .before .before .before .before .wide .ensures) (c .before .before .before .before .before .before .before .before .before .before .take-choice .ensures .0) _ (c .before .before .next .given .1) x, (omega arith, omega (arith, c .before .before .before .before .before .before .before .before .before .before .before .before .before .before .before .before .loop .inv .2 .fewer, c .before .before .before .before .before .before .before .before .before .before .take-choice .ensures .1 .1))))
+returns c = rw (c .ran .ensures) ((λ x. laws.loop-stops (c .before .before .before .before .before .before .before .before .before .before .before .before .before .before .before .loop .inv .2) (omega arith) (c .before .before .before .before .before .before .before .before .before .take-choice .ensures .1 .1) _ (c .before .before .before .before .before .before .before .before .before .before .before .before .wide .ensures) (c .before .before .before .before .before .before .before .before .before .take-choice .ensures .0) _ (c .before .before .next .given .1) x, (omega arith, omega (arith, c .before .before .before .before .before .before .before .before .before .before .before .before .before .before .before .loop .inv .2 .fewer, c .before .before .before .before .before .before .before .before .before .take-choice .ensures .1 .1))))
 
 loop-again : tie.Need-loop-again Inv-loop μ-loop
-loop-again c = (c .before .before .before .before .before .before .before .before .take-choice .ensures .1 .0 ∙ c .before .before .before .before .before .before .before .before .before .before .before .before .before .before .loop .inv .0, omega (arith, c .before .before .before .before .before .before .before .before .before .before .before .before .before .before .loop .inv .1), laws.loop-more (c .before .before .before .before .before .before .before .before .before .before .before .before .before .before .loop .inv .2) (omega arith) (c .before .before .before .before .before .before .before .before .take-choice .ensures .1 .1) _ (c .before .before .before .before .before .before .before .before .before .before .before .wide .ensures) (c .before .before .before .before .before .before .before .before .take-choice .ensures .0) (c .enum-told .given .1))
+loop-again c = (c .before .before .before .before .before .before .before .take-choice .ensures .1 .0 ∙ c .before .before .before .before .before .before .before .before .before .before .before .before .before .loop .inv .0, omega (arith, c .before .before .before .before .before .before .before .before .before .before .before .before .before .loop .inv .1), laws.loop-more (c .before .before .before .before .before .before .before .before .before .before .before .before .before .loop .inv .2) (omega arith) (c .before .before .before .before .before .before .before .take-choice .ensures .1 .1) _ (c .before .before .before .before .before .before .before .before .before .before .wide .ensures) (c .before .before .before .before .before .before .before .take-choice .ensures .0) (c .enum-told .given .1))
 
 same-length-3 : tie.Need-same-length-3 Inv-loop μ-loop
 same-length-3 c = ap length (c .before .before .loop .inv .0)

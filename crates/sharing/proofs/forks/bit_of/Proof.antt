@@ -1,17 +1,17 @@
 use native.Mathlib.Omega.{arith}
 use borrow.Author.Needs.{needs}
-use Rattle.sharing.proofs.MaskLaws.{mask-outside, mask-inside}
+use Rattle.sharing.proofs.MaskLaws.{rank-outside, rank-inside}
 use Rattle.sharing.proofs.forks.bit_of.Statement.{statement}
 use Rattle.sharing.proofs.forks.bit_of.Tie as tie
 
 returns : tie.Need-returns
-returns c = mask-outside _ _ (λ k h e. omega arith)
+returns c = rank-outside _ _ (λ k h e. omega arith)
 
 returns-2 : tie.Need-returns-2
-returns-2 c = mask-outside _ _ (λ k h e. omega arith)
+returns-2 c = rank-outside _ _ (λ k h e. omega arith)
 
 returns-3 : tie.Need-returns-3
-returns-3 c = mask-inside _ _ (c .before .if1 .left) (c .if2 .left)
+returns-3 c = rank-inside _ _ (c .before .if1 .left) (c .if2 .left)
 
 pub bit-of-spec : {M : Type 1} → statement M
-bit-of-spec = tie.close (tie.spec returns returns-2 (λ c. search needs) returns-3)
+bit-of-spec = tie.close (tie.spec returns returns-2 (λ c. search needs) (λ c. search needs) returns-3)

@@ -1,54 +1,56 @@
-use Prim.Native.Nat.{_-_, _<_}
 use mathlib.Core.Path.{sym, _∙_}
 use native.Mathlib.Omega.{arith}
-use lib.ListN.{length, length-set}
+use lib.ListN.{length-set}
 use borrow.Author.Needs.{needs}
-use Rattle.sharing.proofs.SpanLaws.{SpanTo, span-none, span-ahead, span-within, span-step}
+use Rattle.script.specs.declared.Section.the-variants.{Nodes as nodes}
+use Rattle.sharing.proofs.SpanLaws.{SpanTo, span-none, span-end, span-ahead, span-step}
 use Rattle.sharing.proofs.forks.fill_span.Statement.{statement}
 use Rattle.sharing.proofs.forks.fill_span.Tie as tie
 
 abbrev Inv-loop : tie.InvT-loop
-Inv-loop s start masks₀ forks₀ n₀ masks forks n = SpanTo s start masks forks n
+Inv-loop s start masks₀ facts₀ n₀ masks facts n = SpanTo s start masks facts₀ facts n
 
 abbrev μ-loop : tie.MeasureT-loop
-μ-loop s start masks₀ forks₀ n₀ masks forks n = n
+μ-loop s start masks₀ facts₀ n₀ masks facts n = n
 
 loop-holds : tie.Need-loop-holds Inv-loop μ-loop
-loop-holds c = span-none _ _ _ _ _ (c .count-of .ensures .0) (c .before .before .before .before .pre .1) (c .before .before .before .before .pre .2) (c .before .before .before .before .pre .3)
-
--- The node of a turn has its places in both tables.
-inside : (c : tie.In-loop Inv-loop μ-loop) → (c .before .loop .n - 1 < length (c .before .loop .masks)) × (c .before .loop .n - 1 < length (c .before .loop .forks))
-inside c = span-within _ (c .before .before .before .before .before .before .pre .0) _ _ _ _ _ (c .before .loop .inv) (omega arith)
+loop-holds c = span-none _ _ _ _ _ (c .count-of .ensures .0) (c .before .before .before .before .pre .1) (c .before .before .before .before .pre .3)
 
 mask-of-requires : tie.Need-mask-of-requires Inv-loop μ-loop
-mask-of-requires c κs = span-ahead _ (c .before .before .before .before .before .before .before .pre .0) _ _ (c .before .before .loop .forks) _ _ (c .before .before .loop .inv) (omega arith)
+mask-of-requires c κs = span-ahead _ (c .before .before .before .before .before .before .before .before .pre .0) _ _ _ _ (c .before .before .before .before .before .before .before .before .pre .2) _ _ (c .before .before .before .loop .inv) (omega arith)
 
 mul-masks : tie.Need-mul-masks Inv-loop μ-loop
-mul-masks c = omega (arith, inside (c .before .before) .0, c .before .before .before .loop .inv .masks-size)
+mul-masks c = omega (arith, c .before .before .before .before .loop .inv .within, c .before .before .before .before .before .before .before .before .before .pre .0 .counts-are .within nodes)
 
 slice-write-masks : tie.Need-slice-write-masks Inv-loop μ-loop
-slice-write-masks c = inside (c .before .before) .0
+slice-write-masks c = omega (arith, c .before .before .before .before .loop .inv .within, c .before .before .before .before .before .before .before .before .before .pre .0 .counts-are .within nodes, c .before .before .before .before .loop .inv .masks-size)
+
+mul-mark-of : tie.Need-mul-mark-of Inv-loop μ-loop
+mul-mark-of c = omega (arith, c .before .before .before .before .before .loop .inv .within, c .before .before .before .before .before .before .before .before .before .before .pre .0 .counts-are .within nodes)
 
 slice-read-mark-of : tie.Need-slice-read-mark-of Inv-loop μ-loop
-slice-read-mark-of c = inside (c .before .before .before .before) .1
+slice-read-mark-of c = omega (arith, c .before .before .before .before .before .before .loop .inv .within, c .before .before .before .before .before .before .before .before .before .before .before .pre .0 .counts-are .within nodes, c .before .before .before .before .before .before .loop .inv .like .size, c .before .before .before .before .before .before .before .before .before .before .before .pre .2 .1 .size)
 
 mark-of-requires : tie.Need-mark-of-requires Inv-loop μ-loop
-mark-of-requires c κs = (c .before .before .before .before .before .before .before .before .before .before .pre .0, omega (arith, c .before .before .before .before .before .loop .inv .within), simp length-set (c .before .before .before .before .before .loop .inv .masks-size))
+mark-of-requires c κs = (c .before .before .before .before .before .before .before .before .before .before .before .pre .0, omega (arith, c .before .before .before .before .before .before .loop .inv .within), simp length-set (c .before .before .before .before .before .before .loop .inv .masks-size))
 
-slice-write-forks : tie.Need-slice-write-forks Inv-loop μ-loop
-slice-write-forks c = inside (c .before .before .before .before .before) .1
+mul-facts : tie.Need-mul-facts Inv-loop μ-loop
+mul-facts c = omega (arith, c .before .before .before .before .before .before .before .loop .inv .within, c .before .before .before .before .before .before .before .before .before .before .before .before .pre .0 .counts-are .within nodes)
+
+slice-write-facts : tie.Need-slice-write-facts Inv-loop μ-loop
+slice-write-facts c = omega (arith, c .before .before .before .before .before .before .before .loop .inv .within, c .before .before .before .before .before .before .before .before .before .before .before .before .pre .0 .counts-are .within nodes, c .before .before .before .before .before .before .before .loop .inv .like .size, c .before .before .before .before .before .before .before .before .before .before .before .before .pre .2 .1 .size)
 
 loop-again : tie.Need-loop-again Inv-loop μ-loop
-loop-again c = span-step _ (c .before .before .before .before .before .before .before .before .before .before .before .pre .0) _ _ _ _ _ (c .before .before .before .before .before .before .loop .inv) (omega arith) _ _ (c .before .before .before .mask-of .ensures) (c .mark-of .ensures)
+loop-again c = span-step _ (c .before .before .before .before .before .before .before .before .before .before .before .before .pre .0) _ _ _ _ (c .before .before .before .before .before .before .before .before .before .before .before .before .pre .2) _ _ (c .before .before .before .before .before .before .before .loop .inv) (omega arith) _ _ (c .before .before .before .mask-of .ensures) (c .mark-of .ensures .0) (c .mark-of .ensures .1)
 
 same-length : tie.Need-same-length Inv-loop μ-loop
 same-length c = c .before .loop .inv .masks-size ∙ sym (c .before .before .before .before .before .before .pre .1)
 
 same-length-2 : tie.Need-same-length-2 Inv-loop μ-loop
-same-length-2 c = c .before .loop .inv .forks-size ∙ sym (c .before .before .before .before .before .before .pre .2)
+same-length-2 c = c .before .loop .inv .like .size
 
 returns : tie.Need-returns Inv-loop μ-loop
-returns c = λ i b h. c .before .loop .inv .after i (omega arith) h
+returns c = span-end _ _ _ _ _ _ (c .before .loop .inv) (c .loop-test .left)
 
 pub fill-span-spec : {M : Type 1} → statement M
 fill-span-spec =
@@ -62,9 +64,11 @@ fill-span-spec =
     mask-of-requires
     mul-masks
     slice-write-masks
+    mul-mark-of
     slice-read-mark-of
     mark-of-requires
-    slice-write-forks
+    mul-facts
+    slice-write-facts
     (λ c. omega arith)
     loop-again
     same-length

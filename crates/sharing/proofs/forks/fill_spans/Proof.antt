@@ -2,45 +2,39 @@ use Prim.Native.Nat.{_-_}
 use mathlib.Core.Path.{_≡_, sym, _∙_}
 use native.Mathlib.Omega.{arith}
 use lib.ListN.{length}
-use borrow.Author.Needs.{needs}
 use Rattle.limits.specs.Limits.{NODES}
-use Rattle.script.specs.Section.{countOf}
-use Rattle.script.specs.declared.Section.the-variants.{Nodes as nodes}
-use Rattle.sharing.specs.Free.{NAMES, Along, ForkMark}
-use Rattle.sharing.proofs.SpanLaws.{words-of, marked-next, marked-all}
+use Rattle.sharing.specs.Free.{ForkMarks, Like}
+use Rattle.sharing.proofs.LikeLaws.{like-self, like-then, ranked-like}
+use Rattle.sharing.proofs.SpanLaws.{marks-all}
 use Rattle.sharing.proofs.forks.fill_spans.Statement.{statement}
 use Rattle.sharing.proofs.forks.fill_spans.Tie as tie
 
 abbrev Inv-loop : tie.InvT-loop
-Inv-loop s masks₀ forks₀ start₀ masks forks start = (length masks ≡ NODES) × (length forks ≡ NODES) × Along (ForkMark s start) forks 0 (countOf s nodes)
+Inv-loop s count masks₀ facts₀ start₀ masks facts start = (length masks ≡ NODES) × Like s facts₀ facts × ForkMarks s start facts
 
 abbrev μ-loop : tie.MeasureT-loop
-μ-loop s masks₀ forks₀ start₀ masks forks start = NAMES - start
+μ-loop s count masks₀ facts₀ start₀ masks facts start = count - start
 
 loop-holds : tie.Need-loop-holds Inv-loop μ-loop
-loop-holds c =
-    let back = c .before .before .before .before in
-    (back .pre .1, back .pre .2, marked-next _ (back .pre .0) _ _ (back .args .forks .now) (c .next-name .ensures) (back .pre .3))
+loop-holds c = (c .before .before .before .pre .1, like-self, c .before .before .before .pre .4)
 
 fill-span-requires : tie.Need-fill-span-requires Inv-loop μ-loop
-fill-span-requires c κs = (c .before .before .before .before .before .before .before .before .pre .0, c .before .before .before .loop .inv .0, c .before .before .before .loop .inv .1, c .before .before .before .loop .inv .2)
+fill-span-requires c κs = (c .before .before .before .before .before .before .before .pre .0, c .before .before .before .loop .inv .0, (_, ranked-like (c .before .before .before .loop .inv .1) (c .before .before .before .before .before .before .before .pre .2)), c .before .before .before .loop .inv .2)
 
-loop-less : tie.Need-loop-less Inv-loop μ-loop
-loop-less c = omega (arith, c .next-name2 .ensures .up)
+add-start : tie.Need-add-start Inv-loop μ-loop
+add-start c = omega (arith, c .before .before .before .before .before .before .before .before .before .before .before .before .pre .2 .few)
 
 loop-again : tie.Need-loop-again Inv-loop μ-loop
-loop-again c =
-    let back = c .before .before .before .before .before in
-    (back .fill-span .kept .1 .1 .0 ∙ back .before .before .before .before .loop .inv .0, back .fill-span .kept .1 .1 .1 .0 ∙ back .before .before .before .before .loop .inv .1, marked-next _ (back .before .before .before .before .before .before .before .before .before .pre .0) _ _ (back .fill-span .last .1 .1 .1 .0) (c .next-name2 .ensures) (back .fill-span .ensures))
+loop-again c = (c .before .before .before .before .fill-span .kept .1 .1 .0 ∙ c .before .before .before .before .before .before .before .before .loop .inv .0, like-then (c .before .before .before .before .before .before .before .before .loop .inv .1) (c .before .before .before .before .fill-span .ensures .0), c .before .before .before .before .fill-span .ensures .1)
 
 same-length : tie.Need-same-length Inv-loop μ-loop
-same-length c = c .before .loop .inv .0 ∙ sym (c .before .before .before .before .before .before .pre .1)
+same-length c = c .before .loop .inv .0 ∙ sym (c .before .before .before .before .before .pre .1)
 
 same-length-2 : tie.Need-same-length-2 Inv-loop μ-loop
-same-length-2 c = c .before .loop .inv .1 ∙ sym (c .before .before .before .before .before .before .pre .2)
+same-length-2 c = c .before .loop .inv .1 .size
 
 returns : tie.Need-returns Inv-loop μ-loop
-returns c = marked-all _ (c .before .before .before .before .before .before .pre .0) _ _ (c .loop-test .left) (c .before .loop .inv .1) (words-of _ _ _ (c .before .before .next-name .ensures)) (c .before .loop .inv .2)
+returns c = marks-all _ (c .before .before .before .before .before .pre .0) _ _ _ _ (c .before .loop .inv .1) (c .before .before .before .before .before .pre .2) (c .before .before .before .before .before .pre .3) (c .loop-test .left) (c .before .loop .inv .2)
 
 pub fill-spans-spec : {M : Type 1} → statement M
 fill-spans-spec =
@@ -48,12 +42,10 @@ fill-spans-spec =
     (tie.spec
     Inv-loop
     μ-loop
-    (λ c κs. search needs)
     loop-holds
     fill-span-requires
+    add-start
     (λ c. omega arith)
-    (λ c κs. search needs)
-    loop-less
     loop-again
     same-length
     same-length-2

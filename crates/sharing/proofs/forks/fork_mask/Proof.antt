@@ -7,18 +7,18 @@ use Rattle.sharing.proofs.forks.fork_mask.Tie as tie
 
 part-mask-requires : tie.Need-part-mask-requires
 unfolding kindOf
-part-mask-requires c κs = (c .before .before .pre .0 .layout, c .before .before .pre .0 .there, omega arith, part-within _ (c .before .before .pre .0 .layout) (c .before .before .args .masks .now) _ _ (c .before .before .pre .0 .size) (c .before .before .pre .0 .there) (part-of _ _ 8 _ (c .before .before .pre .1) first))
+part-mask-requires c κs = (c .before .before .pre .0, c .before .before .pre .1, omega arith, part-within _ (c .before .before .pre .0) (c .before .before .args .masks .now) _ _ (c .before .before .pre .3) (c .before .before .pre .1) (part-of _ _ 8 _ (c .before .before .pre .2) first))
 
 part-mask-requires-2 : tie.Need-part-mask-requires-2
 unfolding kindOf
-part-mask-requires-2 c κs = (c .before .before .before .pre .0 .layout, c .before .before .before .pre .0 .there, omega arith, part-within _ (c .before .before .before .pre .0 .layout) (c .before .before .before .args .masks .now) _ _ (c .before .before .before .pre .0 .size) (c .before .before .before .pre .0 .there) (part-of _ _ 8 _ (c .before .before .before .pre .1) second))
+part-mask-requires-2 c κs = (c .before .before .before .pre .0, c .before .before .before .pre .1, omega arith, part-within _ (c .before .before .before .pre .0) (c .before .before .before .args .masks .now) _ _ (c .before .before .before .pre .3) (c .before .before .before .pre .1) (part-of _ _ 8 _ (c .before .before .before .pre .2) second))
 
 part-mask-requires-3 : tie.Need-part-mask-requires-3
 unfolding kindOf
-part-mask-requires-3 c κs = (c .before .before .before .before .pre .0 .layout, c .before .before .before .before .pre .0 .there, omega arith, part-within _ (c .before .before .before .before .pre .0 .layout) (c .before .before .before .before .args .masks .now) _ _ (c .before .before .before .before .pre .0 .size) (c .before .before .before .before .pre .0 .there) (part-of _ _ 8 _ (c .before .before .before .before .pre .1) third))
+part-mask-requires-3 c κs = (c .before .before .before .before .pre .0, c .before .before .before .before .pre .1, omega arith, part-within _ (c .before .before .before .before .pre .0) (c .before .before .before .before .args .masks .now) _ _ (c .before .before .before .before .pre .3) (c .before .before .before .before .pre .1) (part-of _ _ 8 _ (c .before .before .before .before .pre .2) third))
 
 returns : tie.Need-returns
-returns c = mask-fork _ _ _ _ (c .before .before .before .before .before .pre .0) _ _ _ (c .before .before .before .before .before .pre .1) (c .before .before .part-mask .ensures) (c .before .part-mask2 .ensures) (c .part-mask3 .ensures)
+returns c = λ facts start h. mask-fork _ facts _ start _ h _ _ _ (c .before .before .before .before .before .pre .2) (c .before .before .part-mask .ensures) (c .before .part-mask2 .ensures) (c .part-mask3 .ensures)
 
 pub fork-mask-spec : {M : Type 1} → statement M
 fork-mask-spec =

@@ -1,62 +1,65 @@
-use mathlib.Core.Path.{sym, _∙_}
 use native.Mathlib.Omega.{arith}
-use borrow.Author.Needs.{needs}
+use mathlib.Core.Path.{refl, sym, _∙_}
 use Rattle.script.specs.Reading.{kindOf}
 use Rattle.script.proofs.Reading.{first}
-use Rattle.typing.specs.Typing.{fv}
-use Rattle.sharing.proofs.FreeLaws.{part-of, part-within, mask-is, mask-cast, mask-rest}
+use Rattle.sharing.proofs.FreeLaws.{naming, part-of, part-within, fact-within, mask-var, mask-select, mask-update, mask-call, mask-lock, mask-cast, mask-rest}
+use borrow.Author.Needs.{needs}
 use Rattle.sharing.proofs.forks.mask_of.Statement.{statement}
 use Rattle.sharing.proofs.forks.mask_of.Tie as tie
 
+name-mask-requires : tie.Need-name-mask-requires
+name-mask-requires c κs = fact-within _ _ _ _ _ (c .before .before .before .before .before .pre)
+
+name-mask-requires-2 : tie.Need-name-mask-requires-2
+name-mask-requires-2 c κs = fact-within _ _ _ _ _ (c .before .before .before .before .before .pre)
+
 use-mask-requires : tie.Need-use-mask-requires
 unfolding kindOf
-use-mask-requires c κs = (c .before .before .before .before .pre, omega arith, part-of _ _ 3 _ (sym (c .before .node-index .ensures .0) ∙ c .match .keys3) first)
+use-mask-requires c κs = ((c .before .before .before .before .before .pre, naming _ _ 3 (sym (c .before .node-index .ensures .0) ∙ c .match .keys3) refl (c .before .before .before .before .before .pre .there)), (omega arith, part-of _ _ 3 _ (sym (c .before .node-index .ensures .0) ∙ c .match .keys3) first))
 
 use-mask-requires-2 : tie.Need-use-mask-requires-2
 unfolding kindOf
-use-mask-requires-2 c κs = (c .before .before .before .before .pre, omega arith, part-of _ _ 4 _ (sym (c .before .node-index .ensures .0) ∙ c .match .keys4) first)
+use-mask-requires-2 c κs = ((c .before .before .before .before .before .pre, naming _ _ 4 (sym (c .before .node-index .ensures .0) ∙ c .match .keys4) refl (c .before .before .before .before .before .pre .there)), (omega arith, part-of _ _ 4 _ (sym (c .before .node-index .ensures .0) ∙ c .match .keys4) first))
 
 part-mask-requires : tie.Need-part-mask-requires
 unfolding kindOf
-part-mask-requires c κs = (c .before .before .before .before .pre .layout, c .before .before .before .before .pre .there, omega arith, part-within _ (c .before .before .before .before .pre .layout) (c .before .before .before .before .args .masks .now) _ _ (c .before .before .before .before .pre .size) (c .before .before .before .before .pre .there) (part-of _ _ 7 _ (sym (c .before .node-index .ensures .0) ∙ c .match .keys6) first))
+part-mask-requires c κs = (c .before .before .before .before .before .pre .layout, c .before .before .before .before .before .pre .there, omega arith, part-within _ (c .before .before .before .before .before .pre .layout) (c .before .before .before .before .before .args .masks .now) _ _ (c .before .before .before .before .before .pre .size) (c .before .before .before .before .before .pre .there) (part-of _ _ 7 _ (sym (c .before .node-index .ensures .0) ∙ c .match .keys6) first))
 
 use-mask-requires-3 : tie.Need-use-mask-requires-3
 unfolding kindOf
-use-mask-requires-3 c κs = (c .before .before .before .before .pre, omega arith, part-of _ _ 9 _ (sym (c .before .node-index .ensures .0) ∙ c .match .keys8) first)
+use-mask-requires-3 c κs = ((c .before .before .before .before .before .pre, naming _ _ 9 (sym (c .before .node-index .ensures .0) ∙ c .match .keys8) refl (c .before .before .before .before .before .pre .there)), (omega arith, part-of _ _ 9 _ (sym (c .before .node-index .ensures .0) ∙ c .match .keys8) first))
 
 returns : tie.Need-returns
-unfolding kindOf fv
-returns c = mask-is _ _ _ _ (c .before .before .before .before .before .pre) 1 _ (sym (c .before .before .node-index .ensures .0) ∙ c .before .match .keys1) (c .name-mask .ensures)
+returns c = mask-var _ _ _ _ _ (c .before .before .before .before .before .before .pre) _ (sym (c .before .before .node-index .ensures .0) ∙ c .before .match .keys1) (c .name-mask .ensures)
 
 returns-2 : tie.Need-returns-2
-unfolding kindOf fv
-returns-2 c = mask-is _ _ _ _ (c .before .before .before .before .before .pre) 2 _ (sym (c .before .before .node-index .ensures .0) ∙ c .before .match .keys2) (c .name-mask2 .ensures)
+returns-2 c = mask-select _ _ _ _ _ (c .before .before .before .before .before .before .pre) _ (sym (c .before .before .node-index .ensures .0) ∙ c .before .match .keys2) (c .name-mask2 .ensures)
 
 returns-3 : tie.Need-returns-3
-unfolding kindOf fv
-returns-3 c = mask-is _ _ _ _ (c .before .before .before .before .before .pre) 3 _ (sym (c .before .before .node-index .ensures .0) ∙ c .before .match .keys3) (c .use-mask .ensures)
+returns-3 c = mask-update _ _ _ _ _ (c .before .before .before .before .before .before .pre) _ (sym (c .before .before .node-index .ensures .0) ∙ c .before .match .keys3) (c .use-mask .ensures)
 
 returns-4 : tie.Need-returns-4
-unfolding kindOf fv
-returns-4 c = mask-is _ _ _ _ (c .before .before .before .before .before .pre) 4 _ (sym (c .before .before .node-index .ensures .0) ∙ c .before .match .keys4) (c .use-mask2 .ensures)
+returns-4 c = mask-call _ _ _ _ _ (c .before .before .before .before .before .before .pre) _ (sym (c .before .before .node-index .ensures .0) ∙ c .before .match .keys4) (c .use-mask2 .ensures)
 
 returns-6 : tie.Need-returns-6
-returns-6 c = mask-cast _ _ _ _ (c .before .before .before .before .before .pre) _ (sym (c .before .before .node-index .ensures .0) ∙ c .before .match .keys6) (c .part-mask .ensures)
+returns-6 c = mask-cast _ _ _ _ _ (c .before .before .before .before .before .before .pre) _ (sym (c .before .before .node-index .ensures .0) ∙ c .before .match .keys6) (c .part-mask .ensures)
+
+returns-7 : tie.Need-returns-7
+returns-7 c = c .fork-mask .ensures _ _ (c .before .before .before .before .before .before .pre)
 
 returns-8 : tie.Need-returns-8
-unfolding kindOf fv
-returns-8 c = mask-is _ _ _ _ (c .before .before .before .before .before .pre) 9 _ (sym (c .before .before .node-index .ensures .0) ∙ c .before .match .keys8) (c .use-mask3 .ensures)
+returns-8 c = mask-lock _ _ _ _ _ (c .before .before .before .before .before .before .pre) _ (sym (c .before .before .node-index .ensures .0) ∙ c .before .match .keys8) (c .use-mask3 .ensures)
 
 returns-9 : tie.Need-returns-9
-returns-9 c = let r = c .match .rest in mask-rest _ _ _ _ (c .before .before .before .before .pre) _ (c .before .node-index .ensures .0) (r .0 .0 .0 .0 .0 .0 .0 .1) (r .0 .0 .0 .0 .0 .0 .1) (r .0 .0 .0 .0 .0 .1) (r .0 .0 .0 .0 .1) (r .0 .0 .0 .1) (r .0 .0 .1) (r .0 .1) (r .1)
+returns-9 c = let r = c .match .rest in mask-rest _ _ _ _ _ (c .before .before .before .before .before .pre) _ (c .before .node-index .ensures .0) (r .0 .0 .0 .0 .0 .0 .0 .1) (r .0 .0 .0 .0 .0 .0 .1) (r .0 .0 .0 .0 .0 .1) (r .0 .0 .0 .0 .1) (r .0 .0 .0 .1) (r .0 .0 .1) (r .0 .1) (r .1)
 
 pub mask-of-spec : {M : Type 1} → statement M
 mask-of-spec =
     tie.close
     (tie.spec
     (λ c κs. search needs)
-    (λ c κs. search needs)
-    (λ c κs. search needs)
+    name-mask-requires
+    name-mask-requires-2
     use-mask-requires
     use-mask-requires-2
     (λ c κs. search needs)
@@ -69,6 +72,6 @@ mask-of-spec =
     returns-4
     (λ c. search needs)
     returns-6
-    (λ c. search needs)
+    returns-7
     returns-8
     returns-9)

@@ -1,9 +1,11 @@
+use native.Mathlib.Omega.{arith}
 use borrow.Author.Needs.{needs}
 use Rattle.sharing.proofs.forks.name_mask.Statement.{statement}
 use Rattle.sharing.proofs.forks.name_mask.Tie as tie
 
-returns : tie.Need-returns
-returns c = rw (← c .before .node-index .ensures .0) (c .bit-of .ensures)
+cast-rank : tie.Need-cast-rank
+cast-rank c = omega (arith, c .before .shared-slice-known .given (c .before .before .args .n))
 
 pub name-mask-spec : {M : Type 1} → statement M
-name-mask-spec = tie.close (tie.spec (λ c κs. search needs) (λ c κs. search needs) returns)
+name-mask-spec =
+    tie.close (tie.spec (λ c. search needs) (λ c. search needs) cast-rank (λ c κs. search needs) (λ c. search needs))

@@ -1,25 +1,27 @@
 use native.Mathlib.Omega.{arith}
-use Rattle.state.proofs.Locks.{sight-long, sight-inside, sight-frames, held}
+use Rattle.block.specs.declared.Area.the-variants.{Positions}
+use Rattle.state.proofs.Seeing.{seen-length, seen-few, seen-inside, seen-room}
+use Rattle.state.proofs.Locks.{sight-frames, held}
 use Rattle.state.proofs.held.holds.Statement.{statement}
 use Rattle.state.proofs.held.holds.Tie as tie
 
 leftmost-from-requires : tie.Need-leftmost-from-requires
-leftmost-from-requires c κs = let l = sight-inside _ _ _ (c .before .pre) in (c .before .pre .seen .tidy, omega (arith, l))
+leftmost-from-requires c κs = (seen-length (c .before .pre .seen), omega (arith, seen-inside (c .before .pre .seen)), seen-few (c .before .pre .seen) Positions)
 
 frames-before-requires : tie.Need-frames-before-requires
-frames-before-requires c κs = let l = sight-inside _ _ _ (c .before .before .pre) in (c .before .before .pre .seen .tidy, omega (arith, l, c .leftmost-from .ensures .inside))
+frames-before-requires c κs = (seen-length (c .before .before .pre .seen), omega (arith, seen-inside (c .before .before .pre .seen), c .leftmost-from .ensures .inside), seen-few (c .before .before .pre .seen) Positions)
 
 add-frames-before : tie.Need-add-frames-before
-add-frames-before c = let l = sight-inside _ _ _ (c .before .before .before .pre) in omega (arith, l, c .before .before .before .pre .seen .tidy .small)
+add-frames-before c = omega (arith, seen-room (c .before .before .before .pre .seen))
 
 frames-before-requires-2 : tie.Need-frames-before-requires-2
-frames-before-requires-2 c κs = let l = sight-inside _ _ _ (c .before .before .before .pre) in (c .before .before .before .pre .seen .tidy, omega (arith, l))
+frames-before-requires-2 c κs = (seen-length (c .before .before .before .pre .seen), omega (arith, seen-inside (c .before .before .before .pre .seen)), seen-few (c .before .before .before .pre .seen) Positions)
 
 lock-within-requires : tie.Need-lock-within-requires
-lock-within-requires c κs = (sight-long _ _ _ (c .before .before .before .before .pre), omega (arith, sight-frames _ _ _ (c .before .before .before .before .pre), c .frames-before2 .ensures))
+lock-within-requires c κs = (seen-length (c .before .before .before .before .pre .seen), omega (arith, sight-frames (c .before .before .before .before .pre), c .frames-before2 .ensures))
 
 returns : tie.Need-returns
-returns c = held _ _ _ _ _ _ _ _ (c .before .before .before .leftmost-from .ensures) (c .before .before .frames-before .ensures) (c .before .frames-before2 .ensures) (c .lock-within .ensures)
+returns c = held _ _ _ _ _ _ _ (c .before .before .before .leftmost-from .ensures) (c .before .before .frames-before .ensures) (c .before .frames-before2 .ensures) (c .lock-within .ensures)
 
 pub holds-spec : {M : Type 1} → statement M
 holds-spec =

@@ -1,44 +1,45 @@
 use native.Mathlib.Omega.{arith}
 use borrow.Author.Needs.{needs}
-use Rattle.state.proofs.Seeing.{seen-length, seen-inside, waiting-few, end-inside}
+use mathlib.Core.Path.{ap}
+use Prim.Native.Nat.{_+_}
+use Rattle.block.specs.declared.Area.the-variants.{Positions}
+use Rattle.state.proofs.Seeing.{seen-length, seen-few, seen-inside, seen-room, waiting-few}
 use Rattle.state.proofs.Moves.{pushed}
 use Rattle.state.proofs.part.push.Statement.{statement}
 use Rattle.state.proofs.part.push.Tie as tie
 
-mul-old : tie.Need-mul-old
-mul-old c = omega (arith, seen-inside (c .before .pre .0 .seen), c .before .pre .0 .seen .tidy .small)
-
-element-copy-out-old : tie.Need-element-copy-out-old
-element-copy-out-old c = omega (arith, seen-inside (c .before .pre .0 .seen), c .before .pre .0 .seen .tidy .small)
-
-add-frames-before : tie.Need-add-frames-before
-add-frames-before c = omega (arith, seen-inside (c .before .before .pre .0 .seen), c .before .before .pre .0 .seen .tidy .small)
-
 frames-before-requires : tie.Need-frames-before-requires
-frames-before-requires c κs = (c .before .before .pre .0 .seen .tidy, omega (arith, seen-inside (c .before .before .pre .0 .seen)))
+frames-before-requires c κs = (seen-length (c .before .before .before .before .pre .0 .seen), omega (arith, seen-inside (c .before .before .before .before .pre .0 .seen)), seen-few (c .before .before .before .before .pre .0 .seen) Positions)
+
+add-at : tie.Need-add-at
+add-at c = omega (arith, waiting-few (c .before .before .before .before .before .pre .0 .seen), c .frames-before .ensures, c .before .before .frames-at .ensures, c .before .before .before .before .before .pre .1)
 
 insert-frame-requires : tie.Need-insert-frame-requires
-insert-frame-requires c κs = (seen-length (c .before .before .before .before .pre .0 .seen), end-inside (c .before .before .before .before .pre .0 .seen) _ (c .before .frames-before .ensures), c .before .before .before .before .pre .1)
+insert-frame-requires c κs = (seen-length (c .before .before .before .before .before .before .pre .0 .seen), omega (arith, waiting-few (c .before .before .before .before .before .before .pre .0 .seen), c .before .frames-before .ensures, c .before .before .before .frames-at .ensures), c .before .before .before .before .before .before .pre .1)
 
-add-t19 : tie.Need-add-t19
-add-t19 c = omega (arith, waiting-few (c .before .before .before .before .before .before .before .before .pre .0 .seen), c .before .before .before .before .before .before .before .before .pre .1)
+add-t20 : tie.Need-add-t20
+add-t20 c = omega (arith, waiting-few (c .before .before .before .before .before .before .before .before .before .before .pre .0 .seen), c .before .before .before .before .before .before .before .frames-at .ensures, c .before .before .before .before .before .before .before .before .before .before .pre .1)
 
-placed-requires : tie.Need-placed-requires
-placed-requires c κs = (c .before .before .before .before .before .before .before .before .pre .0 .seen .tidy, seen-inside (c .before .before .before .before .before .before .before .before .pre .0 .seen))
+put-entry-requires : tie.Need-put-entry-requires
+put-entry-requires c κs = (omega (arith, seen-length (c .before .before .before .before .before .before .before .before .before .before .pre .0 .seen), c .before .before .before .insert-frame .kept .0), seen-room (c .before .before .before .before .before .before .before .before .before .before .pre .0 .seen), omega arith)
+
+same-length : tie.Need-same-length
+same-length c = omega (arith, c .before .before .before .before .before .before .insert-frame .kept .0, c .before .before .put-entry .kept .0)
 
 returns : tie.Need-returns
-returns c = λ x st a₀ e₀ fs s. pushed _ _ _ _ (c .before .before .before .before .before .before .before .before .before .pre .1) (c .before .before .before .before .before .before .frames-before .ensures) (c .before .before .before .before .insert-frame .ensures) (c .placed .ensures) s
+returns c = λ x st a₀ e₀ fs s.
+    pushed _ (c .before .before .before .before .before .before .before .before .before .before .frames-at .result) _ _ _ (c .before .before .before .before .before .before .before .before .before .before .before .before .before .pre .1) (c .before .before .before .before .before .before .before .before .before .before .frames-at .ensures) (ap (λ n. n + c .before .before .before .before .before .before .before .before .before .before .frames-at .result) (c .before .before .before .before .before .before .before .before .frames-before .ensures)) (c .before .before .before .before .before .before .insert-frame .ensures) (c .before .before .put-entry .ensures) s
 
 pub push-spec : {M : Type 1} → statement M
 push-spec =
     tie.close
     (tie.spec
-    mul-old
-    element-copy-out-old
-    add-frames-before
+    (λ c κs. search needs)
     frames-before-requires
-    insert-frame-requires
-    add-t19
-    placed-requires
     (λ c. search needs)
+    add-at
+    insert-frame-requires
+    add-t20
+    put-entry-requires
+    same-length
     returns)

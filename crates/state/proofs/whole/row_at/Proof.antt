@@ -1,19 +1,17 @@
 use native.Mathlib.Omega.{arith}
-use borrow.Author.Needs.{needs}
-use mathlib.Core.Path.{refl}
-use Rattle.state.proofs.Putting.{small-there, row-past, row-there}
+use mathlib.Core.Path.{refl, _∙_}
+use Rattle.state.proofs.Putting.{row-past, row-there}
 use Rattle.state.proofs.whole.row_at.Statement.{statement}
 use Rattle.state.proofs.whole.row_at.Tie as tie
 
 returns : tie.Need-returns
-returns c = (refl, λ t is. row-past _ t is _ (c .if1 .taken))
+returns c = (refl, λ self ts tidy is e x. row-past self tidy ts is _ (omega (arith, c .if1 .taken, e)))
 
 row-of-requires : tie.Need-row-of-requires
-row-of-requires c κs = small-there (c .before .before .args .t1) (c .before .before .args .i) (c .before .before .pre .1) (omega arith)
+row-of-requires c κs = c .before .pre (omega (arith, c .if1 .left))
 
 returns-2 : tie.Need-returns-2
-returns-2 c = (c .row-of .ensures .0, λ t is. row-there _ t is _ _ (omega arith) (c .row-of .ensures .1))
+returns-2 c = (c .row-of .ensures .0, λ self ts tidy is e x. row-there self tidy ts is _ _ (omega (arith, c .before .if1 .left, e)) (λ u k. c .row-of .ensures .1 u (x ∙ k)))
 
 pub row-at-spec : {M : Type 1} → statement M
-row-at-spec =
-    tie.close (tie.spec returns (λ c. search needs) (λ c. search needs) row-of-requires returns-2)
+row-at-spec = tie.close (tie.spec returns row-of-requires returns-2)

@@ -15,11 +15,11 @@ use Rattle.tree.specs.declared.Entry.{Entry}
 use Rattle.tree.proofs.Lists.{fill-turn, fill-length, fill-take, fill-drop, splice-front, splice-middle, splice-back, splice-length, splice-take}
 
 abbrev Inv-loop : tie.InvT-loop
-Inv-loop at old n new es len out₀ m₀ out m =
-    (m ≤ len) × (out ≡ take m (splice es at old (take n new)) ++ replicate (POSITIONS - m) blank)
+Inv-loop at old n self new len out₀ m₀ out m =
+    (m ≤ len) × (out ≡ take m (splice (self .entries) at old (take n new)) ++ replicate (POSITIONS - m) blank)
 
 abbrev μ-loop : tie.MeasureT-loop
-μ-loop at old n new es len out₀ m₀ out m = len - m
+μ-loop at old n self new len out₀ m₀ out m = len - m
 
 loop-holds : tie.Need-loop-holds Inv-loop μ-loop
 loop-holds c = (search needs, refl)
@@ -31,9 +31,9 @@ turn l out out′ m v inv hl hn e g = e ∙ ap (λ (o : List Entry). set o m v) 
 
 loop-again : tie.Need-loop-again Inv-loop μ-loop
 loop-again c =
-    let a = c .before .before .before .before .before .args in
-    let pre = c .before .before .before .before .before .pre in
-    let es = a .self .entries in
+    let a = c .before .before .before .args in
+    let pre = c .before .before .before .pre in
+    let es = a .t1 .entries in
     let new = take (a .n) (a .t4) in
     let l = splice es (a .at) (a .old) new in
     let m = c .before .before .loop .m in
@@ -60,15 +60,15 @@ loop-again c =
 
 returns : tie.Need-returns Inv-loop μ-loop
 returns c =
-    let a = c .before .before .before .before .args in
-    let pre = c .before .before .before .before .pre in
-    let es = a .self .entries in
+    let a = c .before .before .args in
+    let pre = c .before .before .pre in
+    let es = a .t1 .entries in
     let new = take (a .n) (a .t4) in
     let l = splice es (a .at) (a .old) new in
     let m = c .before .loop .m in
     let out = c .before .loop .out in
     let inv = c .before .loop .inv .1 in
-    let len = a .self .len - a .old + a .n in
+    let len = a .t1 .len - a .old + a .n in
     let hm : m ≡ len = omega arith in
     let hn : length new ≡ a .n = length-take-le (a .n) (a .t4) (omega arith) in
     let hl : length l ≡ POSITIONS - a .old + a .n = splice-length es (a .at) (a .old) new (omega arith) ∙ omega arith in
@@ -82,7 +82,7 @@ returns c =
       now =
           ap (λ (o : List Entry). take len o) at-end
           ∙ fill-take l blank len POSITIONS (omega arith)
-          ∙ splice-take es (a .at) (a .old) new (a .self .len) len (omega arith) (omega arith) (omega arith);
+          ∙ splice-take es (a .at) (a .old) new (a .t1 .len) len (omega arith) (omega arith) (omega arith);
     }
 
 pub spliced-spec : {M : Type 1} → statement M

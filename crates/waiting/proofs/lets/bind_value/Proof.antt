@@ -1,27 +1,32 @@
+use native.Mathlib.Omega.{arith}
 use borrow.Author.Needs.{needs}
 use mathlib.Core.Path.{refl}
 use Rattle.machine.specs.Config.{running}
 use Rattle.state.proofs.Seeing.{some-state}
 use Rattle.moves.proofs.Laws.{performs-as}
 use Rattle.waiting.proofs.LetLaws.{bound-more, binds-not, binds-full, binds}
+use Rattle.waiting.proofs.WaitingLaws.{still-waiting}
+use Rattle.moves.specs.Performs.{performs-still, performs-full, performs-moved}
 use Rattle.waiting.proofs.lets.bind_value.Statement.{statement}
 use Rattle.waiting.proofs.lets.bind_value.Tie as tie
 
 returns : tie.Need-returns
-returns c = (λ rest st fs g s. performs-as (binds-not s _ fs (c .before .before .before .before .before .before .before .before .before .before .before .before .before .args .w .value) (c .before .before .before .before .before .before .before .before .before .before .before .before .before .args .w .name) (c .before .before .before .before .before .before .before .before .before .before .before .before .before .args .w .first) (c .before .before .before .before .before .before .before .before .before .before .before .before .before .args .w .body) (c .before .before .before .before .before .before .before .before .before .before .before .before .before .args .w .env) _ (c .before .before .before .before .before .infer-under .ensures .0) (c .before .enum-told .given .1)) (c .stays .ensures _ _ rest), c .before .before .before .before .before .infer-under .ensures .1)
+returns c = (λ rest st fs g s. performs-as (binds-not s _ fs (c .before .before .before .before .before .before .before .before .before .before .before .before .args .w .value) (c .before .before .before .before .before .before .before .before .before .before .before .before .args .w .name) (c .before .before .before .before .before .before .before .before .before .before .before .before .args .w .first) (c .before .before .before .before .before .before .before .before .before .before .before .before .args .w .body) (c .before .before .before .before .before .before .before .before .before .before .before .before .args .w .env) _ (c .before .before .before .before .first-type .ensures .0) (c .enum-told .given .1)) performs-still, c .before .before .before .before .first-type .ensures .1)
 
 returns-2 : tie.Need-returns-2
-returns-2 c = (λ rest st fs g s. performs-as (binds-full s _ fs (c .before .before .before .before .before .before .before .before .before .before .before .before .before .before .before .before .before .args .w .value) (c .before .before .before .before .before .before .before .before .before .before .before .before .before .before .before .before .before .args .w .name) (c .before .before .before .before .before .before .before .before .before .before .before .before .before .before .before .before .before .args .w .first) (c .before .before .before .before .before .before .before .before .before .before .before .before .before .before .before .before .before .args .w .body) (c .before .before .before .before .before .before .before .before .before .before .before .before .before .before .before .before .before .args .w .env) _ (c .before .before .before .before .before .before .before .before .before .infer-under .ensures .0) (c .before .before .before .before .before .first .given .1) (c .before .before .count .ensures .0) (c .before .if1 .taken)) (c .full .ensures _ _ rest), c .before .before .before .before .before .before .before .before .before .infer-under .ensures .1)
+returns-2 c = (λ rest st fs g s. performs-as (binds-full s _ fs (c .before .before .before .before .before .before .before .before .before .before .before .before .before .before .before .before .args .w .value) (c .before .before .before .before .before .before .before .before .before .before .before .before .before .before .before .before .args .w .name) (c .before .before .before .before .before .before .before .before .before .before .before .before .before .before .before .before .args .w .first) (c .before .before .before .before .before .before .before .before .before .before .before .before .before .before .before .before .args .w .body) (c .before .before .before .before .before .before .before .before .before .before .before .before .before .before .before .before .args .w .env) _ (c .before .before .before .before .before .before .before .before .first-type .ensures .0) (c .before .before .before .before .first .given .1) (c .before .count .ensures .0) (c .if1 .taken)) performs-full, c .before .before .before .before .before .before .before .before .first-type .ensures .1)
 
 pop-requires : tie.Need-pop-requires
-pop-requires c κs = (some-state (bound-more _ _ (c .before .before .before .before .before .before .count .ensures .0) (c .before .before .before .before .before .if1 .left) (c .before .before .before .add-binding .ensures) (c .before .before .before .before .before .before .before .before .before .before .before .before .before .before .before .before .before .before .before .before .before .pre .1 .1 .0 .seen)), c .before .before .before .before .before .before .before .before .before .before .before .before .before .before .before .before .before .before .before .before .before .pre .1 .1 .1)
+pop-requires c κs =
+    let now = bound-more _ _ (c .before .before .before .before .before .before .count .ensures .0) (c .before .before .before .before .before .if1 .left) (c .before .before .before .add-binding .ensures) (c .before .before .before .before .before .before .before .before .before .before .before .before .before .before .before .before .before .before .before .before .before .pre .1 .1 .1 .0 .seen) in
+    (some-state now, still-waiting (c .before .before .before .before .before .before .before .before .before .before .before .before .before .before .before .before .before .before .before .before .before .pre .1 .1 .1 .0 .seen) now (c .before .before .before .before .before .before .before .before .before .before .before .before .before .before .before .before .before .before .before .before .before .pre .1 .1 .1 .1), omega arith)
 
 returns-3 : tie.Need-returns-3
 returns-3 c = (
   λ rest st fs g s.
-      performs-as (binds s _ fs (c .before .before .before .before .before .before .before .before .before .before .before .before .before .before .before .before .before .before .before .before .before .before .before .before .before .args .w .value) (c .before .before .before .before .before .before .before .before .before .before .before .before .before .before .before .before .before .before .before .before .before .before .before .before .before .args .w .name) (c .before .before .before .before .before .before .before .before .before .before .before .before .before .before .before .before .before .before .before .before .before .before .before .before .before .args .w .first) (c .before .before .before .before .before .before .before .before .before .before .before .before .before .before .before .before .before .before .before .before .before .before .before .before .before .args .w .body) (c .before .before .before .before .before .before .before .before .before .before .before .before .before .before .before .before .before .before .before .before .before .before .before .before .before .args .w .env) _ (c .before .before .before .before .before .before .before .before .before .before .before .before .before .before .before .before .before .infer-under .ensures .0) _ _ (c .before .before .before .before .before .before .before .before .before .before .before .before .before .first .given .1) (c .before .before .before .before .before .before .before .before .before .before .count .ensures .0) (c .before .before .before .before .before .before .before .before .before .if1 .left))
-      (c .moved .ensures _ _ _ _ rest _ _ (c .before .before .before .pop .ensures rest _ _ g fs (running _ _ fs) refl refl refl (bound-more _ _ (c .before .before .before .before .before .before .before .before .before .before .count .ensures .0) (c .before .before .before .before .before .before .before .before .before .if1 .left) (c .before .before .before .before .before .before .before .add-binding .ensures) s))),
-  c .before .before .before .before .before .before .before .before .before .before .before .before .before .before .before .before .before .infer-under .ensures .1,
+      performs-as (binds s _ fs (c .before .before .before .before .before .before .before .before .before .before .before .before .before .before .before .before .before .before .before .before .before .before .before .before .args .w .value) (c .before .before .before .before .before .before .before .before .before .before .before .before .before .before .before .before .before .before .before .before .before .before .before .before .args .w .name) (c .before .before .before .before .before .before .before .before .before .before .before .before .before .before .before .before .before .before .before .before .before .before .before .before .args .w .first) (c .before .before .before .before .before .before .before .before .before .before .before .before .before .before .before .before .before .before .before .before .before .before .before .before .args .w .body) (c .before .before .before .before .before .before .before .before .before .before .before .before .before .before .before .before .before .before .before .before .before .before .before .before .args .w .env) _ (c .before .before .before .before .before .before .before .before .before .before .before .before .before .before .before .before .first-type .ensures .0) _ _ (c .before .before .before .before .before .before .before .before .before .before .before .before .first .given .1) (c .before .before .before .before .before .before .before .before .before .count .ensures .0) (c .before .before .before .before .before .before .before .before .if1 .left))
+      (performs-moved (c .before .before .pop .ensures rest _ _ g fs (running _ _ fs) refl refl refl (bound-more _ _ (c .before .before .before .before .before .before .before .before .before .count .ensures .0) (c .before .before .before .before .before .before .before .before .if1 .left) (c .before .before .before .before .before .before .add-binding .ensures) s))),
+  c .before .before .before .before .before .before .before .before .before .before .before .before .before .before .before .before .first-type .ensures .1,
 )
 
 pub bind-value-spec : {M : Type 1} → statement M
@@ -31,11 +36,9 @@ bind-value-spec =
     (λ c κs. search needs)
     (λ c. search needs)
     (λ c. search needs)
-    (λ c κs. search needs)
     (λ c. search needs)
     (λ c. search needs)
     returns
-    (λ c κs. search needs)
     (λ c κs. search needs)
     (λ c. search needs)
     (λ c. search needs)
@@ -44,7 +47,6 @@ bind-value-spec =
     (λ c. search needs)
     (λ c. search needs)
     pop-requires
-    (λ c κs. search needs)
     (λ c. search needs)
     (λ c. search needs)
     returns-3)

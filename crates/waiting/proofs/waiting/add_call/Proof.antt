@@ -14,7 +14,7 @@ add-binding-requires-2 c κs = (omega (arith, long (c .before .before .before .b
 returns : tie.Need-returns
 returns c =
     let back = c .before .before .before .before .before .before in
-    λ tree i rest st u s. adds-call s _ _ _ _ _ (back .before .before .before .pre .0) (back .before .before .before .pre .1) (back .add-binding .ensures) (c .before .before .add-binding2 .ensures)
+    λ i rest st u s. adds-call s _ _ _ _ _ (back .before .before .before .pre .0) (back .before .before .before .pre .1) (back .add-binding .ensures) (c .before .before .add-binding2 .ensures)
 
 pub add-call-spec : {M : Type 1} → statement M
 add-call-spec =

@@ -1,20 +1,21 @@
 use borrow.Author.Needs.{needs}
 use Rattle.moves.proofs.Laws.{performs-as}
 use Rattle.moves.proofs.TargetLaws as targets
+use Rattle.moves.specs.Performs.{performs-still}
 use Rattle.waiting.proofs.waiting.enter_method.Statement.{statement}
 use Rattle.waiting.proofs.waiting.enter_method.Tie as tie
 
 returns : tie.Need-returns
-returns c = λ rest st g fs s. performs-as (targets.no-target (targets.calls _ st fs _ _ _) (c .before .before .before .target-of .ensures _ _ rest st _ s) (c .before .enum-told .given .1)) (c .stays .ensures _ _ rest)
+returns c = λ rest st g fs s. performs-as (targets.no-target (targets.calls _ st fs _ _ _) (c .before .before .target-of .ensures _ rest st _ s) (c .enum-told .given .1)) performs-still
 
 returns-2 : tie.Need-returns-2
-returns-2 c = λ rest st g fs s. performs-as (targets.null-target (targets.calls _ st fs _ _ _) (c .before .before .before .before .before .before .before .before .before .target-of .ensures _ _ rest st _ s) (c .before .before .before .before .before .before .before .found .given .1) (c .before .before .before .before .enum-told2 .given .1)) (c .before .before .fails .ensures rest st _ s)
+returns-2 c = λ rest st g fs s. performs-as (targets.null-target (targets.calls _ st fs _ _ _) (c .before .before .before .before .before .before .before .before .before .target-of .ensures _ rest st _ s) (c .before .before .before .before .before .before .before .found .given .1) (c .before .before .before .before .enum-told2 .given .1)) (c .before .before .fails .ensures rest st _ s)
 
 call-object-requires : tie.Need-call-object-requires
-call-object-requires c κs = (c .before .before .before .before .before .before .before .before .before .before .before .before .pre .0, c .before .before .before .before .before .before .before .before .before .before .before .before .pre .1, c .before .before .before .before .before .before .before .before .before .before .before .before .pre .2, c .before .before .before .before .before .before .before .before .before .before .before .before .pre .3, targets.found-below (c .before .before .before .before .before .before .before .before .before .before .before .before .pre .2 .seen) (targets.object-found (c .before .before .before .before .before .before .before .target-of .ensures _ _ _ _ _ (c .before .before .before .before .before .before .before .before .before .before .before .before .pre .2 .seen)) (c .before .before .before .before .before .found .given .1) (c .before .before .value .given .1)) .0, c .before .before .before .before .before .before .before .before .before .before .before .before .pre .5)
+call-object-requires c κs = (c .before .before .before .before .before .before .before .before .before .before .before .before .pre .0, c .before .before .before .before .before .before .before .before .before .before .before .before .pre .1, c .before .before .before .before .before .before .before .before .before .before .before .before .pre .2, c .before .before .before .before .before .before .before .before .before .before .before .before .pre .3, targets.found-below (c .before .before .before .before .before .before .before .before .before .before .before .before .pre .2 .seen) (targets.object-found (c .before .before .before .before .before .before .before .target-of .ensures _ _ _ _ (c .before .before .before .before .before .before .before .before .before .before .before .before .pre .2 .seen)) (c .before .before .before .before .before .found .given .1) (c .before .before .value .given .1)) .0, c .before .before .before .before .before .before .before .before .before .before .before .before .pre .5)
 
 returns-3 : tie.Need-returns-3
-returns-3 c = λ rest st g fs s. performs-as (targets.object-target (targets.calls _ st fs _ _ _) (c .before .before .before .before .before .before .before .before .before .before .target-of .ensures _ _ rest st _ s) (c .before .before .before .before .before .before .before .before .found .given .1) (c .before .before .before .before .before .value .given .1)) (c .before .before .call-object .ensures rest st g fs s)
+returns-3 c = λ rest st g fs s. performs-as (targets.object-target (targets.calls _ st fs _ _ _) (c .before .before .before .before .before .before .before .before .before .before .target-of .ensures _ rest st _ s) (c .before .before .before .before .before .before .before .before .found .given .1) (c .before .before .before .before .before .value .given .1)) (c .before .before .call-object .ensures rest st g fs s)
 
 pub enter-method-spec : {M : Type 1} → statement M
 enter-method-spec =
@@ -23,7 +24,6 @@ enter-method-spec =
     (λ c κs. search needs)
     (λ c. search needs)
     (λ c. search needs)
-    (λ c κs. search needs)
     (λ c. search needs)
     returns
     (λ c. search needs)

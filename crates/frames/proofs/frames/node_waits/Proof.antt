@@ -1,0 +1,30 @@
+use mathlib.Core.Path.{refl, sym, _∙_}
+use borrow.Author.Needs.{needs}
+use Rattle.frames.proofs.AwaitedLaws as laws
+use Rattle.frames.proofs.ReadyLaws as ready
+use Rattle.frames.proofs.frames.node_waits.Statement.{statement}
+use Rattle.frames.proofs.frames.node_waits.Tie as tie
+
+write-waits-requires : tie.Need-write-waits-requires
+write-waits-requires c κs = (ready.asked-at (c .before .before .before .before .before .before .before .before .pre .0 .0) (c .before .before .before .before .before .before .before .before .pre .1 .0) (c .before .before .before .before .before .before .before .before .pre .1 .1), sym (c .before .node-word .ensures .0) ∙ c .match .keys1)
+
+call-waits-requires : tie.Need-call-waits-requires
+call-waits-requires c κs = (ready.asked-at (c .before .before .before .before .before .before .before .before .pre .0 .0) (c .before .before .before .before .before .before .before .before .pre .1 .0) (c .before .before .before .before .before .before .before .before .pre .1 .1), sym (c .before .node-word .ensures .0) ∙ c .match .keys2)
+
+returns-4 : tie.Need-returns-4
+returns-4 c = (laws.waits-never _ _ _ _ _ (c .before .node-word .ensures .0) (c .match .rest .0 .0 .1) (c .match .rest .0 .1) (c .match .rest .1), (refl, c .before .before .before .before .before .before .before .before .pre .0 .1))
+
+pub node-waits-spec : {M : Type 1} → statement M
+node-waits-spec =
+    tie.close
+    (tie.spec
+    (λ c κs. search needs)
+    write-waits-requires
+    call-waits-requires
+    (λ c κs. search needs)
+    (λ c. search needs)
+    (λ c. search needs)
+    (λ c. search needs)
+    (λ c. search needs)
+    (λ c. search needs)
+    returns-4)

@@ -1,0 +1,42 @@
+use mathlib.Core.Path.{refl}
+use borrow.Author.Needs.{needs}
+use Rattle.frames.specs.declared.awaited.Waits.the-variants.{Never, For}
+use Rattle.frames.proofs.MemoLaws as laws
+use Rattle.frames.proofs.ReadyLaws as ready
+use Rattle.frames.proofs.memo.let_recalled.Statement.{statement}
+use Rattle.frames.proofs.memo.let_recalled.Tie as tie
+
+recall-requires : tie.Need-recall-requires
+recall-requires c κs = (ready.chain (c .before .before .before .before .before .before .before .pre .0 .0) _ (c .before .before .before .before .before .before .before .pre .1 .1), c .before .before .before .before .before .before .before .pre .0 .1 .placed, ready.small-node (c .before .before .before .before .before .before .before .pre .0 .0) (c .before .before .before .before .before .before .before .pre .1 .0))
+
+returns : tie.Need-returns
+returns c = (laws.as-recalled _ _ (c .before .before .before .before .before .before .before .before .before .before .pre .0 .1) _ (c .before .before .recall .ensures) _ _ (c .enum-told2 .given .1), (refl, c .before .before .before .before .before .before .before .before .before .before .pre .0 .1))
+
+returns-2 : tie.Need-returns-2
+returns-2 c = (laws.as-told _ _ _ _ _ Never (c .before .before .before .before .let-waits .ensures .0) (c .enum-told3 .given .1), (c .before .before .before .before .let-waits .ensures .1, c .before .before .before .before .before .before .before .before .before .before .before .before .before .before .before .before .pre .0 .1))
+
+remember-requires : tie.Need-remember-requires
+remember-requires c κs = (c .before .before .before .before .before .before .before .before .before .before .before .before .before .before .before .before .before .before .pre .0 .1 .placed .size, ready.small-node (c .before .before .before .before .before .before .before .before .before .before .before .before .before .before .before .before .before .before .pre .0 .0) (c .before .before .before .before .before .before .before .before .before .before .before .before .before .before .before .before .before .before .pre .1 .0), ready.small-environment (c .before .before .before .before .before .before .before .before .before .before .before .before .before .before .before .before .before .before .pre .0 .0) (c .before .before .before .before .before .before .before .before .before .before .before .before .before .before .before .before .before .before .pre .1 .1))
+
+returns-3 : tie.Need-returns-3
+returns-3 c = (laws.as-told _ _ _ _ _ (For _ _) (c .before .before .before .before .before .before .before .before .before .let-waits .ensures .0) (c .before .before .before .before .before .t .given .1), (c .before .before .before .before .before .before .before .before .before .let-waits .ensures .1, laws.remembered _ (c .before .before .before .before .before .before .before .before .before .before .before .before .before .before .before .before .before .before .before .before .before .pre .0 .1 .placed .size) _ (ready.small-node (c .before .before .before .before .before .before .before .before .before .before .before .before .before .before .before .before .before .before .before .before .before .pre .0 .0) (c .before .before .before .before .before .before .before .before .before .before .before .before .before .before .before .before .before .before .before .before .before .pre .1 .0)) _ _ _ (c .before .before .before .before .before .before .before .before .before .before .before .before .before .before .before .before .before .before .before .before .before .pre .0 .1) (c .before .before .before .before .before .before .before .before .before .before .before .before .before .before .before .before .before .before .before .before .before .pre .1 .1) (laws.as-told _ _ _ _ _ (For _ _) (c .before .before .before .before .before .before .before .before .before .let-waits .ensures .0) (c .before .before .before .before .before .t .given .1)) (c .before .before .remember .ensures)))
+
+pub let-recalled-spec : {M : Type 1} → statement M
+let-recalled-spec =
+    tie.close
+    (tie.spec
+    recall-requires
+    (λ c. search needs)
+    (λ c. search needs)
+    (λ c. search needs)
+    returns
+    (λ c κs. search needs)
+    (λ c. search needs)
+    (λ c. search needs)
+    (λ c. search needs)
+    (λ c. search needs)
+    returns-2
+    remember-requires
+    (λ c. search needs)
+    (λ c. search needs)
+    returns-3)

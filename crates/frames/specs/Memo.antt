@@ -1,0 +1,51 @@
+-- The memo of what let frames wait for: an entry of WIDTH words for each node of a script, namely an environment and 1 more, or 0 where none is kept, the type
+-- that is waited for, and the one that is given.
+use Prim.Native.Nat.{ℕ, suc, _+_, _*_, _≤_}
+use mathlib.Core.Path.{_≡_}
+use mathlib.Core.List.{List}
+use lib.ListN.{length, getD, set}
+use Rattle.limits.specs.Limits.{NODES}
+use Rattle.script.specs.Syntax.{Point}
+use Rattle.machine.specs.Machine.{context}
+use Rattle.environments.specs.Chains.{bindingCount, bindingsIn}
+use Rattle.frames.specs.declared.awaited.Waits.{Waits}
+use Rattle.frames.specs.declared.awaited.Waits.the-variants.{For}
+use Rattle.frames.specs.Expecting.{WaitsAs}
+
+abbrev pub WIDTH : ℕ
+WIDTH = 3
+
+-- The words of the entry of node n.
+abbrev pub keptAt : List ℕ → Point → ℕ
+keptAt memo n = getD memo (n * WIDTH) 0
+
+abbrev pub awaitsAt : List ℕ → Point → ℕ
+awaitsAt memo n = getD memo (n * WIDTH + 1) 0
+
+abbrev pub givesAt : List ℕ → Point → ℕ
+givesAt memo n = getD memo (n * WIDTH + 2) 0
+
+-- The memo has an entry for each node, and each environment that it keeps is one of the block's.
+pub record Placed (b memo : List ℕ) : Type 0 where
+  pub size : length memo ≡ NODES * WIDTH
+  pub environments : (n e : ℕ) → keptAt memo n ≡ suc e → e ≤ bindingCount b
+
+-- Each entry that is kept says what its node waits for in its environment.
+pub record Remembers (s b memo : List ℕ) : Type 0 where
+  pub placed : Placed b memo
+  pub entries : (n e : ℕ) → keptAt memo n ≡ suc e → WaitsAs s b n e (For (awaitsAt memo n) (givesAt memo n))
+
+-- The entry of node n is of an environment with the scope of e, and says t and u.
+pub record Recalled (b memo : List ℕ) (n : Point) (e t u : ℕ) : Type 0 where
+  pub kept : ℕ
+  pub used : keptAt memo n ≡ suc kept
+  pub scope : context (bindingsIn b) kept ≡ context (bindingsIn b) e
+  pub awaits : awaitsAt memo n ≡ t
+  pub gives : givesAt memo n ≡ u
+
+abbrev pub Recalls : List ℕ → List ℕ → Point → ℕ → Waits → Type 0
+Recalls b memo n e r = (t u : ℕ) → r ≡ For t u → Recalled b memo n e t u
+
+-- The memo with t and u for node n in environment e.
+abbrev pub replaced : List ℕ → Point → ℕ → ℕ → ℕ → List ℕ
+replaced memo n e t u = set (set (set memo (n * WIDTH) (e + 1)) (n * WIDTH + 1) t) (n * WIDTH + 2) u

@@ -1,0 +1,314 @@
+-- One more node gets its rank: a law for each way of the code.
+use Prim.Native.Nat.{ℕ, zero, suc, _+_, _-_, _%_, _<_, _≤_}
+use mathlib.Core.Path.{_≡_, refl, sym, _∙_}
+use mathlib.Core.Bool.{Bool, true, false}
+use mathlib.Core.List.{List}
+use mathlib.Core.Logic.{_⊎_, ⊎-elim, inl, inr}
+use mathlib.Core.Option.{none, some}
+use native.Mathlib.Nat.{eq-or-lt-of-le, mod-lt}
+use native.Mathlib.Omega.{arith}
+use lib.Dec.{eqb}
+use lib.ListN.{length, getD, set, length-set}
+use lib.Seq.{getD-set-same, getD-set-other}
+use borrow.Author.Tests.{eqb-true, eqb-false}
+use Rattle.limits.specs.Limits.{NODES}
+use Rattle.script.specs.declared.Section.the-variants.{Nodes as nodes}
+use Rattle.script.specs.Section.{countOf, nodeWord}
+use Rattle.script.specs.Reading.{viewAt}
+use Rattle.script.specs.Statements.{WithinLayout}
+use Rattle.names.specs.Ranks.{BUCKETS, FACTS, nameIn, Names, Ranked, headOf, Search, here, onward, Indexed}
+use Rattle.names.specs.Filling.{Nameless, RankTo, to-this, to-parameter, to-node, FilledTo}
+use Rattle.names.proofs.KindLaws.{name-word, one-name, not-none}
+use Rattle.names.proofs.SearchLaws.{at-most, bucketOf, found-is, found-names, unranked, ranked-to, search-moved}
+
+same-or-not : (k l : ℕ) → (k ≡ l) ⊎ (k ≡ l → ⊥)
+same-or-not k l = go (eqb k l) refl
+  where
+    go : (b : Bool) → eqb k l ≡ b → (k ≡ l) ⊎ (k ≡ l → ⊥)
+    go true e = inl (eqb-true k l e)
+    go false e = inr (eqb-false k l e)
+
+module _ (s facts : List ℕ) (n count : ℕ) (h : FilledTo s facts n count) (few : n < NODES) where
+  -- A bucket's first node is among the first n.
+  head-most : (x : ℕ) → headOf facts x ≤ n
+  head-most x = at-most (headOf facts x) n (λ i. h .earlier (bucketOf x) i (omega arith))
+
+  -- No new rank is given: only the word of node n is another, and its variable has that rank already.
+  module _ (facts′ : List ℕ) (size : length facts′ ≡ FACTS)
+      (other : (k : ℕ) → (k ≡ n → ⊥) → getD facts′ k 0 ≡ getD facts k 0)
+      (own : (x : ℕ) → Names s n x → RankTo s facts n x (getD facts′ n 0))
+      (own-found : (x : ℕ) → Names s n x → 2 ≤ x → (m : ℕ) × Search s facts x (headOf facts x) (suc m))
+      (own-blank : nameIn (viewAt s n) ≡ none → getD facts′ n 0 ≡ 0) where
+    old-node : (i x : ℕ) → i < n + 1 → Names s i x → RankTo s facts n x (getD facts′ i 0)
+    old-node i x l q = ⊎-elim (λ (e : i ≡ n). rw e (own x (rw e at q))) (λ (b : i < n). rw (other i (λ e. omega arith)) (to-node b q)) (eq-or-lt-of-le (omega arith))
+
+    old : {x k : ℕ} → RankTo s facts′ (n + 1) x k → RankTo s facts n x k
+    old to-this = to-this
+    old to-parameter = to-parameter
+    old (to-node {i = i} {x = x} l q) = old-node i x l q
+
+    old-found : (i x : ℕ) → i < n + 1 → Names s i x → 2 ≤ x → (m : ℕ) × Search s facts x (headOf facts x) (suc m)
+    old-found i x l q b = ⊎-elim (λ (e : i ≡ n). own-found x (rw e at q) b) (λ (d : i < n). h .found d q b) (eq-or-lt-of-le (omega arith))
+
+    moved : (x r : ℕ) → Search s facts x (headOf facts x) r → Search s facts′ x (headOf facts′ x) r
+    moved x r t = rw (other (bucketOf x) (λ e. omega arith)) (search-moved s facts facts′ n (h .linked) (omega arith) (λ i l. other (NODES + i) (λ e. omega arith)) (head-most x) t)
+
+    old-blank : (i : ℕ) → i < NODES → (i < n + 1 → nameIn (viewAt s i) ≡ none) → getD facts′ i 0 ≡ 0
+    old-blank i b f =
+        ⊎-elim (λ (e : i ≡ n). rw e (own-blank (rw e at (f (omega arith))))) (λ (d : i ≡ n → ⊥). other i d ∙ h .blank i b (λ l. f (omega arith))) (same-or-not i n)
+
+    fill-old : FilledTo s facts′ (n + 1) count
+    fill-old =
+        record {
+          linked =
+              record {
+                size = size;
+                links = λ i b. rw (other (NODES + i) (λ e. omega arith)) (h .linked .links i b);
+                inside = λ k i b e. h .linked .inside k i b (sym (other k (λ q. omega arith)) ∙ e);
+              };
+          few = omega (arith, h .few);
+          below = λ r. h .below (old r);
+          same = λ r t. h .same (old r) (old t);
+          apart = λ r t. h .apart (old r) (old t);
+          earlier = λ k i b e. omega (arith, h .earlier k i b (sym (other k (λ q. omega arith)) ∙ e));
+          found = λ {i} {x} l q b. let u = old-found i x l q b in (u .0, moved x (suc (u .0)) (u .1));
+          blank = old-blank;
+        }
+
+  -- A new rank: node n is the first of its bucket.
+  module _ (x : ℕ) (q : Names s n x) (large : 2 ≤ x) (none-found : Search s facts x (headOf facts x) 0)
+      (facts′ : List ℕ) (size : length facts′ ≡ FACTS)
+      (rank : getD facts′ n 0 ≡ count) (link : getD facts′ (NODES + n) 0 ≡ headOf facts x) (head : headOf facts′ x ≡ suc n)
+      (other : (k : ℕ) → (k ≡ n → ⊥) → (k ≡ NODES + n → ⊥) → (k ≡ bucketOf x → ⊥) → getD facts′ k 0 ≡ getD facts k 0) where
+    -- A rank after the step was there before, or is the new one.
+    abbrev Was : ℕ → ℕ → Type 0
+    Was y k = RankTo s facts n y k ⊎ ((y ≡ x) × (k ≡ count))
+
+    was-node : (i y : ℕ) → i < n + 1 → Names s i y → Was y (getD facts′ i 0)
+    was-node i y l p =
+        ⊎-elim
+        (λ (e : i ≡ n). inr (one-name (rw e at p) q, rw e rank))
+        (λ (b : i < n). inl (rw (other i (λ e. omega arith) (λ e. omega arith) (λ e. omega arith)) (to-node b p)))
+        (eq-or-lt-of-le (omega arith))
+
+    was : {y k : ℕ} → RankTo s facts′ (n + 1) y k → Was y k
+    was to-this = inl to-this
+    was to-parameter = inl to-parameter
+    was (to-node {i = i} {x = y} l p) = was-node i y l p
+
+    new : (k : ℕ) → RankTo s facts n x k → ⊥
+    new k = unranked s facts n (λ i y. h .found) x k large none-found
+
+    same′ : (y k l : ℕ) → Was y k → Was y l → k ≡ l
+    same′ y k l (inl r) (inl t) = h .same r t
+    same′ y k l (inl r) (inr e) = absurd (new k (rw (e .0) at r))
+    same′ y k l (inr e) (inl t) = absurd (new l (rw (e .0) at t))
+    same′ y k l (inr e) (inr d) = omega arith
+
+    apart′ : (y z k : ℕ) → Was y k → Was z k → y ≡ z
+    apart′ y z k (inl r) (inl t) = h .apart r t
+    apart′ y z k (inl r) (inr e) = absurd (omega (arith, h .below r))
+    apart′ y z k (inr e) (inl t) = absurd (omega (arith, h .below t))
+    apart′ y z k (inr e) (inr d) = omega arith
+
+    below′ : (y k : ℕ) → Was y k → k < count + 1
+    below′ y k (inl r) = omega (arith, h .below r)
+    below′ y k (inr e) = omega arith
+
+    -- What stands in a link or a bucket after the step is node n, or stood in one before.
+    came : (k m : ℕ) → NODES ≤ k → getD facts′ k 0 ≡ suc m → (m ≡ n) ⊎ ((j : ℕ) × ((NODES ≤ j) × (getD facts j 0 ≡ suc m)))
+    came k m b e =
+        ⊎-elim
+        (λ (p : k ≡ bucketOf x). inl (omega (arith, head, rw p at e)))
+        (λ (p : k ≡ bucketOf x → ⊥).
+        ⊎-elim
+        (λ (r : k ≡ NODES + n). inr (bucketOf x, (omega arith, sym link ∙ rw r at e)))
+        (λ (r : k ≡ NODES + n → ⊥). inr (k, (b, sym (other k (λ z. omega arith) r p) ∙ e)))
+        (same-or-not k (NODES + n)))
+        (same-or-not k (bucketOf x))
+
+    link-kept : (i : ℕ) → i < NODES → (i ≡ n → ⊥) → getD facts′ (NODES + i) 0 ≡ getD facts (NODES + i) 0
+    link-kept i b d = other (NODES + i) (λ e. omega arith) (λ e. d (omega arith)) (λ e. omega arith)
+
+    moved′ : (y v r : ℕ) → v ≤ n → Search s facts y v r → Search s facts′ y v r
+    moved′ y v r l t = search-moved s facts facts′ n (h .linked) (omega arith) (λ i b. link-kept i (omega arith) (λ e. omega arith)) l t
+
+    finds : (y m : ℕ) → Search s facts y (headOf facts y) (suc m) → (m : ℕ) × Search s facts′ y (headOf facts′ y) (suc m)
+    finds y m t =
+        ⊎-elim
+        (λ (e : bucketOf y ≡ bucketOf x).
+        rw (e, head)
+        (⊎-elim
+        (λ (p : nodeWord s n 1 ≡ y). (n, here p))
+        (λ (p : nodeWord s n 1 ≡ y → ⊥). (m, onward p (rw link (moved′ y (headOf facts x) (suc m) (head-most x) (rw e at t)))))
+        (same-or-not (nodeWord s n 1) y)))
+        (λ (e : bucketOf y ≡ bucketOf x → ⊥). (m, rw (other (bucketOf y) (λ z. omega arith) (λ z. omega arith) e) (moved′ y (headOf facts y) (suc m) (head-most y) t)))
+        (same-or-not (bucketOf y) (bucketOf x))
+
+    finds-node : (i y : ℕ) → i < n + 1 → Names s i y → 2 ≤ y → (m : ℕ) × Search s facts′ y (headOf facts′ y) (suc m)
+    finds-node i y l p b =
+        ⊎-elim
+        (λ (e : i ≡ n). rw (one-name (rw e at p) q) (n, rw head (here (name-word s n x (q .name)))))
+        (λ (d : i < n). let u = h .found d p b in finds y (u .0) (u .1))
+        (eq-or-lt-of-le (omega arith))
+
+    links′ : (i : ℕ) → i < NODES → getD facts′ (NODES + i) 0 ≤ i
+    links′ i b = ⊎-elim (λ (e : i ≡ n). rw e (rw link (head-most x))) (λ (d : i ≡ n → ⊥). rw (link-kept i b d) (h .linked .links i b)) (same-or-not i n)
+
+    own-name : Names s n (nodeWord s n 1)
+    own-name = rw (name-word s n x (q .name)) q
+
+    inside′ : (k m : ℕ) → NODES ≤ k → getD facts′ k 0 ≡ suc m → Names s m (nodeWord s m 1)
+    inside′ k m b e = ⊎-elim (λ (p : m ≡ n). rw p own-name) (λ u. h .linked .inside (u .0) m (u .1 .0) (u .1 .1)) (came k m b e)
+
+    earlier′ : (k m : ℕ) → NODES ≤ k → getD facts′ k 0 ≡ suc m → m < n + 1
+    earlier′ k m b e = ⊎-elim (λ (p : m ≡ n). omega arith) (λ u. omega (arith, h .earlier (u .0) m (u .1 .0) (u .1 .1))) (came k m b e)
+
+    blank′ : (i : ℕ) → i < NODES → (i < n + 1 → nameIn (viewAt s i) ≡ none) → getD facts′ i 0 ≡ 0
+    blank′ i b f =
+        ⊎-elim
+        (λ (e : i ≡ n). absurd (not-none q (rw e at (f (omega arith)))))
+        (λ (d : i ≡ n → ⊥). other i d (λ e. omega arith) (λ e. omega arith) ∙ h .blank i b (λ l. f (omega arith)))
+        (same-or-not i n)
+
+    fill-new : FilledTo s facts′ (n + 1) (count + 1)
+    fill-new =
+        record {
+          linked = record { size = size; links = links′; inside = inside′ };
+          few = omega (arith, h .few);
+          below = λ {x = y} {k} r. below′ y k (was r);
+          same = λ {x = y} {k} {l} r t. same′ y k l (was r) (was t);
+          apart = λ {x = y} {y = z} {k} r t. apart′ y z k (was r) (was t);
+          earlier = earlier′;
+          found = λ {i} {x = y} l p b. finds-node i y l p b;
+          blank = blank′;
+        }
+
+-- Before the first node.
+pub fill-start : (s facts : List ℕ) → length facts ≡ FACTS → ((k : ℕ) → getD facts k 0 ≡ 0) → FilledTo s facts 0 2
+fill-start s facts size zeros =
+    record {
+      linked = record { size = size; links = λ i b. omega (arith, zeros (NODES + i)); inside = λ k i b e. absurd (omega (arith, zeros k)) };
+      few = omega arith;
+      below = small;
+      same = one;
+      apart = other;
+      earlier = λ k i b e. absurd (omega (arith, zeros k));
+      found = λ l. absurd (omega arith);
+      blank = λ i b f. zeros i;
+    }
+  where
+    small : {x k : ℕ} → RankTo s facts 0 x k → k < 2
+    small to-this = omega arith
+    small to-parameter = omega arith
+    small (to-node l q) = absurd (omega arith)
+
+    own : {x k : ℕ} → RankTo s facts 0 x k → x ≡ k
+    own to-this = refl
+    own to-parameter = refl
+    own (to-node l q) = absurd (omega arith)
+
+    one : {x k l : ℕ} → RankTo s facts 0 x k → RankTo s facts 0 x l → k ≡ l
+    one r t = sym (own r) ∙ own t
+
+    other : {x y k : ℕ} → RankTo s facts 0 x k → RankTo s facts 0 y k → x ≡ y
+    other r t = own r ∙ sym (own t)
+
+-- After the last node.
+pub fill-end : (s facts : List ℕ) (n count : ℕ) → WithinLayout s → n ≡ countOf s nodes → FilledTo s facts n count → Ranked s facts count × Indexed s facts × Nameless s facts
+fill-end s facts n count layout e f =
+    let h : FilledTo s facts (countOf s nodes) count = rw e at f in
+    let most : countOf s nodes ≤ NODES = layout .counts-are .within nodes in (
+      record {
+        size = h .linked .size;
+        few = omega (arith, h .few);
+        below = λ r. h .below (ranked-to r);
+        same = λ r t. h .same (ranked-to r) (ranked-to t);
+        apart = λ r t. h .apart (ranked-to r) (ranked-to t);
+      },
+      record { links = h .linked .links; inside = h .linked .inside; found = λ q b. h .found (q .there) q b },
+      record { zero = λ i b d. h .blank i (omega arith) (λ l. d) },
+    )
+
+module _ (s facts : List ℕ) (n count : ℕ) (layout : WithinLayout s) (there : n < countOf s nodes) (h : FilledTo s facts n count) where
+  few : n < NODES
+  few = omega (arith, layout .counts-are .within nodes)
+
+  pub fill-none : nameIn (viewAt s n) ≡ none → FilledTo s facts (n + 1) count
+  fill-none e =
+      fill-old s facts n count h few facts (h .linked .size) (λ k d. refl) (λ x q. absurd (not-none q e)) (λ x q. absurd (not-none q e)) (λ d. h .blank n few (λ l. e))
+
+  module _ (x : ℕ) (name : nameIn (viewAt s n) ≡ some x) where
+    named : Names s n x
+    named = record { there = there; name = name }
+
+    -- The variable has a rank already, and is found from 2 on.
+    fill-known : (k : ℕ) → RankTo s facts n x k → (2 ≤ x → (m : ℕ) × Search s facts x (headOf facts x) (suc m)) → FilledTo s (set facts n k) (n + 1) count
+    fill-known k r f =
+        fill-old
+        s
+        facts
+        n
+        count
+        h
+        few
+        (set facts n k)
+        (length-set facts n k ∙ h .linked .size)
+        (λ i d. getD-set-other facts n i k 0 d)
+        (λ y q. rw (one-name q named, getD-set-same facts n k 0 (omega (arith, few, h .linked .size))) r)
+        (λ y q b. rw (one-name q named) (f (rw (one-name q named) at b)))
+        (λ e. absurd (not-none named e))
+
+    pub fill-small : x < 2 → FilledTo s (set facts n x) (n + 1) count
+    fill-small l = fill-known x (small x l) (λ b. absurd (omega arith))
+      where
+        small : (y : ℕ) → y < 2 → RankTo s facts n y y
+        small zero b = to-this
+        small (suc zero) b = to-parameter
+        small (suc (suc y)) b = absurd (omega arith)
+
+    pub found-before : (r : ℕ) → Search s facts x (headOf facts x) r → 0 < r → r - 1 < n
+    found-before r t b = found-is s facts x (λ i. i < n) (h .earlier) t (r - 1) (omega arith) .0
+
+    pub fill-found : (r : ℕ) → Search s facts x (headOf facts x) r → 0 < r → FilledTo s (set facts n (getD facts (r - 1) 0)) (n + 1) count
+    fill-found r t b =
+        let e : r ≡ suc (r - 1) = omega arith in
+        fill-known (getD facts (r - 1) 0) (to-node (found-before r t b) (found-names s facts x (h .linked) t (r - 1) e)) (λ l. (r - 1, rw e at t))
+
+    -- The table with a new rank and link, and a new first node of the bucket.
+    abbrev more : List ℕ
+    more = set (set (set facts n count) (NODES + n) (headOf (set facts n count) x)) (bucketOf x) (n + 1)
+
+    pub fill-fresh : (r : ℕ) → 2 ≤ x → Search s facts x (headOf facts x) r → r ≤ 0 → FilledTo s more (n + 1) (count + 1)
+    fill-fresh r b t z =
+        let e : r ≡ 0 = omega arith in
+        let size : length facts ≡ FACTS = h .linked .size in
+        let bucket : x % BUCKETS < BUCKETS = mod-lt x (omega arith) in
+        let first : List ℕ = set facts n count in
+        let second : List ℕ = set first (NODES + n) (headOf first x) in
+        let first-size : length first ≡ FACTS = length-set facts n count ∙ size in
+        let second-size : length second ≡ FACTS = length-set first (NODES + n) (headOf first x) ∙ first-size in
+        fill-new
+        s
+        facts
+        n
+        count
+        h
+        few
+        x
+        named
+        b
+        (rw e at t)
+        more
+        (length-set second (bucketOf x) (n + 1) ∙ second-size)
+        (getD-set-other second (bucketOf x) n (n + 1) 0 (λ e. omega (arith, few))
+        ∙ getD-set-other first (NODES + n) n (headOf first x) 0 (λ e. omega arith)
+        ∙ getD-set-same facts n count 0 (omega (arith, few)))
+        (getD-set-other second (bucketOf x) (NODES + n) (n + 1) 0 (λ e. omega (arith, few))
+        ∙ getD-set-same first (NODES + n) (headOf first x) 0 (omega (arith, few))
+        ∙ getD-set-other facts n (bucketOf x) count 0 (λ e. omega (arith, few)))
+        (getD-set-same second (bucketOf x) (n + 1) 0 (omega arith) ∙ omega arith)
+        (λ k d d′ d″.
+        getD-set-other second (bucketOf x) k (n + 1) 0 d″
+        ∙ getD-set-other first (NODES + n) k (headOf first x) 0 d′
+        ∙ getD-set-other facts n k count 0 d)

@@ -1,0 +1,28 @@
+-- What is found once for a call about the nodes of a script: the ranks of the variables that they name, and which forks have asyncs that share a variable.
+use Prim.Native.Nat.{ℕ, _<_}
+use mathlib.Core.Path.{_≡_}
+use mathlib.Core.Bool.{Bool, true, false}
+use mathlib.Core.List.{List}
+use lib.ListN.{getD}
+use Rattle.script.specs.declared.Section.the-variants.{Nodes as nodes}
+use Rattle.script.specs.Section.{countOf}
+use Rattle.script.specs.Syntax.{n-fork}
+use Rattle.script.specs.Reading.{viewAt, exprAt}
+use Rattle.typing.specs.Typing.{fv, shares}
+use Rattle.names.specs.Ranks.{Ranked, Indexed}
+
+-- 1 for true, 0 for false.
+abbrev pub flagOf : Bool → ℕ
+flagOf true = 1
+flagOf false = 0
+
+-- Whether the asyncs of each fork share a variable.
+pub record Forks (s facts : List ℕ) : Type 0 where
+  pub flags : (n a b c : ℕ) → n < countOf s nodes → viewAt s n ≡ n-fork a b c → getD facts n 0 ≡ flagOf (shares (fv (exprAt s a)) (fv (exprAt s b)))
+
+-- The table of facts about the script s.
+pub record Facts (s facts : List ℕ) : Type 0 where
+  pub count : ℕ
+  pub ranked : Ranked s facts count
+  pub indexed : Indexed s facts
+  pub forks : Forks s facts
