@@ -60,7 +60,10 @@ build/bin/words: samples/words.c
 
 build/tests/%: tests/c/%.c tests/c/lent.h build/include/oolong.h $(LIBRARY)
 	@mkdir -p $(@D)
-	$(CC) $(CFLAGS) -Ibuild/include -o $@ $< $(LIBRARY) -pthread
+	$(CC) $(CFLAGS) -Ibuild/include -o $@ $< $(LIBRARY) -pthread $(LINKED)
+
+# Counts the library's calls of these.
+build/tests/copies: LINKED := -Wl,--wrap=memcpy,--wrap=memmove
 
 demo: $(PROGRAM) build/bin/words
 	@samples/demo

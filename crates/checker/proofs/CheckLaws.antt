@@ -6,7 +6,7 @@ use mathlib.Core.List.{List, [], _∷_}
 use mathlib.Core.Logic.{⊎-elim}
 use mathlib.Core.Option.{Option, none, some}
 use native.Mathlib.Omega.{arith}
-use lib.ListN.{length, replicate}
+use lib.ListN.{length, getD, replicate}
 use Rattle.script.specs.declared.Found.{Found}
 use Rattle.script.specs.declared.Found.the-variants.{At, Nothing}
 use Rattle.script.specs.declared.Question.{Question}
@@ -19,6 +19,7 @@ use Rattle.script.specs.Statements.{WithinLayout}
 use Rattle.script.specs.Asking.{Asked, firstNo, atZero, Asks, Each, FaultAt, Lowest, all-good, lowest-at}
 use Rattle.script.specs.Questions.{lengthTest, countsTest, placesTest, layoutQuestions}
 use Rattle.sections.specs.Laid.{Laid, foundOf}
+use Rattle.slices.specs.Zero.{AllZero}
 use Rattle.script.proofs.Tests.{says-yes}
 use Rattle.script.proofs.LayoutLaws.{decides-length, decides-counts, decides-places}
 use Rattle.sections.proofs.Access.{record-within}
@@ -30,7 +31,6 @@ use Rattle.typing.specs.Typing.{bodiesOf, walk}
 use Rattle.typing.specs.Check.{refusedOr, walked, checkOf}
 use Rattle.members.specs.Tables.{Starts}
 use Rattle.names.specs.Facts.{Facts}
-use Rattle.inference.specs.Tables.{Zeros}
 use Rattle.checker.specs.Lent.{TablesFilled}
 use Rattle.checker.specs.Stages.{NodeThere, walkStage, memberStage, recordStage}
 use Rattle.typing.proofs.Points.{fault-there}
@@ -165,10 +165,13 @@ module _ (s : List ℕ) (a : Answer) where
   walk-is v e h = rw (← e) h
 
 -- A new table is zeros.
-pub new-zeros : (n : ℕ) → Zeros (replicate n 0)
-new-zeros zero k = refl
-new-zeros (suc n) zero = refl
-new-zeros (suc n) (suc k) = new-zeros n k
+new-zero : (n k : ℕ) → _≡_ {A = ℕ} (getD (replicate n 0) k 0) 0
+new-zero zero k = refl
+new-zero (suc n) zero = refl
+new-zero (suc n) (suc k) = new-zero n k
+
+pub new-zeros : (n : ℕ) → AllZero (replicate n 0)
+new-zeros n = record { zero = new-zero n }
 
 -- Filled tables are what they must be after every verdict.
 pub tables-filled : {s starts facts : List ℕ} → Starts s starts → Facts s facts → (v : Verdict) → TablesFilled s starts facts v

@@ -1,24 +1,24 @@
 -- The tables that a call lends to Check, and that it fills.
-use Prim.Native.Nat.{ℕ, _+_}
+use Prim.Native.Nat.{ℕ}
 use mathlib.Core.Path.{_≡_}
 use mathlib.Core.List.{List}
 use lib.ListN.{length}
-use Rattle.limits.specs.Limits.{INTERFACES, CLASSES}
+use Rattle.slices.specs.Zero.{AllZero}
 use Rattle.typing.specs.declared.Verdict.{Verdict}
 use Rattle.typing.specs.declared.Verdict.the-variants.{Accepted, Refused}
-use Rattle.members.specs.Tables.{Starts}
+use Rattle.members.specs.Tables.{STARTS, Starts}
 use Rattle.names.specs.Ranks.{FACTS}
 use Rattle.names.specs.Facts.{Facts}
-use Rattle.inference.specs.Tables.{Zeros}
 
 -- A table for the facts about a script, with no fact in it.
 pub record FactsLent (facts : List ℕ) : Type 0 where
   pub size : length facts ≡ FACTS
-  pub zeros : Zeros facts
+  pub zeros : AllZero facts
 
--- A table for the starts of a script's runs, and one for its facts.
+-- A table for the starts of a script's runs and for its rows, with nothing in it, and one for its facts.
 pub record TablesLent (starts facts : List ℕ) : Type 0 where
-  pub runs : length starts ≡ INTERFACES + CLASSES + CLASSES
+  pub runs : length starts ≡ STARTS
+  pub zeros : AllZero starts
   pub facts-lent : FactsLent facts
 
 -- The tables after Check: those of an accepted script are filled.

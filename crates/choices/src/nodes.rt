@@ -21,25 +21,23 @@ use waiting::enter_method;
 use waiting::open_lock;
 use waiting::store_value;
 ghost use mathlib.Core.Path.{_≡_};
-ghost use mathlib.Core.List.{List, [], _∷_};
+ghost use mathlib.Core.List.{List, []};
 ghost use Prim.Native.Nat.{_<_};
 ghost use Rattle.script.specs.declared.Section.the-variants.{Nodes as nodes};
 ghost use Rattle.script.specs.Section.{countOf};
-ghost use Rattle.script.specs.Reading.{viewAt, programOf};
+ghost use Rattle.script.specs.Reading.{viewAt};
 ghost use Rattle.script.specs.Statements.{WithinLayout};
 ghost use Rattle.members.specs.Tables.{Starts};
 ghost use Rattle.inference.specs.At.{Blank};
-ghost use Rattle.typing.specs.Published.{WfEnv};
 ghost use Rattle.machine.specs.declared.Frame.{Frame};
 ghost use Rattle.machine.specs.Config.{running, returning, Config, codeOf};
-ghost use Rattle.machine.specs.Machine.{limits, spare, context, runNode, wake as wakes, resume as resumes, Path};
-ghost use Rattle.block.specs.Values.{Storable};
+ghost use Rattle.machine.specs.Machine.{limits, spare, runNode, resume as resumes, Path};
 ghost use Rattle.representation.specs.Preorder.{framesAbove};
-ghost use Rattle.environments.specs.Chains.{Chain, Typed, bindingsIn};
+ghost use Rattle.environments.specs.Chains.{Chain};
 ghost use Rattle.state.specs.Represents.{Rest, SomeState};
-ghost use Rattle.state.specs.Positions.{entryAt};
 ghost use Rattle.moves.specs.Performs.{Performs, AtPosition, WordBound, OwnFields, Resumes};
-ghost use Rattle.choices.specs.PerformsChoice.{FirstTyped};
+ghost use Rattle.waiting.specs.AtFrame.{AtTypedFrame};
+ghost use Rattle.choices.specs.PerformsChoice.{FirstTyped, Wakes};
 
 // The move of a thread at node a.
 pub fn run_node(s: &[u8], starts: &[u16], block: &mut [u8], i: usize, a: u16, env: u16) -> Effect
@@ -94,18 +92,9 @@ fn wake(
     i: usize,
     w: Awaited,
 ) -> Effect
-    requires { ⌜ Blank (now s) (now starts) (now facts) (now table) × (w .node < countOf (now s) nodes) ⌝ }
-    requires { ⌜ Chain (now block) (w .env) × Typed (now block) × WfEnv (programOf (now s)) (context (bindingsIn (now block)) (w .env)) ⌝ }
-    requires { ⌜ FirstTyped (now s) (now block) (w .node) (w .env) ⌝ }
-    requires { ⌜ SomeState (now block) i × (0 < entryAt (now block) i .frames) × Storable (w .value) ⌝ }
-    ensures { λ r. ⌜
-        ((c : Config) (p : Path) (x : Rest) (g : Frame) (fs : List Frame) →
-        OwnFields (codeOf (now (s .entry))) (c .stores .objects) →
-        AtPosition (now (block .entry)) i c p (returning (w .value) (g ∷ fs)) x →
-        Performs (now (block .entry)) i x
-        (wakes (codeOf (now (s .entry))) (spare limits (c .stores) (c .tree)) (c .stores) (w .value) fs (w .env) (viewAt (now (s .entry)) (w .node)))
-        (now (block .exit)) r)
-        ⌝ }
+    requires { ⌜ AtTypedFrame (now s) (now starts) (now facts) (now table) (now block) i (w .env) (w .value) ⌝ }
+    requires { ⌜ (w .node < countOf (now s) nodes) × FirstTyped (now s) (now block) (w .node) (w .env) ⌝ }
+    ensures { λ r. ⌜ Wakes (now (s .entry)) (now (block .entry)) i (w .value) (w .node) (w .env) (now (block .exit)) r ⌝ }
     ensures { λ r. ⌜ now (table .exit) ≡ now (table .entry) ⌝ }
 {
     let v = w.value;

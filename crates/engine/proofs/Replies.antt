@@ -1,16 +1,16 @@
 -- The replies that a verdict makes.
-use Prim.Native.Nat.{ℕ, _+_}
+use Prim.Native.Nat.{ℕ}
 use mathlib.Core.Path.{_≡_, refl, sym, _∙_}
 use mathlib.Core.List.{List}
 use lib.ListN.{length, replicate, length-replicate}
 use borrow.Author.Tests.{eq-eqb, ne-eqb}
-use Rattle.limits.specs.Limits.{INTERFACES, CLASSES, BLOCK}
+use Rattle.limits.specs.Limits.{BLOCK}
 use Rattle.script.specs.declared.Question.{Question}
 use Rattle.script.specs.Asking.{numberOf}
 use Rattle.typing.specs.declared.Verdict.{Verdict}
 use Rattle.typing.specs.declared.Verdict.the-variants.{Accepted, Refused}
 use Rattle.typing.specs.Check.{checkOf, verdictNumber, verdictPlace, verdictType}
-use Rattle.members.specs.Tables.{Starts}
+use Rattle.members.specs.Tables.{STARTS, Starts}
 use Rattle.names.specs.Ranks.{FACTS}
 use Rattle.names.specs.Facts.{Facts}
 use Rattle.checker.specs.Lent.{TablesLent, TablesFilled}
@@ -36,10 +36,11 @@ pub tables : (s starts facts : List ℕ) (t : ℕ) → checkOf s ≡ Accepted t 
 tables s starts facts t e h = rw e at h
 
 -- New tables can be lent.
-pub lent : TablesLent (replicate (INTERFACES + CLASSES + CLASSES) 0) (replicate FACTS 0)
+pub lent : TablesLent (replicate STARTS 0) (replicate FACTS 0)
 lent =
     record {
-      runs = length-replicate {A = ℕ} (INTERFACES + CLASSES + CLASSES) 0;
+      runs = length-replicate {A = ℕ} STARTS 0;
+      zeros = new-zeros STARTS;
       facts-lent = record { size = length-replicate {A = ℕ} FACTS 0; zeros = new-zeros FACTS };
     }
 

@@ -1,5 +1,5 @@
 // Check.
-use members::RUNS;
+use members::STARTS;
 use names::FACTS;
 use typing::Verdict;
 ghost use mathlib.Core.Path.{_≡_};
@@ -48,7 +48,7 @@ pub extern "C" fn oolong_check(script: &[u8]) -> CheckReply
     ensures place { λ r. ⌜ r .place ≡ verdictPlace (checkOf (now (script .entry))) ⌝ }
     ensures start_type { λ r. ⌜ r .«start_type» ≡ verdictType (checkOf (now (script .entry))) ⌝ }
 {
-    let mut starts = [0u16; RUNS];
+    let mut starts = [0u16; STARTS];
     let mut facts = [0u16; FACTS];
     check_script(script, &mut starts, &mut facts)
 }

@@ -2,7 +2,7 @@
 use crate::check::check_script;
 use calls::LentQuestion;
 use limits::Limits;
-use members::RUNS;
+use members::STARTS;
 use names::FACTS;
 ghost use mathlib.Core.Path.{_≡_};
 ghost use Rattle.calls.specs.Calls.{offerOf};
@@ -23,7 +23,7 @@ pub extern "C" fn oolong_offer(script: &[u8], block: &[u8], flags: &mut [u8]) ->
     ensures place { λ r. ⌜ r .place ≡ offerOf (now (script .entry)) (now (block .entry)) (now (flags .entry)) .place ⌝ }
     ensures flags { λ r. ⌜ now (flags .exit) ≡ offerOf (now (script .entry)) (now (block .entry)) (now (flags .entry)) .flags ⌝ }
 {
-    let mut starts = [0u16; RUNS];
+    let mut starts = [0u16; STARTS];
     let mut facts = [0u16; FACTS];
     let checked = check_script(script, &mut starts, &mut facts);
     if checked.number != 0 {

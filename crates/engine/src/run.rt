@@ -2,7 +2,7 @@
 use crate::check::check_script;
 use calls::LentQuestion;
 use limits::Limits;
-use members::RUNS;
+use members::STARTS;
 use names::FACTS;
 ghost use mathlib.Core.Path.{_≡_};
 ghost use Rattle.calls.specs.Calls.{runOf};
@@ -42,7 +42,7 @@ pub extern "C" fn oolong_run(script: &[u8], block: &mut [u8], choices: &[u8]) ->
     ensures moves { λ r. ⌜ r .moves ≡ runOf (now (script .entry)) (now (block .entry)) (now (choices .entry)) .moves ⌝ }
     ensures block { λ r. ⌜ now (block .exit) ≡ runOf (now (script .entry)) (now (block .entry)) (now (choices .entry)) .block ⌝ }
 {
-    let mut starts = [0u16; RUNS];
+    let mut starts = [0u16; STARTS];
     let mut facts = [0u16; FACTS];
     let checked = check_script(script, &mut starts, &mut facts);
     if checked.number != 0 {

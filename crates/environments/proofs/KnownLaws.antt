@@ -29,7 +29,7 @@ use Rattle.inference.specs.At.{Blank}
 use Rattle.inference.proofs.InferLaws.{nodeBy, type-small}
 use Rattle.machine.specs.Machine.{context}
 use Rattle.environments.specs.Chains.{Chain, bindingsIn}
-use Rattle.environments.specs.Known.{Asked, Inferable, Tells}
+use Rattle.environments.specs.Known.{ScopedNode, Inferable, Tells}
 
 -- what was found
 pub found-some : (o : Option ℕ) (r : Found) (t : ℕ) → r ≡ foundOf o → r ≡ At t → o ≡ some t
@@ -62,11 +62,11 @@ expr-is {s} {a} w h kind e = expr-at s a h (in-order s w a h) ∙ rw e
 pub told-nothing : (s b : List ℕ) (env : ℕ) (a : Point) → Tells s b env a Nothing
 told-nothing s b env a t e = absurd (let z : _≡_ {A = ℕ} 0 1 = cc in omega arith)
 
-pub asked : {s starts facts table b : List ℕ} {env : ℕ} {a : Point} → Blank s starts facts table → a < countOf s nodes → Chain b env
-    → WfEnv (programOf s) (context (bindingsIn b) env) → Asked s starts b env a
-asked lent h ch g = record { within = lent .within; runs = lent .runs; there = h; chain = ch; types = g }
+pub scoped : {s starts facts table b : List ℕ} {env : ℕ} {a : Point} → Blank s starts facts table → a < countOf s nodes → Chain b env
+    → WfEnv (programOf s) (context (bindingsIn b) env) → ScopedNode s starts b env a
+scoped lent h ch g = record { within = lent .within; runs = lent .runs; there = h; chain = ch; types = g }
 
-module _ {s starts b : List ℕ} {env : ℕ} {a : Point} (k : Asked s starts b env a) where
+module _ {s starts b : List ℕ} {env : ℕ} {a : Point} (k : ScopedNode s starts b env a) where
   -- a type that is told is inferred, so it is small
   judged : (t : ℕ) → inferred (programOf s) (context (bindingsIn b) env) (exprAt s a) ≡ Typed t → Infer (programOf s) (context (bindingsIn b) env) (exprAt s a) t
   judged t e =

@@ -11,13 +11,14 @@ use Rattle.words.specs.Word.{WORD}
 use Rattle.limits.specs.Limits.{BINDINGS}
 use Rattle.script.specs.Lists.{named}
 use Rattle.script.specs.Syntax.{Slot}
+use Rattle.slices.specs.Zero.{AllZero}
 use Rattle.typing.specs.Members.{typeIn}
 use Rattle.names.specs.declared.Rank.{Rank}
 use Rattle.names.specs.declared.Rank.the-variants.{Unnamed, At}
 use Rattle.names.specs.Ranks.{RankOf}
 use Rattle.names.specs.Filling.{RankIs}
 use Rattle.names.specs.Facts.{Facts}
-use Rattle.inference.specs.Tables.{boundWord, Zeros}
+use Rattle.inference.specs.Tables.{boundWord}
 use Rattle.machine.specs.Machine.{scope, slot, context}
 use Rattle.soundness.proofs.Stores.{scope-empty}
 use Rattle.block.specs.declared.Area.the-variants.{Bindings}
@@ -94,8 +95,8 @@ module _ {b : List ℕ} {env : ℕ} (ch : Chain b env) where
       ap (map slot) (ap (scope (bindingsIn b)) (sym s) ∙ chain-link b env (e - 1) ch (omega (arith, w)))
 
   module _ {s facts : List ℕ} where
-    pub fill-begun : {table : List ℕ} → Zeros table → Filling s facts b table table env env
-    fill-begun z = record { within = ch .within; size = refl; rest = λ x k h. rw (z k) }
+    pub fill-begun : {table : List ℕ} → AllZero table → Filling s facts b table table env env
+    fill-begun z = record { within = ch .within; size = refl; rest = λ x k h. rw (z .zero k) }
 
     pub fill-more :
         {before table after : List ℕ} {e : ℕ} (name t link : ℕ)
@@ -158,5 +159,5 @@ module _ {before table : List ℕ} {n : ℕ} (f : Emptied before table n) where
         zeros = λ k l. elim (ℕ-discrete k n) [ yes e ↦ rw e (getD-set-same table n 0 0 h) | no e ↦ getD-set-other table n k 0 0 e ∙ f .zeros k (omega arith) ];
       }
 
-  pub emptied-all : length table ≤ n → Zeros table
-  emptied-all h k = elim (decLt k (length table)) [ yes l ↦ f .zeros k (omega arith) | no l ↦ List·getD-eq-default table 0 {n = k} (omega arith) ]
+  pub emptied-all : length table ≤ n → AllZero table
+  emptied-all h = record { zero = λ k. elim (decLt k (length table)) [ yes l ↦ f .zeros k (omega arith) | no l ↦ List·getD-eq-default table 0 {n = k} (omega arith) ] }

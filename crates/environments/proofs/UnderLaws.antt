@@ -8,15 +8,16 @@ use Rattle.script.specs.declared.Section.the-variants.{Nodes as nodes}
 use Rattle.script.specs.Section.{countOf}
 use Rattle.script.specs.Syntax.{Point, Slot}
 use Rattle.script.specs.Reading.{programOf}
+use Rattle.slices.specs.Zero.{AllZero}
 use Rattle.typing.specs.Published.{WfEnv}
-use Rattle.inference.specs.Tables.{EnvIs, Zeros}
+use Rattle.inference.specs.Tables.{EnvIs}
 use Rattle.inference.specs.At.{At, Blank}
 use Rattle.environments.specs.Chains.{Filled}
 
 module _ {s starts facts table : List ℕ} (lent : Blank s starts facts table) where
   -- made zeros again after a walk that left it as it was filled, it is what was lent
-  pub zeros-again : {filled walked after : List ℕ} → length filled ≡ length table → walked ≡ filled → length after ≡ length walked → Zeros after → after ≡ table
-  zeros-again {after = after} e w f z = ext-getD 0 after table (f ∙ ap length w ∙ e) (λ i h. z i ∙ sym (lent .zeros i))
+  pub zeros-again : {filled walked after : List ℕ} → length filled ≡ length table → walked ≡ filled → length after ≡ length walked → AllZero after → after ≡ table
+  zeros-again {after = after} e w f z = ext-getD 0 after table (f ∙ ap length w ∙ e) (λ i h. z .zero i ∙ sym (lent .zeros .zero i))
 
   -- the table filled: the environment that it is of, and where the walk stands
   module _ {filled : List ℕ} {Γ : List Slot} (wf : WfEnv (programOf s) Γ) (f : Filled s facts filled Γ) where

@@ -1,4 +1,4 @@
--- What is asked where the type of a node is told without a walk over its parts, and what is told.
+-- The type of a node that is told without a walk over its parts: where, and what is told.
 use Prim.Native.Nat.{ℕ, _<_}
 use mathlib.Core.Path.{_≡_}
 use mathlib.Core.List.{List}
@@ -17,7 +17,7 @@ use Rattle.machine.specs.Machine.{context}
 use Rattle.environments.specs.Chains.{Chain, bindingsIn}
 
 -- Node a of the script, and an environment of the block, whose variables have types.
-pub record Asked (s starts b : List ℕ) (env : ℕ) (a : Point) : Type 0 where
+pub record ScopedNode (s starts b : List ℕ) (env : ℕ) (a : Point) : Type 0 where
   pub within : WithinLayout s
   pub runs : Starts s starts
   pub there : a < countOf s nodes

@@ -15,11 +15,11 @@ ghost use Rattle.typing.specs.Typing.{inferred};
 ghost use Rattle.inference.specs.At.{Blank};
 ghost use Rattle.machine.specs.Machine.{context};
 ghost use Rattle.environments.specs.Chains.{Chain, Typed, bindingsIn};
-ghost use Rattle.environments.specs.Known.{Asked, Inferable, Tells};
+ghost use Rattle.environments.specs.Known.{ScopedNode, Inferable, Tells};
 
 // The type of a read: the one of its field.
 fn read_type(s: &[u8], starts: &[u16], block: &[u8], env: u16, a: u16) -> Found
-    requires { ⌜ Asked (now s) (now starts) (now block) env a × (nodeWord (now s) a 0 ≡ 2) ⌝ }
+    requires { ⌜ ScopedNode (now s) (now starts) (now block) env a × (nodeWord (now s) a 0 ≡ 2) ⌝ }
     ensures { λ r. ⌜ Tells (now (s .entry)) (now (block .entry)) env a r ⌝ }
 {
     let x = node_word(s, a, 1);
@@ -32,7 +32,7 @@ fn read_type(s: &[u8], starts: &[u16], block: &[u8], env: u16, a: u16) -> Found
 
 // The type of a call that has one: the result type of its method.
 fn call_type(s: &[u8], starts: &[u16], block: &[u8], env: u16, a: u16) -> Found
-    requires { ⌜ Asked (now s) (now starts) (now block) env a × (nodeWord (now s) a 0 ≡ 4) × Inferable (now s) (now block) env a ⌝ }
+    requires { ⌜ ScopedNode (now s) (now starts) (now block) env a × (nodeWord (now s) a 0 ≡ 4) × Inferable (now s) (now block) env a ⌝ }
     ensures { λ r. ⌜ Tells (now (s .entry)) (now (block .entry)) env a r ⌝ }
 {
     let x = node_word(s, a, 1);
@@ -48,7 +48,7 @@ fn call_type(s: &[u8], starts: &[u16], block: &[u8], env: u16, a: u16) -> Found
 
 // The type of a node that has one, where its kind tells it: of a let, a fork and a lock nothing is told.
 fn known_type(s: &[u8], starts: &[u16], block: &[u8], env: u16, a: u16) -> Found
-    requires { ⌜ Asked (now s) (now starts) (now block) env a × Inferable (now s) (now block) env a ⌝ }
+    requires { ⌜ ScopedNode (now s) (now starts) (now block) env a × Inferable (now s) (now block) env a ⌝ }
     ensures { λ r. ⌜ Tells (now (s .entry)) (now (block .entry)) env a r ⌝ }
 {
     let kind = node_word(s, a, 0);

@@ -19,11 +19,11 @@ ghost use Rattle.script.specs.declared.Section.the-variants.{Nodes as nodes};
 ghost use Rattle.script.specs.Section.{countOf};
 ghost use Rattle.script.specs.Reading.{programOf, exprAt};
 ghost use Rattle.script.specs.Statements.{WithinLayout};
+ghost use Rattle.slices.specs.Zero.{AllZero};
 ghost use Rattle.typing.specs.Published.{WfEnv};
 ghost use Rattle.typing.specs.Typing.{inferred};
 ghost use Rattle.names.specs.Ranks.{RANKS};
 ghost use Rattle.names.specs.Facts.{Facts};
-ghost use Rattle.inference.specs.Tables.{Zeros};
 ghost use Rattle.inference.specs.At.{Blank};
 ghost use Rattle.block.specs.declared.Area.the-variants.{Bindings};
 ghost use Rattle.block.specs.Layout.{width, wordIn};
@@ -63,7 +63,7 @@ fn store_type(s: &[u8], facts: &[u16], table: &mut [u16], name: u16, t: u16)
 
 // Stores the types of an environment's variables in a table of zeros: the nearest binding counts.
 pub fn fill(s: &[u8], facts: &[u16], table: &mut [u16], block: &[u8], env: u16)
-    requires { ⌜ WithinLayout (now s) × Facts (now s) (now facts) × (length (now table) ≡ RANKS) × Zeros (now table) ⌝ }
+    requires { ⌜ WithinLayout (now s) × Facts (now s) (now facts) × (length (now table) ≡ RANKS) × AllZero (now table) ⌝ }
     requires { ⌜ Chain (now block) env × Typed (now block) ⌝ }
     ensures { λ r. ⌜ Filled (now (s .entry)) (now (facts .entry)) (now (table .exit)) (context (bindingsIn (now (block .entry))) env) ⌝ }
     ensures { λ r. ⌜ length (now (table .exit)) ≡ length (now (table .entry)) ⌝ }
@@ -79,7 +79,7 @@ pub fn fill(s: &[u8], facts: &[u16], table: &mut [u16], block: &[u8], env: u16)
 
 // Makes every word of a table 0.
 pub fn empty(table: &mut [u16])
-    ensures { λ r. ⌜ Zeros (now (table .exit)) ⌝ }
+    ensures { λ r. ⌜ AllZero (now (table .exit)) ⌝ }
     ensures { λ r. ⌜ length (now (table .exit)) ≡ length (now (table .entry)) ⌝ }
 {
     let mut k = 0;

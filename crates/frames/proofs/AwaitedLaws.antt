@@ -28,7 +28,7 @@ use Rattle.machine.specs.declared.Want.{Want}
 use Rattle.machine.specs.declared.Want.the-variants.{Upto as upto}
 use Rattle.machine.specs.Decide.{given, ifTyped, only, meetsTest, answerTest, wants, awaited}
 use Rattle.environments.specs.Chains.{bindingsIn}
-use Rattle.environments.specs.Known.{Asked, Inferable}
+use Rattle.environments.specs.Known.{ScopedNode, Inferable}
 use Rattle.environments.proofs.KnownLaws.{found-some, expr-is}
 use Rattle.frames.specs.declared.awaited.Expects.the-variants.{No, Wants}
 use Rattle.frames.specs.declared.awaited.Waits.{Waits}
@@ -57,7 +57,7 @@ method-found (some g) r t u k e f = let y : g .param ≡ t = cc in let z : g .re
 abbrev lastAnswer : List ℕ → List ℕ → ℕ → Point → ℕ → Answer
 lastAnswer s b e n t = inferred (programOf s) (record { name = nodeWord s n 1; type = t } ∷ context (bindingsIn b) e) (exprAt s (nodeWord s n 3))
 
-module _ {s starts b : List ℕ} {n : Point} {e : ℕ} (a : Asked s starts b e n) where
+module _ {s starts b : List ℕ} {n : Point} {e : ℕ} (a : ScopedNode s starts b e n) where
   -- a write and a call, by the type of the target
   module _ (x : ℕ) (ex : x ≡ nodeWord s n 1) (v : Found) (ev : v ≡ foundOf (typeIn (context (bindingsIn b) e) x)) where
     module _ (k : nodeWord s n 0 ≡ 3) where

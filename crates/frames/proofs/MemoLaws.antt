@@ -13,7 +13,7 @@ use Rattle.environments.specs.Chains.{bindingCount, bindingsIn, Chain}
 use Rattle.frames.specs.declared.awaited.Waits.{Waits}
 use Rattle.frames.specs.declared.awaited.Waits.the-variants.{Never, For}
 use Rattle.frames.specs.Expecting.{WaitsAs}
-use Rattle.frames.specs.Memo.{WIDTH, keptAt, awaitsAt, givesAt, Placed, Remembers, Recalled, Recalls, replaced}
+use Rattle.frames.specs.Memo.{WIDTH, keptAt, awaitsAt, givesAt, Placed, Remembers, Recalled, Recalls, withEntry}
 
 -- nothing is recalled, or an entry is
 pub recalls-nothing : (b memo : List ℕ) (n : Point) (e : ℕ) → Recalls b memo n e Never
@@ -38,7 +38,7 @@ as-told s b n e r w h f = rw f at h
 pub kept-chain : {b memo : List ℕ} (n : Point) {e : ℕ} → Chain b e → Placed b memo → (keptAt memo n ≡ 0 → ⊥) → Chain b (keptAt memo n - 1)
 kept-chain n ch p h = record { long = ch .long; few = ch .few; links = ch .links; within = p .environments n _ (omega arith) }
 
--- one entry replaced, word by word
+-- one entry exchanged, word by word
 abbrev once : List ℕ → Point → ℕ → List ℕ
 once memo n e = set memo (n * WIDTH) (e + 1)
 
@@ -46,40 +46,40 @@ abbrev twice : List ℕ → Point → ℕ → ℕ → List ℕ
 twice memo n e t = set (once memo n e) (n * WIDTH + 1) t
 
 module _ (memo : List ℕ) (size : length memo ≡ NODES * WIDTH) (n : Point) (h : n < NODES) (e t u : ℕ) where
-  size-kept : length (replaced memo n e t u) ≡ NODES * WIDTH
+  size-kept : length (withEntry memo n e t u) ≡ NODES * WIDTH
   size-kept = simp length-set size
 
-  elsewhere : (k i : ℕ) → (k ≡ n → ⊥) → k * WIDTH ≤ i → i < k * WIDTH + WIDTH → getD (replaced memo n e t u) i 0 ≡ getD memo i 0
+  elsewhere : (k i : ℕ) → (k ≡ n → ⊥) → k * WIDTH ≤ i → i < k * WIDTH + WIDTH → getD (withEntry memo n e t u) i 0 ≡ getD memo i 0
   elsewhere k i d low high =
       getD-set-other (twice memo n e t) (n * WIDTH + 2) i u 0 (λ q. d (omega arith))
       ∙ getD-set-other (once memo n e) (n * WIDTH + 1) i t 0 (λ q. d (omega arith))
       ∙ getD-set-other memo (n * WIDTH) i (e + 1) 0 (λ q. d (omega arith))
 
-  own-kept : keptAt (replaced memo n e t u) n ≡ e + 1
+  own-kept : keptAt (withEntry memo n e t u) n ≡ e + 1
   own-kept =
       getD-set-other (twice memo n e t) (n * WIDTH + 2) (n * WIDTH) u 0 (λ q. omega arith)
       ∙ getD-set-other (once memo n e) (n * WIDTH + 1) (n * WIDTH) t 0 (λ q. omega arith)
       ∙ getD-set-same memo (n * WIDTH) (e + 1) 0 (omega arith)
 
-  own-awaits : awaitsAt (replaced memo n e t u) n ≡ t
+  own-awaits : awaitsAt (withEntry memo n e t u) n ≡ t
   own-awaits =
       getD-set-other (twice memo n e t) (n * WIDTH + 2) (n * WIDTH + 1) u 0 (λ q. omega arith)
       ∙ getD-set-same (once memo n e) (n * WIDTH + 1) t 0 (simp length-set (omega arith))
 
-  own-gives : givesAt (replaced memo n e t u) n ≡ u
+  own-gives : givesAt (withEntry memo n e t u) n ≡ u
   own-gives = getD-set-same (twice memo n e t) (n * WIDTH + 2) u 0 (simp length-set (omega arith))
 
   module _ {s b : List ℕ} (m : Remembers s b memo) (l : e ≤ bindingCount b) (w : WaitsAs s b n e (For t u)) where
-    own : (k f : ℕ) → k ≡ n → keptAt (replaced memo n e t u) k ≡ suc f
-        → WaitsAs s b k f (For (awaitsAt (replaced memo n e t u) k) (givesAt (replaced memo n e t u) k))
+    own : (k f : ℕ) → k ≡ n → keptAt (withEntry memo n e t u) k ≡ suc f
+        → WaitsAs s b k f (For (awaitsAt (withEntry memo n e t u) k) (givesAt (withEntry memo n e t u) k))
     own k f d q = let z : e ≡ f = omega (arith, rw d at q, own-kept) in rw (d, own-awaits, own-gives, ← z) w
 
-    other : (k f : ℕ) → (k ≡ n → ⊥) → keptAt (replaced memo n e t u) k ≡ suc f
-        → WaitsAs s b k f (For (awaitsAt (replaced memo n e t u) k) (givesAt (replaced memo n e t u) k))
+    other : (k f : ℕ) → (k ≡ n → ⊥) → keptAt (withEntry memo n e t u) k ≡ suc f
+        → WaitsAs s b k f (For (awaitsAt (withEntry memo n e t u) k) (givesAt (withEntry memo n e t u) k))
     other k f d q =
         rw (elsewhere k (k * WIDTH + 1) d (omega arith) (omega arith), elsewhere k (k * WIDTH + 2) d (omega arith) (omega arith)) (m .entries k f (sym (elsewhere k (k * WIDTH) d (omega arith) (omega arith)) ∙ q))
 
-    pub remembered : {after : List ℕ} → after ≡ replaced memo n e t u → Remembers s b after
+    pub remembered : {after : List ℕ} → after ≡ withEntry memo n e t u → Remembers s b after
     remembered a =
         rw a
         (record {

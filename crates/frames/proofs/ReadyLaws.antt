@@ -27,10 +27,10 @@ use Rattle.block.proofs.Decode.{encode-decode}
 use Rattle.representation.proofs.InOrder.{in-order-decodes}
 use Rattle.areas.proofs.Laws.{frames-counted}
 use Rattle.environments.specs.Chains.{bindingCount, bindingAt, newest, bindingsIn, Chain, Typed}
-use Rattle.environments.specs.Known.{Asked}
+use Rattle.environments.specs.Known.{ScopedNode}
 use Rattle.environments.proofs.ChainLaws.{length-newest}
-use Rattle.environments.proofs.KnownLaws.{asked}
-use Rattle.frames.specs.Expecting.{configOf, Ready, framesIn}
+use Rattle.environments.proofs.KnownLaws.{scoped}
+use Rattle.frames.specs.Expecting.{configOf, Ready, NodeUnder, framesIn}
 
 -- the bindings of an environment are some of the block's
 scope-types :
@@ -59,8 +59,8 @@ module _ {s starts facts table b : List ℕ} (y : Ready s starts facts table b) 
   unfolding bindingsIn
   well e = WF-ENV (λ d m. type-wf (programOf s) (d .type) .0 (scope-types (programOf s) (bindingAt b) (bindingCount b) (y .types) e d m))
 
-  pub asked-at : {n e : ℕ} → n < countOf s nodes → e ≤ bindingCount b → Asked s starts b e n
-  asked-at {e = e} h l = asked (y .blank) h (chain e l) (well e)
+  pub scoped-at : {n e : ℕ} → NodeUnder s b n e → ScopedNode s starts b e n
+  scoped-at {e = e} u = scoped (y .blank) (u .node) (chain e (u .environment)) (well e)
 
   pub small-node : {n : ℕ} → n < countOf s nodes → n < NODES
   small-node h = omega (arith, y .blank .within .counts-are .within nodes)

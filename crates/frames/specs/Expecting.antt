@@ -7,7 +7,9 @@ use mathlib.Core.List.{List, reverse}
 use mathlib.Core.Option.{Option, none, some}
 use lib.Dec.{leb, ltb}
 use lib.ListN.{length, getD, take, drop}
+use Rattle.script.specs.declared.Section.the-variants.{Nodes as nodes}
 use Rattle.script.specs.Lists.{sumBelow}
+use Rattle.script.specs.Section.{countOf}
 use Rattle.script.specs.Syntax.{Point}
 use Rattle.script.specs.Reading.{viewAt, programOf}
 use Rattle.script.specs.Regular.{IsType}
@@ -54,6 +56,11 @@ pub record Ready (s starts facts table b : List ℕ) : Type 0 where
   pub in-order : InOrder (fieldCount s) b
   pub links : (i : ℕ) → i < bindingCount b → wordIn b Bindings i LINK ≤ i
   pub types : (i : ℕ) → i < bindingCount b → IsType (programOf s) (wordIn b Bindings i TYPE)
+
+-- Node n is one of the script's, and e an environment of the block.
+pub record NodeUnder (s b : List ℕ) (n : Point) (e : ℕ) : Type 0 where
+  pub node : n < countOf s nodes
+  pub environment : e ≤ bindingCount b
 
 -- What is expected of the value that goes on above a frame, where v is expected beneath it: one step of `expects`.
 abbrev pub awaitsStep : Code → List Binding → Point → ℕ → Want → Option Want

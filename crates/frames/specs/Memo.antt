@@ -10,7 +10,7 @@ use Rattle.machine.specs.Machine.{context}
 use Rattle.environments.specs.Chains.{bindingCount, bindingsIn}
 use Rattle.frames.specs.declared.awaited.Waits.{Waits}
 use Rattle.frames.specs.declared.awaited.Waits.the-variants.{For}
-use Rattle.frames.specs.Expecting.{WaitsAs}
+use Rattle.frames.specs.Expecting.{WaitsAs, Ready}
 
 abbrev pub WIDTH : ℕ
 WIDTH = 3
@@ -35,6 +35,11 @@ pub record Remembers (s b memo : List ℕ) : Type 0 where
   pub placed : Placed b memo
   pub entries : (n e : ℕ) → keptAt memo n ≡ suc e → WaitsAs s b n e (For (awaitsAt memo n) (givesAt memo n))
 
+-- What the code is lent, with the memo.
+pub record MemoReady (s starts facts table b memo : List ℕ) : Type 0 where
+  pub ready : Ready s starts facts table b
+  pub remembers : Remembers s b memo
+
 -- The entry of node n is of an environment with the scope of e, and says t and u.
 pub record Recalled (b memo : List ℕ) (n : Point) (e t u : ℕ) : Type 0 where
   pub kept : ℕ
@@ -47,5 +52,5 @@ abbrev pub Recalls : List ℕ → List ℕ → Point → ℕ → Waits → Type 
 Recalls b memo n e r = (t u : ℕ) → r ≡ For t u → Recalled b memo n e t u
 
 -- The memo with t and u for node n in environment e.
-abbrev pub replaced : List ℕ → Point → ℕ → ℕ → ℕ → List ℕ
-replaced memo n e t u = set (set (set memo (n * WIDTH) (e + 1)) (n * WIDTH + 1) t) (n * WIDTH + 2) u
+abbrev pub withEntry : List ℕ → Point → ℕ → ℕ → ℕ → List ℕ
+withEntry memo n e t u = set (set (set memo (n * WIDTH) (e + 1)) (n * WIDTH + 1) t) (n * WIDTH + 2) u

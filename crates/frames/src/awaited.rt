@@ -6,14 +6,12 @@ use sections::node_word;
 use typing::Answer;
 use values::meets;
 ghost use mathlib.Core.Path.{_≡_};
-ghost use Prim.Native.Nat.{_<_, _≤_};
-ghost use Rattle.script.specs.declared.Section.the-variants.{Nodes as nodes};
-ghost use Rattle.script.specs.Section.{countOf, nodeWord};
+ghost use Rattle.script.specs.Section.{nodeWord};
 ghost use Rattle.script.specs.Statements.{WithinLayout};
+ghost use Rattle.members.specs.Tables.{Starts};
 ghost use Rattle.machine.specs.Config.{codeOf};
-ghost use Rattle.environments.specs.Chains.{bindingCount};
-ghost use Rattle.environments.specs.Known.{Asked};
-ghost use Rattle.frames.specs.Expecting.{Ready, expectsOf, wantsOf, WaitsAs};
+ghost use Rattle.environments.specs.Known.{ScopedNode};
+ghost use Rattle.frames.specs.Expecting.{Ready, NodeUnder, expectsOf, wantsOf, WaitsAs};
 
 // What is expected of the value that goes on above some frames, where they are typed.
 pub enum Expects {
@@ -28,14 +26,14 @@ pub enum Waits {
 }
 
 // What is expected above a frame that waits so: a value of the type that it waits for, if what it then gives meets `want`.
-pub fn expected(s: &[u8], w: Waits, want: Want) -> Expects
-    requires { ⌜ WithinLayout (now s) ⌝ }
+pub fn expected(s: &[u8], starts: &[u16], w: Waits, want: Want) -> Expects
+    requires { ⌜ WithinLayout (now s) × Starts (now s) (now starts) ⌝ }
     ensures { λ r. ⌜ r ≡ expectsOf (wantsOf (codeOf (now (s .entry))) want w) ⌝ }
 {
     let Waits::For(t, u) = w else {
         return Expects::No;
     };
-    if !meets(s, u, want) {
+    if !meets(s, starts, u, want) {
         return Expects::No;
     }
     Expects::Wants(Want::Upto(t))
@@ -43,7 +41,7 @@ pub fn expected(s: &[u8], w: Waits, want: Want) -> Expects
 
 // A write waits for a value of its field's type, and gives Unit.
 pub fn write_waits(s: &[u8], starts: &[u16], block: &[u8], n: u16, e: u16) -> Waits
-    requires { ⌜ Asked (now s) (now starts) (now block) e n × (nodeWord (now s) n 0 ≡ 3) ⌝ }
+    requires { ⌜ ScopedNode (now s) (now starts) (now block) e n × (nodeWord (now s) n 0 ≡ 3) ⌝ }
     ensures { λ r. ⌜ WaitsAs (now (s .entry)) (now (block .entry)) n e r ⌝ }
 {
     let x = node_word(s, n, 1);
@@ -59,7 +57,7 @@ pub fn write_waits(s: &[u8], starts: &[u16], block: &[u8], n: u16, e: u16) -> Wa
 
 // A call waits for a value of its method's parameter type, and gives one of the result type.
 pub fn call_waits(s: &[u8], starts: &[u16], block: &[u8], n: u16, e: u16) -> Waits
-    requires { ⌜ Asked (now s) (now starts) (now block) e n × (nodeWord (now s) n 0 ≡ 4) ⌝ }
+    requires { ⌜ ScopedNode (now s) (now starts) (now block) e n × (nodeWord (now s) n 0 ≡ 4) ⌝ }
     ensures { λ r. ⌜ WaitsAs (now (s .entry)) (now (block .entry)) n e r ⌝ }
 {
     let x = node_word(s, n, 1);
@@ -85,7 +83,7 @@ pub fn let_waits(
     e: u16,
 ) -> Waits
     requires { ⌜ Ready (now s) (now starts) (now facts) (now table) (now block) ⌝ }
-    requires { ⌜ (n < countOf (now s) nodes) × (e ≤ bindingCount (now block)) × (nodeWord (now s) n 0 ≡ 5) ⌝ }
+    requires { ⌜ NodeUnder (now s) (now block) n e × (nodeWord (now s) n 0 ≡ 5) ⌝ }
     ensures { λ r. ⌜ WaitsAs (now (s .entry)) (now (block .entry)) n e r ⌝ }
     ensures { λ r. ⌜ now (table .exit) ≡ now (table .entry) ⌝ }
 {

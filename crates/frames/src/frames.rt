@@ -17,17 +17,15 @@ use values::meets;
 ghost use mathlib.Core.Path.{_≡_};
 ghost use Prim.Native.Nat.{_+_, _<_, _≤_};
 ghost use lib.ListN.{getD};
-ghost use Rattle.script.specs.declared.Section.the-variants.{Nodes as nodes};
-ghost use Rattle.script.specs.Section.{countOf};
 ghost use Rattle.script.specs.Statements.{WithinLayout};
 ghost use Rattle.machine.specs.declared.Frame.the-variants.{Awaits as awaits};
 ghost use Rattle.machine.specs.Config.{codeOf};
 ghost use Rattle.machine.specs.Decide.{expects};
 ghost use Rattle.block.specs.declared.Area.the-variants.{Frames};
 ghost use Rattle.block.specs.Layout.{counted};
-ghost use Rattle.environments.specs.Chains.{bindingCount, bindingsIn};
-ghost use Rattle.frames.specs.Expecting.{expectsOf, WaitsAs, AwaitsAs, CastsAs, Ready, frameStep, framesIn, framesFrom, nodeTest};
-ghost use Rattle.frames.specs.Memo.{Remembers};
+ghost use Rattle.environments.specs.Chains.{bindingsIn};
+ghost use Rattle.frames.specs.Expecting.{expectsOf, WaitsAs, AwaitsAs, CastsAs, Ready, NodeUnder, frameStep, framesIn, framesFrom, nodeTest};
+ghost use Rattle.frames.specs.Memo.{Remembers, MemoReady};
 
 // What node n waits for in the environment e, as a frame: a write, a call or a let.
 fn node_waits(
@@ -40,8 +38,8 @@ fn node_waits(
     n: u16,
     e: u16,
 ) -> Waits
-    requires { ⌜ Ready (now s) (now starts) (now facts) (now table) (now block) × Remembers (now s) (now block) (now memo) ⌝ }
-    requires { ⌜ (n < countOf (now s) nodes) × (e ≤ bindingCount (now block)) ⌝ }
+    requires { ⌜ MemoReady (now s) (now starts) (now facts) (now table) (now block) (now memo) ⌝ }
+    requires { ⌜ NodeUnder (now s) (now block) n e ⌝ }
     ensures { λ r. ⌜ WaitsAs (now (s .entry)) (now (block .entry)) n e r ⌝ }
     ensures { λ r. ⌜ now (table .exit) ≡ now (table .entry) ⌝ }
     ensures { λ r. ⌜ Remembers (now (s .entry)) (now (block .entry)) (now (memo .exit)) ⌝ }
@@ -66,7 +64,7 @@ fn awaits_waits(
     n: u16,
     e: u16,
 ) -> Waits
-    requires { ⌜ Ready (now s) (now starts) (now facts) (now table) (now block) × Remembers (now s) (now block) (now memo) ⌝ }
+    requires { ⌜ MemoReady (now s) (now starts) (now facts) (now table) (now block) (now memo) ⌝ }
     ensures { λ r. ⌜ AwaitsAs (now (s .entry)) (now (block .entry)) n e r ⌝ }
     ensures { λ r. ⌜ now (table .exit) ≡ now (table .entry) ⌝ }
     ensures { λ r. ⌜ Remembers (now (s .entry)) (now (block .entry)) (now (memo .exit)) ⌝ }
@@ -107,7 +105,7 @@ fn frame_want(
     i: usize,
     want: Want,
 ) -> Expects
-    requires { ⌜ Ready (now s) (now starts) (now facts) (now table) (now block) × Remembers (now s) (now block) (now memo) ⌝ }
+    requires { ⌜ MemoReady (now s) (now starts) (now facts) (now table) (now block) (now memo) ⌝ }
     requires { ⌜ i < counted (now block) Frames ⌝ }
     ensures { λ r. ⌜
         r ≡ expectsOf
@@ -120,11 +118,11 @@ fn frame_want(
     match f {
         Frame::Awaits(n, e) => {
             let w = awaits_waits(s, starts, facts, table, block, memo, n, e);
-            expected(s, w, want)
+            expected(s, starts, w, want)
         }
         Frame::Casts(n) => {
             let w = cast_waits(s, n);
-            expected(s, w, want)
+            expected(s, starts, w, want)
         }
         Frame::Locks(_) => Expects::Wants(want),
     }
@@ -142,7 +140,7 @@ pub fn frames_want(
     n: usize,
     want: Want,
 ) -> Expects
-    requires { ⌜ Ready (now s) (now starts) (now facts) (now table) (now block) × Remembers (now s) (now block) (now memo) ⌝ }
+    requires { ⌜ MemoReady (now s) (now starts) (now facts) (now table) (now block) (now memo) ⌝ }
     requires { ⌜ from + n ≤ counted (now block) Frames ⌝ }
     ensures { λ r. ⌜
         r ≡ expectsOf
@@ -191,5 +189,5 @@ pub fn node_fits(
     let Answer::Typed(t) = environments::infer_under(s, starts, facts, table, block, e, n) else {
         return false;
     };
-    meets(s, t, want)
+    meets(s, starts, t, want)
 }

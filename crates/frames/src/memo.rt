@@ -4,15 +4,14 @@ use crate::awaited::let_waits;
 use environments::same_scope;
 use limits::Limits;
 ghost use mathlib.Core.Path.{_≡_};
-ghost use Prim.Native.Nat.{_+_, _*_, _<_, _≤_};
+ghost use Prim.Native.Nat.{_+_, _*_, _<_};
 ghost use lib.ListN.{length};
 ghost use Rattle.limits.specs.Limits.{NODES};
 ghost use Rattle.words.specs.Word.{WORD};
-ghost use Rattle.script.specs.declared.Section.the-variants.{Nodes as nodes};
-ghost use Rattle.script.specs.Section.{countOf, nodeWord};
-ghost use Rattle.environments.specs.Chains.{Chain, bindingCount};
-ghost use Rattle.frames.specs.Expecting.{Ready, WaitsAs};
-ghost use Rattle.frames.specs.Memo.{WIDTH as ENTRY-WIDTH, Placed, Remembers, Recalls, replaced};
+ghost use Rattle.script.specs.Section.{nodeWord};
+ghost use Rattle.environments.specs.Chains.{Chain};
+ghost use Rattle.frames.specs.Expecting.{WaitsAs, NodeUnder};
+ghost use Rattle.frames.specs.Memo.{WIDTH as ENTRY-WIDTH, Placed, Remembers, MemoReady, Recalls, withEntry};
 
 // The words of an entry: an environment and 1 more, or 0 where none is kept, and the two types. There is an entry for each node.
 const WIDTH: usize = 3;
@@ -38,7 +37,7 @@ fn recall(block: &[u8], memo: &[u16], n: u16, e: u16) -> Waits
 // Keeps for node n in environment e that it waits for type t and gives u.
 fn remember(memo: &mut [u16], n: u16, e: u16, t: u16, u: u16)
     requires { ⌜ (length (now memo) ≡ NODES * ENTRY-WIDTH) × (n < NODES) × (e + 1 < WORD) ⌝ }
-    ensures { λ r. ⌜ now (memo .exit) ≡ replaced (now (memo .entry)) n e t u ⌝ }
+    ensures { λ r. ⌜ now (memo .exit) ≡ withEntry (now (memo .entry)) n e t u ⌝ }
 {
     let at = n as usize * WIDTH;
     memo[at] = e + 1;
@@ -57,8 +56,8 @@ pub fn let_recalled(
     n: u16,
     e: u16,
 ) -> Waits
-    requires { ⌜ Ready (now s) (now starts) (now facts) (now table) (now block) × Remembers (now s) (now block) (now memo) ⌝ }
-    requires { ⌜ (n < countOf (now s) nodes) × (e ≤ bindingCount (now block)) × (nodeWord (now s) n 0 ≡ 5) ⌝ }
+    requires { ⌜ MemoReady (now s) (now starts) (now facts) (now table) (now block) (now memo) ⌝ }
+    requires { ⌜ NodeUnder (now s) (now block) n e × (nodeWord (now s) n 0 ≡ 5) ⌝ }
     ensures { λ r. ⌜ WaitsAs (now (s .entry)) (now (block .entry)) n e r ⌝ }
     ensures { λ r. ⌜ now (table .exit) ≡ now (table .entry) ⌝ }
     ensures { λ r. ⌜ Remembers (now (s .entry)) (now (block .entry)) (now (memo .exit)) ⌝ }

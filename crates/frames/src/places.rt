@@ -15,7 +15,7 @@ ghost use Rattle.machine.specs.Decide.{treeTest};
 ghost use Rattle.block.specs.declared.Area.the-variants.{Positions};
 ghost use Rattle.block.specs.Layout.{counted};
 ghost use Rattle.frames.specs.Expecting.{configOf, Ready, framesBefore, placeAt, positionTest};
-ghost use Rattle.frames.specs.Memo.{Remembers};
+ghost use Rattle.frames.specs.Memo.{Remembers, MemoReady};
 
 // Are the frames of position i typed, and does its node or value meet what they expect? A failed thread always fits. `from` is the number of its first frame.
 fn position_fits(
@@ -29,7 +29,7 @@ fn position_fits(
     from: usize,
     want: Want,
 ) -> bool
-    requires { ⌜ Ready (now s) (now starts) (now facts) (now table) (now block) × Remembers (now s) (now block) (now memo) ⌝ }
+    requires { ⌜ MemoReady (now s) (now starts) (now facts) (now table) (now block) (now memo) ⌝ }
     requires { ⌜ (i < counted (now block) Positions) × (from ≡ framesBefore (now block) i) ⌝ }
     ensures { λ r. ⌜
         r ≡ positionTest (codeOf (now (s .entry))) (configOf (now (s .entry)) (now (block .entry)) .stores) want
@@ -48,7 +48,7 @@ fn position_fits(
     };
     if kind == Layout::RETURNING {
         let x = areas::value(block, Area::Positions, i, Layout::RESULT);
-        return value_fits(s, block, x, v);
+        return value_fits(s, starts, block, x, v);
     }
     let a = areas::word(block, Area::Positions, i, Layout::NODE);
     let e = areas::word(block, Area::Positions, i, Layout::ENV);

@@ -32,7 +32,8 @@ use Rattle.members.specs.declared.Member.the-variants.{Types, Missing}
 use Rattle.typing.specs.Members.{below, typeIn, fieldIn, methodIn}
 use Rattle.typing.specs.Typing.{fv, shares, andThen, orFaulty, unlessShared, answer, inferred, checked}
 use Rattle.names.specs.Ranks.{RANKS, nameIn, Names, RankOf, of-node, Ranked}
-use Rattle.names.specs.Facts.{flagOf, Facts}
+use Rattle.slices.specs.Bits.{flagOf}
+use Rattle.names.specs.Facts.{Facts}
 use Rattle.members.specs.Tables.{memberOf}
 use Rattle.inference.specs.Tables.{boundWord, EnvIs}
 use Rattle.inference.specs.At.{Target, At, Inferred, Checked}

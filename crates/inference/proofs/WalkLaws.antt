@@ -31,12 +31,12 @@ use Rattle.inference.proofs.InferLaws.{env-bind, word-back, type-small}
 module _ {s starts facts env : List ℕ} (b : Blank s starts facts env) where
   no-variable : EnvIs s facts env []
   unfolding typeIn named
-  no-variable = record { types = WF-ENV (λ x m. absurd (List·Memᴰ·not-nil m)); holds = λ {x} {k} h. b .zeros k }
+  no-variable = record { types = WF-ENV (λ x m. absurd (List·Memᴰ·not-nil m)); holds = λ {x} {k} h. b .zeros .zero k }
 
   pub unbound-again : (u v : ℕ) {env₂ : List ℕ} → env₂ ≡ set (set env 0 u) 1 v → set (set env₂ 1 0) 0 0 ≡ env
   unbound-again u v {env₂} e =
-      let this : getD env 0 0 ≡ 0 = b .zeros 0 in
-      let param : getD (set env 0 u) 1 0 ≡ 0 = getD-set-other env 0 1 u 0 (λ z. omega arith) ∙ b .zeros 1 in
+      let this : getD env 0 0 ≡ 0 = b .zeros .zero 0 in
+      let param : getD (set env 0 u) 1 0 ≡ 0 = getD-set-other env 0 1 u 0 (λ z. omega arith) ∙ b .zeros .zero 1 in
       let first : set env₂ 1 0 ≡ set env 0 u = rw param at (word-back 1 v {env = set env 0 u} refl e) in
       rw this at (word-back 0 u {env = env} refl first)
 

@@ -8,13 +8,14 @@ use Rattle.script.specs.Section.{countOf, nodeWord}
 use Rattle.script.specs.Syntax.{Point, Expr, Slot, Method, Program}
 use Rattle.script.specs.Reading.{programOf}
 use Rattle.script.specs.Statements.{WithinLayout}
+use Rattle.slices.specs.Zero.{AllZero}
 use Rattle.typing.specs.declared.Answer.{Answer}
 use Rattle.typing.specs.Environments.{bodyEnv}
 use Rattle.typing.specs.Typing.{andThen, inferred, checked, Body, walk}
 use Rattle.members.specs.Tables.{Starts}
 use Rattle.names.specs.Ranks.{RANKS, Names}
 use Rattle.names.specs.Facts.{Facts}
-use Rattle.inference.specs.Tables.{EnvIs, Zeros}
+use Rattle.inference.specs.Tables.{EnvIs}
 
 -- Node n whose first word names a variable, with the table of an environment.
 pub record Target (s facts env : List ℕ) (n : Point) : Type 0 where
@@ -46,7 +47,7 @@ pub record Blank (s starts facts env : List ℕ) : Type 0 where
   pub runs : Starts s starts
   pub known : Facts s facts
   pub size : length env ≡ RANKS
-  pub zeros : Zeros env
+  pub zeros : AllZero env
 
 -- The bodies of these methods, in the class with type t, and the answer for one of them.
 abbrev pub bodiesIn : ℕ → List Method → List Body

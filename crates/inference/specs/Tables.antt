@@ -19,7 +19,3 @@ boundWord (some t) = suc t
 pub record EnvIs (s facts table : List ℕ) (Γ : List Slot) : Type 0 where
   pub types : WfEnv (programOf s) Γ
   pub holds : {x k : ℕ} → RankOf s facts x k → getD table k 0 ≡ boundWord (typeIn Γ x)
-
--- The table of no variable.
-abbrev pub Zeros : List ℕ → Type 0
-Zeros table = (k : ℕ) → getD table k 0 ≡ 0

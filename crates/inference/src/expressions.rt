@@ -188,7 +188,7 @@ pub fn check(s: &[u8], starts: &[u16], facts: &[u16], env: &mut [u16], n: u16, t
     let Answer::Typed(u) = r else {
         return r;
     };
-    if !is_below(s, u, t) {
+    if !is_below(s, starts, u, t) {
         return Answer::Faulty(Question::Fits, n);
     }
     Answer::Typed(t)

@@ -1,4 +1,5 @@
 pub mod SubtypeLaws
+pub mod RowLaws
 pub mod LookupLaws
 pub mod MemberLaws
 pub mod FieldLaws

@@ -26,7 +26,7 @@ use Rattle.script.proofs.Lists.{sum-more}
 use Rattle.members.specs.declared.Declared.{Declared}
 use Rattle.members.specs.declared.Declared.the-variants.{Interface as is-interface, Class as is-class, Neither as is-neither}
 use Rattle.typing.specs.Members.{typeIn, fieldIn, fieldFrom}
-use Rattle.members.specs.Tables.{Starts}
+use Rattle.members.specs.Tables.{STARTS, rowWord, RowsTo, Starts}
 use Rattle.members.specs.Lookup.{RunsTo, Memberless, DeclaredAs, RunAt, ownNamed}
 use Rattle.members.proofs.SubtypeLaws.{type-interface, type-class, type-neither}
 
@@ -77,7 +77,7 @@ sum-next f o sum own p q = let n : o + 1 ≡ suc o = omega arith in rw n (omega 
 
 module _ (s : List ℕ) (k : Section) (base : ℕ) (old : List ℕ) where
   pub no-runs : RunsTo s k base 0 old old
-  no-runs = record { starts = λ o h. absurd (omega arith); kept = λ i h. refl }
+  no-runs = record { starts = λ o h. absurd (omega arith); before = λ i h. refl; after = λ i h. refl }
 
   -- One more start is stored.
   pub run-more :
@@ -89,27 +89,32 @@ module _ (s : List ℕ) (k : Section) (base : ℕ) (old : List ℕ) where
             (λ (q : j ≡ o). rw q (getD-set-same table (base + o) start 0 h ∙ e))
             (λ (q : j < o). getD-set-other table (base + o) (base + j) start 0 (omega arith) ∙ r .starts j q)
             (eq-or-lt-of-le (le-of-suc-le-suc (let g : suc j ≤ suc o = omega arith in g)));
-        kept = λ i l. getD-set-other table (base + o) i start 0 (omega arith) ∙ r .kept i l;
+        before = λ i l. getD-set-other table (base + o) i start 0 (omega arith) ∙ r .before i l;
+        after = λ i l. getD-set-other table (base + o) i start 0 (omega arith) ∙ r .after i (omega arith);
       }
 
   pub runs-done : (n o : ℕ) (table : List ℕ) → n ≡ countOf s (ownerOf k) → o ≤ n → n ≤ o → RunsTo s k base o old table → RunsTo s k base (countOf s (ownerOf k)) old table
   runs-done n o table e l g r = let q : o ≡ countOf s (ownerOf k) = omega arith in rw q at r
 
--- The three tables one after another.
+-- The rows, and the three tables of runs one after another, which change no row.
 pub starts-filled :
-    {s : List ℕ} → WithinLayout s → (t₀ t₁ t₂ t₃ : List ℕ) → length t₃ ≡ INTERFACES + CLASSES + CLASSES
+    {s : List ℕ} → WithinLayout s → (t₀ t₁ t₂ t₃ : List ℕ) → length t₃ ≡ STARTS → RowsTo s t₀ (countOf s interfaces)
     → RunsTo s signatures 0 (countOf s interfaces) t₀ t₁
     → RunsTo s fields INTERFACES (countOf s classes) t₁ t₂
     → RunsTo s methods (INTERFACES + CLASSES) (countOf s classes) t₂ t₃
     → Starts s t₃
-starts-filled {s} w t₀ t₁ t₂ t₃ size a b c =
+starts-filled {s} w t₀ t₁ t₂ t₃ size rows a b c =
+    let m = w .counts-are .within interfaces in
+    let n = w .counts-are .within classes in
     record {
       size = size;
+      rows = λ i h k l.
+          let e = c .after (rowWord i k) (omega arith) ∙ b .after (rowWord i k) (omega arith) ∙ a .after (rowWord i k) (omega arith) in
+          rw e (rows i h k l);
       signatures = λ o h.
-          let n = w .counts-are .within interfaces in
           let z : 0 + o ≡ o = omega arith in
-          c .kept o (omega arith) ∙ b .kept o (omega arith) ∙ (rw z at (a .starts o h));
-      fields = λ o h. let n = w .counts-are .within classes in c .kept (INTERFACES + o) (omega arith) ∙ b .starts o h;
+          c .before o (omega arith) ∙ b .before o (omega arith) ∙ (rw z at (a .starts o h));
+      fields = λ o h. c .before (INTERFACES + o) (omega arith) ∙ b .starts o h;
       methods = c .starts;
     }
 

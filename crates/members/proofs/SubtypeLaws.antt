@@ -5,10 +5,9 @@ use mathlib.Core.List.{List}
 use Prim.Native.Nat.{ℕ, zero, suc, _+_, _-_, _<_, _≤_}
 use native.Mathlib.Omega.{arith}
 use lib.Dec.{eqb}
-use lib.ListN.{length, getD, set, replicate, length-set, length-replicate}
+use lib.ListN.{length, getD, set, replicate}
 use lib.Seq.{getD-set-other}
 use borrow.Author.Tests.{eq-eqb, ne-eqb, le-ltb, eqb-true, eqb-false}
-use Rattle.limits.specs.Limits.{INTERFACES}
 use Rattle.script.specs.declared.Section.the-variants.{Interfaces as interfaces, Classes as classes}
 use Rattle.script.specs.Lists.{run, sumBelow}
 use Rattle.script.specs.Section.{countOf, recordWord}
@@ -21,7 +20,7 @@ use Rattle.script.proofs.Regular.{regular}
 use Rattle.members.specs.declared.Declared.{Declared}
 use Rattle.members.specs.declared.Declared.the-variants.{Interface as is-interface, Class as is-class, Neither as is-neither}
 use Rattle.typing.specs.Members.{reach, reachFrom, below}
-use Rattle.members.specs.Lookup.{Memberless, DeclaredAs, as-interface, as-class, as-neither, Marks}
+use Rattle.members.specs.Lookup.{Memberless, DeclaredAs, as-interface, as-class, as-neither}
 use Rattle.typing.proofs.Types.{from-parents}
 use Rattle.typing.proofs.Values.{value-lists, value-extends}
 
@@ -63,7 +62,15 @@ module _ (p : Program) (ok : Regular p) (u : ℕ) where
       go (lists gs) d = reach-lists t gs d ∙ eq-eqb t u e
       go (extends a b) d = reach-extends t a b d ∙ rw (eq-eqb t u e)
 
-  -- parents are earlier, so nothing is below a later type
+  -- nothing leads to Unit, and parents are earlier, so nothing leads to a later type
+  reach-before : (t : ℕ) → IsInterface p t → u ≡ 0 → 0 < t → reach p t u ≡ false
+  reach-before =
+      from-parents p ok (λ t. u ≡ 0 → 0 < t → reach p t u ≡ false)
+      (λ t gs e z h. reach-lists t gs e ∙ ne-eqb t u (omega arith))
+      (λ t a b e left right z h.
+      let r = ok .interfaces t (extends a b) e in
+      reach-extends t a b e ∙ rw (ne-eqb t u (omega arith), left z (omega (arith, r .0)), right z (omega (arith, r .2))))
+
   reach-later : (t : ℕ) → IsInterface p t → t < u → reach p t u ≡ false
   reach-later =
       from-parents p ok (λ t. t < u → reach p t u ≡ false)
@@ -96,45 +103,30 @@ module _ {s : List ℕ} (w : WithinLayout s) where
   pub interface-declared : (t : ℕ) → InterfaceWord s t → declarationAt (programOf s) t ≡ an-interface (interfaceAt s (t - 1))
   interface-declared t h = let e : suc (t - 1) ≡ t = omega arith in rw e at (interface-at s (t - 1) (omega arith))
 
-  -- The walk from an interface t to u, whose record is t - 1: it is there, it can only be later, or it is marked.
-  module _ (t u : ℕ) (h : InterfaceWord s t) where
-    pub climb-there : t ≡ u → true ≡ reach (programOf s) t u
-    climb-there e = sym (reach-itself (programOf s) (regular s w) u t (interface-word t h) e)
+  -- What the interface of record i leads to: itself, no type that is not an interface, and what it is below as a list, or as a join with these parents.
+  module _ (i u : ℕ) (h : i < countOf s interfaces) where
+    record-word : InterfaceWord s (suc i)
+    record-word = record { first = omega arith; last = omega arith }
 
-    pub climb-later : t < u → false ≡ reach (programOf s) t u
-    climb-later l = sym (reach-later (programOf s) (regular s w) u t (interface-word t h) l)
+    pub leads-itself : suc i ≡ u → reach (programOf s) (suc i) u ≡ true
+    leads-itself e = reach-itself (programOf s) (regular s w) u (suc i) (interface-word (suc i) record-word) e
 
-    pub climb-marked : (marks : List ℕ) → Marks s u marks → getD marks (t - 1) 0 ≡ 1 → false ≡ reach (programOf s) t u
-    climb-marked marks m e = let q : suc (t - 1) ≡ t = omega arith in sym (rw q at (m .marked (t - 1) e))
+    pub leads-unit : u ≡ 0 → false ≡ reach (programOf s) (suc i) u
+    leads-unit e = sym (reach-before (programOf s) (regular s w) u (suc i) (interface-word (suc i) record-word) e (omega arith))
 
-    -- It is a list, or a join with these parents.
-    module _ (form : ℕ) (f : form ≡ recordWord s interfaces (t - 1) 0) (off : t ≡ u → ⊥) where
-      pub climb-list : (form ≡ 1 → ⊥) → false ≡ reach (programOf s) t u
-      climb-list n =
-          sym (reach-lists (programOf s) (regular s w) u t _ (interface-declared t h ∙ ap an-interface (reads-list s (t - 1) (rw f at n))) ∙ ne-eqb t u off)
+    pub leads-later : suc i < u → false ≡ reach (programOf s) (suc i) u
+    leads-later l = sym (reach-later (programOf s) (regular s w) u (suc i) (interface-word (suc i) record-word) l)
 
-      module _ (e : form ≡ 1) (a b : ℕ) where
-        -- It leads to u by the left parent, or as the right one does.
-        module _ (x : Bool) (p : a ≡ recordWord s interfaces (t - 1) 1) (l : x ≡ reach (programOf s) a u) where
-          climb-join : b ≡ recordWord s interfaces (t - 1) 2 → x || reach (programOf s) b u ≡ reach (programOf s) t u
-          climb-join q =
-              let d : declarationAt (programOf s) t ≡ an-interface (extends a b) = rw (p, q) (interface-declared t h ∙ ap an-interface (reads-join s (t - 1) (sym f ∙ e))) in
-              rw (reach-extends (programOf s) (regular s w) u t a b d, ne-eqb t u off, l)
+    module _ (off : suc i ≡ u → ⊥) where
+      pub leads-list : (recordWord s interfaces i 0 ≡ 1 → ⊥) → reach (programOf s) (suc i) u ≡ false
+      leads-list n =
+          reach-lists (programOf s) (regular s w) u (suc i) _ (interface-at s i h ∙ ap an-interface (reads-list s i n)) ∙ ne-eqb (suc i) u off
 
-          pub climb-left : x ≡ true → b ≡ recordWord s interfaces (t - 1) 2 → true ≡ reach (programOf s) t u
-          climb-left y q = rw y at (climb-join q)
-
-          pub climb-right : (y : Bool) → x ≡ false → b ≡ recordWord s interfaces (t - 1) 2 → y ≡ reach (programOf s) b u → y ≡ reach (programOf s) t u
-          climb-right y n q r = r ∙ (rw n at (climb-join q))
-
-  -- No interface is marked at first, and one that is found not to lead to u can be.
-  pub no-marks : (u : ℕ) → Marks s u (replicate INTERFACES 0)
-  no-marks u = record { size = length-replicate {A = ℕ} INTERFACES 0; marked = λ k e. absurd (unmarked INTERFACES k e) }
-
-  pub mark-more : (t u : ℕ) (marks : List ℕ) → InterfaceWord s t → Marks s u marks → false ≡ reach (programOf s) t u → Marks s u (set marks (t - 1) 1)
-  mark-more t u marks h m r =
-      let q : suc (t - 1) ≡ t = omega arith in
-      record { size = length-set marks (t - 1) 1 ∙ m .size; marked = marked-more (λ k. reach (programOf s) (suc k) u ≡ false) marks (t - 1) (m .marked) (rw q (sym r)) }
+      pub leads-join :
+          recordWord s interfaces i 0 ≡ 1
+          → reach (programOf s) (recordWord s interfaces i 1) u || reach (programOf s) (recordWord s interfaces i 2) u ≡ reach (programOf s) (suc i) u
+      leads-join e =
+          rw (reach-extends (programOf s) (regular s w) u (suc i) _ _ (interface-at s i h ∙ ap an-interface (reads-join s i e)), ne-eqb (suc i) u off)
 
 -- What a type number is: Unit, an interface, a class, or past the last class.
 module _ (s : List ℕ) (t : ℕ) where
@@ -187,9 +179,6 @@ module _ {s : List ℕ} {t : ℕ} {d : Declared} (h : DeclaredAs s t d) where
       go (as-interface l q) e = absurd (let z : _≡_ {A = ℕ} 0 1 = cc in omega arith)
       go (as-class l q) e = absurd (let z : _≡_ {A = ℕ} 0 1 = cc in omega arith)
       go (as-neither m) e = m
-
-  pub interface-type : {i : ℕ} → d ≡ is-interface i → InterfaceWord s t
-  interface-type e = let x = interface-there e in record { first = omega arith; last = omega arith }
 
   pub type-interface : {i : ℕ} → d ≡ is-interface i → declarationAt (programOf s) t ≡ an-interface (interfaceAt s i)
   type-interface {i} e = let x = interface-there e in rw (x .1) (interface-at s i (x .0))

@@ -1,11 +1,12 @@
--- What the code of look-ups is lent and finds: runs of records, marks, meanings of a method name, and records at fault.
-use Prim.Native.Nat.{ℕ, suc, _+_, _<_, _≤_}
+-- What the code of look-ups is lent and finds: runs of records, rows, meanings of a method name, and records at fault.
+use Prim.Native.Nat.{ℕ, suc, _+_, _%_, _^_, _<_, _≤_, max}
 use mathlib.Core.Path.{_≡_}
 use mathlib.Core.Bool.{Bool, true, false, cond}
 use mathlib.Core.List.{List}
 use mathlib.Core.Option.{Option, none, some}
 use lib.Dec.{ltb}
-use lib.ListN.{length, getD}
+use lib.ListN.{length, getD, set}
+use lib.Bits.{bitOr}
 use Rattle.limits.specs.Limits.{INTERFACES}
 use Rattle.script.specs.declared.Section.{Section}
 use Rattle.script.specs.declared.Section.the-variants.{Interfaces as interfaces, Signatures as signatures, Classes as classes}
@@ -17,13 +18,15 @@ use Rattle.script.specs.Asking.{firstOut}
 use Rattle.sections.specs.Laid.{ownerOf, ownOf, otherName}
 use Rattle.members.specs.declared.Declared.{Declared}
 use Rattle.members.specs.declared.Declared.the-variants.{Interface as is-interface, Class as is-class, Neither as is-neither}
-use Rattle.typing.specs.Members.{reach, meaning}
+use Rattle.typing.specs.Members.{meaning}
 use Rattle.typing.specs.Check.{agreeTest}
+use Rattle.members.specs.Tables.{BITS, STARTS, rowWord, rowBit, RowIs}
 
--- From base on a table holds where the runs of the first n owners of records of section k begin, and before base what another table holds.
+-- From base on a table holds where the runs of the first n owners of records of section k begin, and elsewhere what another table holds.
 pub record RunsTo (s : List ℕ) (k : Section) (base n : ℕ) (old table : List ℕ) : Type 0 where
   pub starts : (o : ℕ) → o < n → getD table (base + o) 0 ≡ sumBelow (ownOf s k) o
-  pub kept : (i : ℕ) → i < base → getD table i 0 ≡ getD old i 0
+  pub before : (i : ℕ) → i < base → getD table i 0 ≡ getD old i 0
+  pub after : (i : ℕ) → base + n ≤ i → getD table i 0 ≡ getD old i 0
 
 -- Neither an interface nor a class.
 abbrev pub Memberless : Declaration → Type 0
@@ -38,10 +41,30 @@ pub data DeclaredAs (s : List ℕ) (t : ℕ) : Declared → Type 0 where
   as-class : {c : ℕ} → c < countOf s classes → t ≡ suc (countOf s interfaces + c) → DeclaredAs s t (is-class c)
   as-neither : Memberless (declarationAt (programOf s) t) → DeclaredAs s t is-neither
 
--- A byte for each interface: one that is marked, with 1, is known not to lead to u.
-pub record Marks (s : List ℕ) (u : ℕ) (table : List ℕ) : Type 0 where
-  pub size : length table ≡ INTERFACES
-  pub marked : (k : ℕ) → getD table k 0 ≡ 1 → reach (programOf s) (suc k) u ≡ false
+-- The row of an interface while rows are filled: it has no bit, or the interface has been walked.
+pub data RowState (s table : List ℕ) (i : ℕ) : Type 0 where
+  no-bit : ((k : ℕ) → k < INTERFACES → rowBit table i k ≡ 0) → RowState s table i
+  filled-row : RowIs s table i → RowState s table i
+
+pub record Rows (s table : List ℕ) : Type 0 where
+  pub size : length table ≡ STARTS
+  pub states : (i : ℕ) → i < countOf s interfaces → RowState s table i
+
+-- The interface of record i has been walked, and those that were before.
+pub record Climbed (s before after : List ℕ) (i : ℕ) : Type 0 where
+  pub rows : Rows s after
+  pub row : RowIs s after i
+  pub kept : (j : ℕ) → j < countOf s interfaces → RowIs s before j → RowIs s after j
+
+-- The bits of row i are those of the rows l and r, and no other row has changed.
+pub record RowJoined (before after : List ℕ) (i l r : ℕ) : Type 0 where
+  pub size : length after ≡ length before
+  pub bits : (k : ℕ) → k < INTERFACES → rowBit after i k ≡ max (rowBit before l k) (rowBit before r k)
+  pub others : (j k : ℕ) → k < INTERFACES → (j ≡ i → ⊥) → rowBit after j k ≡ rowBit before j k
+
+-- The table with bit i of row i, which marks the interface as walked.
+abbrev pub withOwnBit : List ℕ → ℕ → List ℕ
+withOwnBit table i = set table (rowWord i i) (bitOr (getD table (rowWord i i) 0) (2 ^ (i % BITS)))
 
 -- A table holds, at a place, where the run of owner o begins.
 pub record RunAt (s : List ℕ) (k : Section) (o : ℕ) (table : List ℕ) (at : ℕ) : Type 0 where

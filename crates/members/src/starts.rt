@@ -1,4 +1,5 @@
 // Where the runs of records begin that belong to an owner.
+use crate::subtyping::fill_rows;
 use limits::Limits;
 use script::Section;
 use sections::count_of;
@@ -7,11 +8,11 @@ use sections::owner_of;
 ghost use mathlib.Core.Path.{_≡_};
 ghost use Prim.Native.Nat.{_+_, _≤_};
 ghost use lib.ListN.{length};
-ghost use Rattle.limits.specs.Limits.{INTERFACES, CLASSES};
+ghost use Rattle.slices.specs.Zero.{AllZero};
 ghost use Rattle.script.specs.Section.{countOf};
 ghost use Rattle.script.specs.Statements.{WithinLayout};
 ghost use Rattle.sections.specs.Laid.{ownerOf};
-ghost use Rattle.members.specs.Tables.{Starts};
+ghost use Rattle.members.specs.Tables.{STARTS, Starts};
 ghost use Rattle.members.specs.Lookup.{RunsTo};
 
 // Stores from `base` on where the run of each owner of records of section k begins.
@@ -29,11 +30,12 @@ fn fill_runs(s: &[u8], k: Section, base: usize, starts: &mut [u16])
     }
 }
 
-// Stores where the run of each owner begins, so that no look-up adds counts up again.
+// Stores where the run of each owner begins and what each interface is at or below, so that no look-up adds counts up again and no question walks.
 pub fn fill_starts(s: &[u8], starts: &mut [u16])
-    requires { ⌜ WithinLayout (now s) × (length (now starts) ≡ INTERFACES + CLASSES + CLASSES) ⌝ }
+    requires { ⌜ WithinLayout (now s) × (length (now starts) ≡ STARTS) × AllZero (now starts) ⌝ }
     ensures { λ r. ⌜ Starts (now (s .entry)) (now (starts .exit)) ⌝ }
 {
+    fill_rows(s, starts);
     fill_runs(s, Section::Signatures, 0, starts);
     fill_runs(s, Section::Fields, Limits::INTERFACES, starts);
     fill_runs(

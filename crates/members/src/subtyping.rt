@@ -1,14 +1,24 @@
 // What type numbers stand for, and the subtype question.
 use crate::Declared;
+use crate::rows::has_bit;
+use crate::rows::join;
+use crate::rows::mark;
 use limits::Limits;
 use script::Section;
 use sections::count_of;
 use sections::record_word;
 ghost use mathlib.Core.Path.{_≡_};
+ghost use mathlib.Core.List.{List};
+ghost use Prim.Native.Nat.{ℕ, suc, _-_, _<_};
+ghost use lib.ListN.{length};
+ghost use Rattle.limits.specs.Limits.{INTERFACES};
+ghost use Rattle.script.specs.declared.Section.the-variants.{Interfaces as interfaces};
+ghost use Rattle.script.specs.Section.{countOf};
 ghost use Rattle.script.specs.Reading.{programOf};
 ghost use Rattle.script.specs.Statements.{WithinLayout, InterfaceWord};
 ghost use Rattle.typing.specs.Members.{reach, below};
-ghost use Rattle.members.specs.Lookup.{DeclaredAs, Marks};
+ghost use Rattle.members.specs.Tables.{STARTS, RowsTo, Starts};
+ghost use Rattle.members.specs.Lookup.{DeclaredAs, Rows, Climbed};
 
 // What the type number t is declared as.
 pub fn declared_as(s: &[u8], t: u16) -> Declared
@@ -31,55 +41,73 @@ pub fn declared_as(s: &[u8], t: u16) -> Declared
     Declared::Neither
 }
 
-// Is the interface t at or below u? A join hands the marks along to both its parents, so that no ancestor is walked twice.
-fn climb(s: &[u8], t: u16, u: u16, marks: &mut [u8]) -> bool
-    requires { ⌜ WithinLayout (now s) × InterfaceWord (now s) t × Marks (now s) u (now marks) ⌝ }
-    ensures { λ r. ⌜ (r ≡ reach (programOf (now (s .entry))) t u) × Marks (now (s .entry)) u (now (marks .exit)) ⌝ }
+// Walks up from the interface t, and stores what it is at or below. A join calls this on both its parents and hands the rows along, in which an ancestor that
+// has been walked is marked by its own bit, so that none is walked twice.
+fn climb(s: &[u8], t: u16, rows: &mut [u16])
+    requires { ⌜ WithinLayout (now s) × InterfaceWord (now s) t × Rows (now s) (now rows) ⌝ }
+    ensures { λ r. ⌜ Climbed (now (s .entry)) (now (rows .entry)) (now (rows .exit)) (t - 1) ⌝ }
 {
-    if t == u {
-        return true;
-    }
-    // Parents are earlier, so no walk leads to a later type.
-    if t < u {
-        return false;
-    }
     let i = t as usize - 1;
-    let mark = marks[i];
-    if mark == 1 {
-        return false;
+    if has_bit(rows, i, i) {
+        return;
     }
-    // A list leads nowhere, which is as soon read as a mark.
     let form = record_word(s, Section::Interfaces, i, 0);
     if form != 1 {
-        return false;
+        mark(rows, i);
+        return;
     }
     let left = record_word(s, Section::Interfaces, i, 1);
-    if climb(s, left, u, marks) {
-        return true;
-    }
+    climb(s, left, rows);
     let right = record_word(s, Section::Interfaces, i, 2);
-    if climb(s, right, u, marks) {
-        return true;
+    climb(s, right, rows);
+    join(rows, i, left as usize - 1, right as usize - 1);
+    mark(rows, i);
+}
+
+// Stores what each interface is at or below.
+pub fn fill_rows(s: &[u8], rows: &mut [u16])
+    requires { ⌜ WithinLayout (now s) × Rows (now s) (now rows) ⌝ }
+    ensures { λ r. ⌜ RowsTo (now (s .entry)) (now (rows .exit)) (countOf (now (s .entry)) interfaces) ⌝ }
+{
+    let count = count_of(s, Section::Interfaces);
+    let mut i = 0;
+    while i < count {
+        climb(s, i as u16 + 1, rows);
+        i += 1;
     }
-    marks[i] = 1;
-    false
+}
+
+// Is the interface of record i at or below the type u? No interface is below a type that is none.
+fn leads(starts: &[u16], i: usize, u: u16) -> bool
+    requires { ⌜ (length (now starts) ≡ STARTS) × (i < INTERFACES) ⌝ }
+    ensures { λ r. ⌜
+        ((s : List ℕ) → WithinLayout s → Starts s (now (starts .entry)) → i < countOf s interfaces → r ≡ reach (programOf s) (suc i) u)
+        ⌝ }
+{
+    if u == 0 {
+        return false;
+    }
+    let k = u as usize - 1;
+    if k >= Limits::INTERFACES {
+        return false;
+    }
+    has_bit(starts, i, k)
 }
 
 // Is the type t below the type u?
-pub fn is_below(s: &[u8], t: u16, u: u16) -> bool
-    requires { ⌜ WithinLayout (now s) ⌝ }
+pub fn is_below(s: &[u8], starts: &[u16], t: u16, u: u16) -> bool
+    requires { ⌜ WithinLayout (now s) × Starts (now s) (now starts) ⌝ }
     ensures { λ r. ⌜ r ≡ below (programOf (now (s .entry))) t u ⌝ }
 {
     if t == u {
         return true;
     }
-    let mut marks: [u8; Limits::INTERFACES] = [0; Limits::INTERFACES];
     let d = declared_as(s, t);
     match d {
-        Declared::Interface(_) => climb(s, t, u, &mut marks),
+        Declared::Interface(i) => leads(starts, i, u),
         Declared::Class(c) => {
             let i = record_word(s, Section::Classes, c, 0);
-            climb(s, i, u, &mut marks)
+            leads(starts, i as usize - 1, u)
         }
         Declared::Neither => false,
     }

@@ -16,11 +16,11 @@ use Rattle.script.specs.Reading.{viewAt, programOf}
 use Rattle.script.specs.Statements.{WithinLayout}
 use Rattle.script.proofs.Reading.{first, in-order}
 use Rattle.script.proofs.Declarations.{length-interfaces, length-classes}
+use Rattle.slices.specs.Zero.{AllZero}
 use Rattle.typing.specs.Published.{WfEnv}
 use Rattle.members.specs.Tables.{Starts}
 use Rattle.names.specs.Ranks.{RANKS}
 use Rattle.names.specs.Facts.{Facts}
-use Rattle.inference.specs.Tables.{Zeros}
 use Rattle.inference.specs.At.{Blank}
 use Rattle.machine.specs.declared.Value.{Value}
 use Rattle.machine.specs.declared.Want.{Want}
@@ -41,7 +41,7 @@ use Rattle.moves.specs.Performs.{OwnFields, WordBound}
 use Rattle.moves.proofs.Laws.{scope-read, bound, looked}
 
 -- the script's tables, with no variable bound
-pub blank-tables : {s starts facts table : List ℕ} → WithinLayout s → Starts s starts → Facts s facts → length table ≡ RANKS → Zeros table → Blank s starts facts table
+pub blank-tables : {s starts facts table : List ℕ} → WithinLayout s → Starts s starts → Facts s facts → length table ≡ RANKS → AllZero table → Blank s starts facts table
 blank-tables w r f n z = record { within = w; runs = r; known = f; size = n; zeros = z }
 
 -- the first part of a let is a node

@@ -1,5 +1,5 @@
 -- One more node gets its rank: a law for each way of the code.
-use Prim.Native.Nat.{ℕ, zero, suc, _+_, _-_, _%_, _<_, _≤_}
+use Prim.Native.Nat.{ℕ, zero, suc, _+_, _-_, _<_, _≤_}
 use mathlib.Core.Path.{_≡_, refl, sym, _∙_}
 use mathlib.Core.Bool.{Bool, true, false}
 use mathlib.Core.List.{List}
@@ -16,7 +16,8 @@ use Rattle.script.specs.declared.Section.the-variants.{Nodes as nodes}
 use Rattle.script.specs.Section.{countOf, nodeWord}
 use Rattle.script.specs.Reading.{viewAt}
 use Rattle.script.specs.Statements.{WithinLayout}
-use Rattle.names.specs.Ranks.{BUCKETS, FACTS, nameIn, Names, Ranked, headOf, Search, here, onward, Indexed}
+use Rattle.slices.specs.Zero.{AllZero}
+use Rattle.names.specs.Ranks.{BUCKETS, FACTS, nameIn, Names, Ranked, hashOf, headOf, Search, here, onward, Indexed}
 use Rattle.names.specs.Filling.{Nameless, RankTo, to-this, to-parameter, to-node, FilledTo}
 use Rattle.names.proofs.KindLaws.{name-word, one-name, not-none}
 use Rattle.names.proofs.SearchLaws.{at-most, bucketOf, found-is, found-names, unranked, ranked-to, search-moved}
@@ -185,17 +186,17 @@ module _ (s facts : List ℕ) (n count : ℕ) (h : FilledTo s facts n count) (fe
         }
 
 -- Before the first node.
-pub fill-start : (s facts : List ℕ) → length facts ≡ FACTS → ((k : ℕ) → getD facts k 0 ≡ 0) → FilledTo s facts 0 2
+pub fill-start : (s facts : List ℕ) → length facts ≡ FACTS → AllZero facts → FilledTo s facts 0 2
 fill-start s facts size zeros =
     record {
-      linked = record { size = size; links = λ i b. omega (arith, zeros (NODES + i)); inside = λ k i b e. absurd (omega (arith, zeros k)) };
+      linked = record { size = size; links = λ i b. omega (arith, zeros .zero (NODES + i)); inside = λ k i b e. absurd (omega (arith, zeros .zero k)) };
       few = omega arith;
       below = small;
       same = one;
       apart = other;
-      earlier = λ k i b e. absurd (omega (arith, zeros k));
+      earlier = λ k i b e. absurd (omega (arith, zeros .zero k));
       found = λ l. absurd (omega arith);
-      blank = λ i b f. zeros i;
+      blank = λ i b f. zeros .zero i;
     }
   where
     small : {x k : ℕ} → RankTo s facts 0 x k → k < 2
@@ -283,7 +284,7 @@ module _ (s facts : List ℕ) (n count : ℕ) (layout : WithinLayout s) (there :
     fill-fresh r b t z =
         let e : r ≡ 0 = omega arith in
         let size : length facts ≡ FACTS = h .linked .size in
-        let bucket : x % BUCKETS < BUCKETS = mod-lt x (omega arith) in
+        let bucket : hashOf x < BUCKETS = mod-lt _ (omega arith) in
         let first : List ℕ = set facts n count in
         let second : List ℕ = set first (NODES + n) (headOf first x) in
         let first-size : length first ≡ FACTS = length-set facts n count ∙ size in

@@ -1,5 +1,5 @@
 -- The search along a bucket.
-use Prim.Native.Nat.{ℕ, zero, suc, _+_, _-_, _%_, _<_, _≤_}
+use Prim.Native.Nat.{ℕ, zero, suc, _+_, _-_, _<_, _≤_}
 use mathlib.Core.Path.{_≡_, refl, ap}
 use mathlib.Core.List.{List}
 use native.Mathlib.Omega.{arith}
@@ -7,7 +7,7 @@ use lib.ListN.{getD}
 use Rattle.limits.specs.Limits.{NODES}
 use Rattle.script.specs.declared.Section.the-variants.{Nodes as nodes}
 use Rattle.script.specs.Section.{countOf, nodeWord}
-use Rattle.names.specs.Ranks.{BUCKETS, Names, RankOf, of-this, of-parameter, of-node, headOf, Search, nowhere, here, onward}
+use Rattle.names.specs.Ranks.{Names, RankOf, of-this, of-parameter, of-node, hashOf, headOf, Search, nowhere, here, onward}
 use Rattle.names.specs.Facts.{Facts}
 use Rattle.names.specs.Filling.{Linked, RankTo, to-this, to-parameter, to-node}
 
@@ -18,7 +18,7 @@ at-most (suc v) n f = omega (arith, f v refl)
 
 -- Where the bucket of x stands.
 abbrev pub bucketOf : ℕ → ℕ
-bucketOf x = NODES + NODES + x % BUCKETS
+bucketOf x = NODES + NODES + hashOf x
 
 module _ (s facts : List ℕ) (x : ℕ) where
   -- A search comes to one answer.

@@ -1,20 +1,15 @@
 -- What is found once for a call about the nodes of a script: the ranks of the variables that they name, and which forks have asyncs that share a variable.
 use Prim.Native.Nat.{ℕ, _<_}
 use mathlib.Core.Path.{_≡_}
-use mathlib.Core.Bool.{Bool, true, false}
 use mathlib.Core.List.{List}
 use lib.ListN.{getD}
+use Rattle.slices.specs.Bits.{flagOf}
 use Rattle.script.specs.declared.Section.the-variants.{Nodes as nodes}
 use Rattle.script.specs.Section.{countOf}
 use Rattle.script.specs.Syntax.{n-fork}
 use Rattle.script.specs.Reading.{viewAt, exprAt}
 use Rattle.typing.specs.Typing.{fv, shares}
 use Rattle.names.specs.Ranks.{Ranked, Indexed}
-
--- 1 for true, 0 for false.
-abbrev pub flagOf : Bool → ℕ
-flagOf true = 1
-flagOf false = 0
 
 -- Whether the asyncs of each fork share a variable.
 pub record Forks (s facts : List ℕ) : Type 0 where

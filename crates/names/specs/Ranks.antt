@@ -1,5 +1,5 @@
 -- The variables of a script by rank.
-use Prim.Native.Nat.{ℕ, _+_, _%_, suc, _<_, _≤_}
+use Prim.Native.Nat.{ℕ, _+_, _/_, _%_, suc, _<_, _≤_}
 use mathlib.Core.Path.{_≡_}
 use mathlib.Core.List.{List}
 use mathlib.Core.Option.{Option, none, some}
@@ -14,7 +14,10 @@ abbrev pub RANKS : ℕ
 RANKS = NODES + 2
 
 abbrev pub BUCKETS : ℕ
-BUCKETS = 1021
+BUCKETS = 512
+
+abbrev pub SPACING : ℕ
+SPACING = 64
 
 abbrev pub FACTS : ℕ
 FACTS = NODES + NODES + BUCKETS
@@ -51,9 +54,13 @@ pub record Ranked (s facts : List ℕ) (count : ℕ) : Type 0 where
   pub same : {x k l : ℕ} → RankOf s facts x k → RankOf s facts x l → k ≡ l
   pub apart : {x y k : ℕ} → RankOf s facts x k → RankOf s facts y k → x ≡ y
 
+-- The bucket that the variable x belongs to.
+abbrev pub hashOf : ℕ → ℕ
+hashOf x = (x + x / SPACING) % BUCKETS
+
 -- Where the variable x is looked for: the first node of its bucket, and 1 more.
 abbrev pub headOf : List ℕ → ℕ → ℕ
-headOf facts x = getD facts (NODES + NODES + x % BUCKETS) 0
+headOf facts x = getD facts (NODES + NODES + hashOf x) 0
 
 -- The search for the variable x along the links of a bucket comes to the answer: a node that names it, and 1 more, or 0.
 pub data Search (s facts : List ℕ) (x : ℕ) : ℕ → ℕ → Type 0 where

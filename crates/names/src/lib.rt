@@ -3,15 +3,18 @@ mod ranks;
 
 use limits::Limits;
 ghost use mathlib.Core.Path.{_≡_};
-ghost use Rattle.names.specs.Ranks.{RANKS, BUCKETS, FACTS};
+ghost use Rattle.names.specs.Ranks.{RANKS, BUCKETS, SPACING, FACTS};
 pub use ranks::fill_ranks;
 pub use ranks::rank_of;
 
 // A rank for `this`, for the parameter, and for what each node names.
 pub const RANKS: usize = Limits::NODES + 2;
 
-// Variables are sorted into buckets by the remainder of their names. A prime, so that names at equal distances fall into different ones.
-pub const BUCKETS: usize = 1021;
+// Variables are sorted into buckets by the remainder of a sum: of the name, and of how often SPACING goes into it. So names at equal distances mostly fall into
+// different ones. Both are powers of two, so that nothing is divided.
+pub const BUCKETS: usize = 512;
+
+pub const SPACING: usize = 64;
 
 // A word for each node: the rank of the variable that it names, or for a fork whether its asyncs share a variable. Then a link for each node, and a word for
 // each bucket: a node and 1 more, or 0.
@@ -27,5 +30,6 @@ pub enum Rank {
 pub fn agreed()
     ensures { λ r. do ⌜ (← ⟦RANKS⟧ .entry) ≡ RANKS ⌝ }
     ensures { λ r. do ⌜ (← ⟦BUCKETS⟧ .entry) ≡ BUCKETS ⌝ }
+    ensures { λ r. do ⌜ (← ⟦SPACING⟧ .entry) ≡ SPACING ⌝ }
     ensures { λ r. do ⌜ (← ⟦FACTS⟧ .entry) ≡ FACTS ⌝ }
 {}

@@ -1,10 +1,11 @@
 // The ranks of a script's variables: given in one pass over the nodes, and found again by name.
 use crate::BUCKETS;
 use crate::Rank;
+use crate::SPACING;
 use limits::Limits;
 use script::Section;
 ghost use mathlib.Core.Path.{_≡_};
-ghost use Prim.Native.Nat.{ℕ, _+_, _%_, _<_};
+ghost use Prim.Native.Nat.{_+_, _<_};
 ghost use lib.ListN.{length, getD, set};
 ghost use Rattle.limits.specs.Limits.{NODES};
 ghost use Rattle.words.specs.Word.{WORD};
@@ -12,7 +13,8 @@ ghost use Rattle.script.specs.declared.Section.the-variants.{Nodes as nodes};
 ghost use Rattle.script.specs.Section.{countOf, nodeWord};
 ghost use Rattle.script.specs.Reading.{kindOf};
 ghost use Rattle.script.specs.Statements.{WithinLayout};
-ghost use Rattle.names.specs.Ranks.{BUCKETS, FACTS, Ranked, headOf, Search, Indexed};
+ghost use Rattle.slices.specs.Zero.{AllZero};
+ghost use Rattle.names.specs.Ranks.{FACTS, Ranked, hashOf, headOf, Search, Indexed};
 ghost use Rattle.names.specs.Facts.{Facts};
 ghost use Rattle.names.specs.Filling.{RankIs, namesKind, Nameless, Linked, FilledTo};
 
@@ -26,9 +28,10 @@ fn word_of_node(s: &[u8], n: usize, j: usize) -> u16
 
 // The word of the bucket that the variable x belongs to.
 fn bucket_of(x: u16) -> usize
-    ensures { λ r. ⌜ (r ≡ NODES + NODES + x % BUCKETS) × (NODES + NODES < r + 1) × (r < FACTS) ⌝ }
+    ensures { λ r. ⌜ (r ≡ NODES + NODES + hashOf x) × (NODES + NODES < r + 1) × (r < FACTS) ⌝ }
 {
-    Limits::NODES + Limits::NODES + x as usize % BUCKETS
+    let name = x as usize;
+    Limits::NODES + Limits::NODES + (name + name / SPACING) % BUCKETS
 }
 
 // Word k of the table.
@@ -90,7 +93,7 @@ fn link_node(facts: &mut [u16], n: usize, x: u16)
     requires { ⌜ (length (now facts) ≡ FACTS) × (n < NODES) ⌝ }
     ensures { λ r. ⌜
         now (facts .exit) ≡
-        set (set (now (facts .entry)) (NODES + n) (headOf (now (facts .entry)) x)) (NODES + NODES + x % BUCKETS) (n + 1)
+        set (set (now (facts .entry)) (NODES + n) (headOf (now (facts .entry)) x)) (NODES + NODES + hashOf x) (n + 1)
         ⌝ }
 {
     let bucket = bucket_of(x);
@@ -124,7 +127,7 @@ fn fill_rank(s: &[u8], facts: &mut [u16], n: usize, count: usize) -> usize
 
 // Fills a table of zeros with the ranks of the variables and with the buckets, and answers how many ranks there are.
 pub fn fill_ranks(s: &[u8], facts: &mut [u16]) -> usize
-    requires { ⌜ WithinLayout (now s) × (length (now facts) ≡ FACTS) × ((k : ℕ) → getD (now facts) k 0 ≡ 0) ⌝ }
+    requires { ⌜ WithinLayout (now s) × (length (now facts) ≡ FACTS) × AllZero (now facts) ⌝ }
     ensures { λ r. ⌜
         Ranked (now (s .entry)) (now (facts .exit)) r × Indexed (now (s .entry)) (now (facts .exit)) × Nameless (now (s .entry)) (now (facts .exit))
         ⌝ }

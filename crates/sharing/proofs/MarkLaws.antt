@@ -10,7 +10,7 @@ use borrow.Author.Tests.{eq-eqb, eqb-true, ltb-true, ltb-false}
 use Rattle.script.proofs.Tests.{true-false}
 use Rattle.typing.specs.Typing.{isIn, shares}
 use Rattle.names.specs.Ranks.{RankOf}
-use Rattle.names.specs.Facts.{flagOf}
+use Rattle.slices.specs.Bits.{flagOf}
 use Rattle.sharing.specs.Free.{SPAN, MaskOf, Mark, met, apart}
 use Rattle.sharing.proofs.MaskLaws.{masks-apart}
 

@@ -16,7 +16,8 @@ use Rattle.script.specs.Statements.{WithinLayout}
 use Rattle.script.proofs.Reading.{first, in-order}
 use Rattle.typing.specs.Typing.{fv, shares}
 use Rattle.names.specs.Ranks.{Ranked, Indexed}
-use Rattle.names.specs.Facts.{flagOf, Facts}
+use Rattle.slices.specs.Bits.{flagOf}
+use Rattle.names.specs.Facts.{Facts}
 use Rattle.names.specs.Filling.{Nameless}
 use Rattle.sharing.specs.Free.{SPAN, FreeMask, Along, Ahead, ForkMark, ForkMarks, IsFork, Like}
 use Rattle.sharing.proofs.MarkLaws.{mark-none, mark-done}

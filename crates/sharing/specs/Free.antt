@@ -1,11 +1,12 @@
 -- What the code of `forks` keeps of free variables: for each node a mask, with a bit for each rank of a span of 32, and a mark for each fork.
-use Prim.Native.Nat.{ℕ, _+_, _/_, _%_, _^_, _<_, _≤_}
+use Prim.Native.Nat.{ℕ, _+_, _<_, _≤_}
 use mathlib.Core.Path.{_≡_}
 use mathlib.Core.Bool.{true}
 use mathlib.Core.List.{List}
 use lib.Dec.{eqb}
 use lib.ListN.{length, getD}
 use Rattle.limits.specs.Limits.{NODES}
+use Rattle.slices.specs.Bits.{flagOf, bitOf}
 use Rattle.script.specs.declared.Section.the-variants.{Nodes as nodes}
 use Rattle.script.specs.Section.{countOf, nodeWord}
 use Rattle.script.specs.Syntax.{n-fork}
@@ -13,15 +14,10 @@ use Rattle.script.specs.Reading.{viewAt, exprAt}
 use Rattle.script.specs.Statements.{WithinLayout}
 use Rattle.typing.specs.Typing.{fv, isIn}
 use Rattle.names.specs.Ranks.{RankOf, Ranked}
-use Rattle.names.specs.Facts.{flagOf}
 
 -- The ranks of a mask, a bit each.
 abbrev pub SPAN : ℕ
 SPAN = 32
-
--- Bit k of a mask.
-unfoldable pub bitOf : ℕ → ℕ → ℕ
-bitOf m k = m / 2 ^ k % 2
 
 -- The mask tells of each variable whose rank is in the span from `start` on whether it is in the list, and a bit that is 1 is that of such a variable.
 pub record MaskOf (s facts : List ℕ) (start m : ℕ) (l : List ℕ) : Type 0 where

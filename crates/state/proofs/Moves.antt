@@ -25,7 +25,7 @@ use Rattle.tree.specs.declared.Cell.{Cell}
 use Rattle.tree.specs.declared.Cell.the-variants.{Running}
 use Rattle.tree.specs.declared.Entry.{Entry}
 use Rattle.tree.specs.declared.Tree.{Tree}
-use Rattle.tree.specs.Entries.{cellOf, entryOf, entries, frameSum, used, Tidy}
+use Rattle.tree.specs.Entries.{cellOf, entryOf, entries, frameSum, used, Bounded}
 use Rattle.tree.specs.Parts.{PartAt, Forked, Failing, Joined, FramesWithin}
 use Rattle.tree.proofs.Trees.{size-some, entries-thread}
 use Rattle.tree.proofs.Parts.{used-length, part-before, part-after, part-inside, part-set}
@@ -155,7 +155,7 @@ module _ {b : List ℕ} {i : ℕ} {x : Rest} {st : Stores} {u : machine.Tree} (s
   put-few = rw (length-set (s .positions) i w, ← length-map (s .positions) positionWords) (s .few Positions)
 
 -- the tree put: the part is another one
-module _ {b : List ℕ} {i : ℕ} {x : Rest} {st : Stores} {u : machine.Tree} (s : StateAt b i x st u) (w : machine.Tree) (r : Tree) (tidy : Tidy r) (now : PartAt (used r) i (x .before) w (x .after)) where
+module _ {b : List ℕ} {i : ℕ} {x : Rest} {st : Stores} {u : machine.Tree} (s : StateAt b i x st u) (w : machine.Tree) (r : Tree) (bounded : Bounded r) (now : PartAt (used r) i (x .before) w (x .after)) where
   abbrev part-put : List machine.Tree
   part-put = take i (s .positions) ++ (preorder w ++ drop (i + size u) (s .positions))
 
@@ -178,7 +178,7 @@ module _ {b : List ℕ} {i : ℕ} {x : Rest} {st : Stores} {u : machine.Tree} (s
   put-there = record { is = put-same; place = now .place }
 
   put-room : length part-put ≤ POSITIONS
-  put-room = omega (arith, ap length put-used, length-map part-put entryOf, used-length r tidy, tidy .small)
+  put-room = omega (arith, ap length put-used, length-map part-put entryOf, used-length r bounded, bounded .small)
 
 -- frames as they are, of a part with as many
 module _ {b : List ℕ} {i : ℕ} {x : Rest} {st : Stores} {u : machine.Tree} (s : StateAt b i x st u) (w : machine.Tree) (e : framesOf u ≡ framesOf w) where
@@ -206,8 +206,8 @@ module _ {b c : List ℕ} {i : ℕ} {x : Rest} {st : Stores} where
       in
       let was : PartAt (used self) i (x .before) (running a₀ e₀ fs) (x .after) = rw is (seen-part s) in
       let now : PartAt (used r) i (x .before) t (x .after) = p .now refl was in
-      changed s t (part-put s t r (p .tidy) now) (put-there s t r (p .tidy) now) (put-room s t r (p .tidy) now) (around x (framesOf (running a₀ e₀ fs))) (ap (around x) same) (same-room s t same)
-      (put (lies s) (part-put s t r (p .tidy) now) (s .block) (put-used s t r (p .tidy) now))
+      changed s t (part-put s t r (p .bounded) now) (put-there s t r (p .bounded) now) (put-room s t r (p .bounded) now) (around x (framesOf (running a₀ e₀ fs))) (ap (around x) same) (same-room s t same)
+      (put (lies s) (part-put s t r (p .bounded) now) (s .block) (put-used s t r (p .bounded) now))
 
   -- rejoin
   pub rejoins : {fs : List Frame} {a e : ℕ} {left right : machine.Tree} (self r : Tree) → used self ≡ entriesIn b → Joined self i r → Writes b c r → framesOf left ≡ [] → framesOf right ≡ []
@@ -217,8 +217,8 @@ module _ {b c : List ℕ} {i : ℕ} {x : Rest} {st : Stores} where
       let same : framesOf (join fs a e left right) ≡ framesOf t = frames-join fs a e left right ∙ rw (l, k) (append-nil (reverse fs)) ∙ sym (frames-thread t refl) in
       let was : PartAt (used self) i (x .before) (join fs a e left right) (x .after) = rw is (seen-part s) in
       let now : PartAt (used r) i (x .before) t (x .after) = p .now was in
-      changed s t (part-put s t r (p .tidy) now) (put-there s t r (p .tidy) now) (put-room s t r (p .tidy) now) (around x (framesOf (join fs a e left right))) (ap (around x) same) (same-room s t same)
-      (put (lies s) (part-put s t r (p .tidy) now) (s .block) (put-used s t r (p .tidy) now))
+      changed s t (part-put s t r (p .bounded) now) (put-there s t r (p .bounded) now) (put-room s t r (p .bounded) now) (around x (framesOf (join fs a e left right))) (ap (around x) same) (same-room s t same)
+      (put (lies s) (part-put s t r (p .bounded) now) (s .block) (put-used s t r (p .bounded) now))
 
 module _ {b c d : List ℕ} {i : ℕ} {x : Rest} {st : Stores} where
   -- push
@@ -264,8 +264,8 @@ module _ {b c d : List ℕ} {i : ℕ} {x : Rest} {st : Stores} where
       in
       let was : PartAt (used self) i (x .before) u (x .after) = rw is (seen-part s) in
       let there : PartAt (used r) i (x .before) failed (x .after) = p .now was in
-      changed s failed (part-put s failed r (p .tidy) there) (put-there s failed r (p .tidy) there) (put-room s failed r (p .tidy) there) _ now (omega (arith, frames-counted s, seen-few s Frames))
-      (put (withFrames (lies s) (take at (around x (framesOf u)) ++ drop (at + k) (around x (framesOf u)))) (part-put s failed r (p .tidy) there) (rem (lies s) (s .block)) (put-used s failed r (p .tidy) there))
+      changed s failed (part-put s failed r (p .bounded) there) (put-there s failed r (p .bounded) there) (put-room s failed r (p .bounded) there) _ now (omega (arith, frames-counted s, seen-few s Frames))
+      (put (withFrames (lies s) (take at (around x (framesOf u)) ++ drop (at + k) (around x (framesOf u)))) (part-put s failed r (p .bounded) there) (rem (lies s) (s .block)) (put-used s failed r (p .bounded) there))
 
 -- other frames leave the positions
 pub frames-few : {b c : List ℕ} {i : ℕ} {x : Rest} {st : Stores} {u : machine.Tree} → StateAt b i x st u

@@ -25,7 +25,7 @@ use Rattle.tree.specs.declared.Cell.{Cell}
 use Rattle.tree.specs.declared.Cell.the-variants.{Returning}
 use Rattle.tree.specs.declared.Entry.{Entry}
 use Rattle.tree.specs.declared.Tree.{Tree}
-use Rattle.tree.specs.Entries.{entryOf, blank, used, Tidy, resultOf, Worded}
+use Rattle.tree.specs.Entries.{entryOf, blank, used, Bounded, resultOf, Worded}
 use Rattle.tree.proofs.Parts.{used-length}
 use Rattle.tree.proofs.Worded.{every-at}
 use Rattle.tree.proofs.EntryWords.{cellWords, entryWords, words-entry}
@@ -44,14 +44,14 @@ row-in f [] i y d h = absurd (omega arith)
 row-in f (x ∷ xs) zero y d h = refl
 row-in f (x ∷ xs) (suc i) y d h = row-in f xs i y d (omega arith)
 
-pub small-there : (self : Tree) (i : ℕ) → Tidy self → Worded (used self) → i < self .len → Storable (resultOf (getD (self .entries) i blank .cell))
-small-there self i tidy w h =
-    rw (getD-take (self .len) (self .entries) i blank h) at (every-at (λ (x : Entry). Storable (resultOf (x .cell))) (used self) i blank (omega (arith, used-length self tidy)) w)
+pub small-there : (self : Tree) (i : ℕ) → Bounded self → Worded (used self) → i < self .len → Storable (resultOf (getD (self .entries) i blank .cell))
+small-there self i bounded w h =
+    rw (getD-take (self .len) (self .entries) i blank h) at (every-at (λ (x : Entry). Storable (resultOf (x .cell))) (used self) i blank (omega (arith, used-length self bounded)) w)
 
-module _ (self : Tree) (tidy : Tidy self) (ts : List machine.Tree) (is : map entryOf ts ≡ used self) where
+module _ (self : Tree) (bounded : Bounded self) (ts : List machine.Tree) (is : map entryOf ts ≡ used self) where
   -- the tree has as many records as positions
   records-many : length (map positionWords ts) ≡ self .len
-  records-many = omega (arith, used-length self tidy, ap length is, length-map ts positionWords, length-map ts entryOf)
+  records-many = omega (arith, used-length self bounded, ap length is, length-map ts positionWords, length-map ts entryOf)
 
   pub row-past : (i : ℕ) → self .len ≤ i → replicate (width Positions) 0 ≡ rowAt ts i
   row-past i h = sym (List·getD-eq-default (map positionWords ts) (replicate (width Positions) 0) {n = i} (omega (arith, records-many)))
@@ -215,10 +215,10 @@ module _ (b : List ℕ) (self : Tree) (now next : List ℕ) where
       ∙ ap (sets (laid p) (begins Positions)) (sym (records-next rs i))
       ∙ ap (λ (k : ℕ). sets (laid p) (begins Positions) (records rs k)) (sym s))
 
-  pub written : (m : ℕ) → Tidy self → counted b Positions ≤ m → self .len ≤ m → m ≤ POSITIONS → Writing b self now m → next ≡ putWord now (countByte Positions) (self .len)
+  pub written : (m : ℕ) → Bounded self → counted b Positions ≤ m → self .len ≤ m → m ≤ POSITIONS → Writing b self now m → next ≡ putWord now (countByte Positions) (self .len)
       → (p : Parts) (ts : List machine.Tree) → b ≡ bytes (laid p) → map entryOf ts ≡ used self → next ≡ bytes (laid (withPositions p ts))
-  written m tidy h k l all put p ts is same =
-      let n = records-many self tidy ts same in
+  written m bounded h k l all put p ts is same =
+      let n = records-many self bounded ts same in
       let old : counted b Positions ≡ length (p .positions) = rw is (count-is p Positions ∙ length-map (p .positions) positionWords) in
       put
       ∙ ap (λ (k : ℕ). putWord now (countByte Positions) k) (sym n)

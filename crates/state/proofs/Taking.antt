@@ -7,7 +7,7 @@ use native.Mathlib.Numerals.{add-one}
 use native.Mathlib.Omega.{arith}
 use borrow.Author.Tests.{ne-eqb}
 use lib.Dec.{eqb}
-use lib.ListN.{length, getD, set, take, drop, replicate, length-map, List·getD-map}
+use lib.ListN.{length, getD, set, take, drop, replicate, length-map, length-replicate, List·getD-map}
 use lib.Seq.{take-all, take-suc, ext-getD}
 use Rattle.words.specs.Word.{WORD, bytes}
 use Rattle.limits.specs.Limits.{POSITIONS}
@@ -28,7 +28,7 @@ use Rattle.tree.specs.declared.Cell.the-variants.{Failed, Running, Returning, J
 use Rattle.tree.specs.declared.Entry.{Entry}
 use Rattle.tree.specs.declared.Tree.{Tree}
 use Rattle.tree.specs.Entries.{entryOf, beneathCell, blank, used, resultOf, Worded}
-use Rattle.tree.proofs.Lists.{fill-turn, fill-length, fill-take, fill-drop}
+use Rattle.tree.proofs.Lists.{over-turn, over-length, over-take}
 use Rattle.tree.proofs.Parts.{used-length}
 use Rattle.tree.proofs.Worded.{every-append}
 use Rattle.state.specs.Positions.{cellFrom, entryFrom, entryAt, entriesIn, Taken}
@@ -114,7 +114,7 @@ module _ (b : List ℕ) where
     pub few : n ≤ POSITIONS
     pub many : n ≡ counted b Positions
     pub inside : i ≤ n
-    pub filled : out ≡ take i (entriesIn b) ++ replicate (POSITIONS - i) blank
+    pub filled : out ≡ take i (entriesIn b) ++ drop i (replicate POSITIONS blank)
     pub worded : Worded (take i (entriesIn b))
 
   pub fill-more : (n : ℕ) (out new : List Entry) (i : ℕ) (x : Entry) → i < n → Filling n out i → x ≡ entryAt b i → Storable (resultOf (x .cell)) → new ≡ set out i x → Filling n new (i + 1)
@@ -128,7 +128,7 @@ module _ (b : List ℕ) where
         few = f .few;
         many = f .many;
         inside = omega arith;
-        filled = s ∙ ap (λ (o : List Entry). set o i x) (f .filled) ∙ fill-turn (entriesIn b) blank x i POSITIONS k (omega arith) at;
+        filled = s ∙ ap (λ (o : List Entry). set o i x) (f .filled) ∙ over-turn (entriesIn b) (replicate POSITIONS blank) blank x i k (omega (arith, length-replicate POSITIONS blank)) at;
         worded = rw (add-one i, take-suc (entriesIn b) i blank k) (every-append _ (take i (entriesIn b)) (getD (entriesIn b) i blank ∷ []) (f .worded) (word, _));
       }
 
@@ -137,18 +137,18 @@ module _ (b : List ℕ) where
   taken n r len f =
       let few = f .few in
       let long : length (entriesIn b) ≡ n = entries-many ∙ sym (f .many) in
+      let room : length (replicate POSITIONS blank) ≡ POSITIONS = length-replicate POSITIONS blank in
       let same : used r ≡ entriesIn b =
-      rw len (ap (take n) (f .filled) ∙ fill-take (entriesIn b) blank n POSITIONS (omega (arith, long)) ∙ take-all n (entriesIn b) (omega (arith, long)))
+      rw len (ap (take n) (f .filled) ∙ over-take (entriesIn b) (replicate POSITIONS blank) n (omega (arith, long)) ∙ take-all n (entriesIn b) (omega (arith, long)))
       in
       record {
-        tidy = record {
+        bounded = record {
           small = omega arith;
-          whole = ap length (f .filled) ∙ fill-length (entriesIn b) blank n POSITIONS (omega (arith, long)) (omega arith);
-          rest = rw len (ap (drop n) (f .filled) ∙ fill-drop (entriesIn b) blank n POSITIONS (omega (arith, long)));
+          whole = ap length (f .filled) ∙ over-length (entriesIn b) (replicate POSITIONS blank) n (omega (arith, long)) (omega (arith, room)) ∙ room;
         };
         same = same;
         worded = rw same (rw (take-all n (entriesIn b) (omega (arith, long))) at (f .worded));
       }
 
 pub taken-len : {b : List ℕ} {r : Tree} → Taken b r → r .len ≡ counted b Positions
-taken-len {b} {r} t = omega (arith, used-length r (t .tidy), ap length (t .same), entries-many b)
+taken-len {b} {r} t = omega (arith, used-length r (t .bounded), ap length (t .same), entries-many b)

@@ -18,7 +18,7 @@ use Rattle.tree.specs.declared.Cell.{Cell}
 use Rattle.tree.specs.declared.Cell.the-variants.{Failed, Running, Returning, Join}
 use Rattle.tree.specs.declared.Entry.{Entry}
 use Rattle.tree.specs.declared.Tree.{Tree}
-use Rattle.tree.specs.Entries.{used, Tidy, Worded}
+use Rattle.tree.specs.Entries.{used, Bounded, Worded}
 use Rattle.state.specs.Represents.{Represents}
 
 -- A position read from its words w: what it is, its node, its environment, its value, and how many frames wait there. A kind that is not known is read as
@@ -42,7 +42,7 @@ entriesIn b = run (entryAt b) 0 (counted b Positions)
 
 -- r is the tree that the block b holds, and its values are words.
 pub record Taken (b : List ℕ) (r : Tree) : Type 0 where
-  pub tidy : Tidy r
+  pub bounded : Bounded r
   pub same : used r ≡ entriesIn b
   pub worded : Worded (used r)
 

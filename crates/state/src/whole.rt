@@ -19,7 +19,7 @@ ghost use Rattle.block.specs.Layout.{width, begins, counted};
 ghost use Rattle.block.specs.Values.{Storable};
 ghost use Rattle.block.specs.Block.{positionWords, Parts, laid};
 ghost use Rattle.tree.specs.declared.Tree as threads;
-ghost use Rattle.tree.specs.Entries.{entryOf, blank, used, Tidy, resultOf, Worded};
+ghost use Rattle.tree.specs.Entries.{entryOf, blank, used, Bounded, resultOf, Worded};
 ghost use Rattle.state.specs.Positions.{cellFrom, entryAt, Taken, rowAt, withPositions};
 
 // What stands at a position, by its words.
@@ -125,7 +125,7 @@ fn row_at(x: Entry, i: usize, len: usize) -> [u16; Layout::POSITION_WIDTH]
     ensures { λ r. ⌜
         (length r ≡ width Positions) ×
         ((self : threads.Tree) (ts : List machine.Tree) →
-        Tidy self →
+        Bounded self →
         map entryOf ts ≡ used self →
         len ≡ self .len →
         x ≡ getD (self .entries) i blank →
@@ -152,7 +152,7 @@ fn rows_of(block: &[u8], len: usize) -> usize
 
 // Writes the tree into the block: every record that the tree has or the block had, and their count. All records after them are zeros.
 pub fn put_tree(block: &mut [u8], tree: Tree)
-    requires { ⌜ (length (now block) ≡ BLOCK) × (counted (now block) Positions ≤ POSITIONS) × Tidy tree × Worded (used tree) ⌝ }
+    requires { ⌜ (length (now block) ≡ BLOCK) × (counted (now block) Positions ≤ POSITIONS) × Bounded tree × Worded (used tree) ⌝ }
     ensures { λ r. ⌜
         ((p : Parts) (ts : List machine.Tree) →
         now (block .entry) ≡ bytes (laid p) →

@@ -11,11 +11,11 @@ use Rattle.machine.specs.Config.{join}
 use Rattle.machine.specs.Machine.{size}
 use Rattle.tree.specs.declared.Entry.{Entry}
 use Rattle.tree.specs.declared.Tree.{Tree}
-use Rattle.tree.specs.Entries.{entryOf, entries, blank, used, Tidy}
+use Rattle.tree.specs.Entries.{entryOf, entries, blank, used, Bounded}
 use Rattle.tree.specs.Parts.{PartAt, splice}
 use Rattle.tree.proofs.Trees.{size-some, entries-join, entries-first, entries-thread, entries-length, span, span-zero, span-entries}
 
-pub used-length : (self : Tree) → Tidy self → length (used self) ≡ self .len
+pub used-length : (self : Tree) → Bounded self → length (used self) ≡ self .len
 used-length self h = length-take-le (self .len) (self .entries) (omega arith)
 
 module _ {es : List Entry} {i : ℕ} {before after : List Entry} {u : machine.Tree} (p : PartAt es i before u after) where
@@ -66,7 +66,7 @@ module _ {es : List Entry} {i : ℕ} {before after : List Entry} {u : machine.Tr
       ∙ set-at before (entryOf u) after x i (p .place)
 
 -- a part of a tree: the entry at its position is that of the part's root
-pub part-entry : {self : Tree} {i : ℕ} {before after : List Entry} {u : machine.Tree} → PartAt (used self) i before u after → Tidy self → getD (self .entries) i blank ≡ entryOf u
+pub part-entry : {self : Tree} {i : ℕ} {before after : List Entry} {u : machine.Tree} → PartAt (used self) i before u after → Bounded self → getD (self .entries) i blank ≡ entryOf u
 part-entry {self} {i} {u = u} p h = sym (getD-take (self .len) (self .entries) i blank (omega (arith, part-inside p, used-length self h, size-some u))) ∙ part-root p
 
 module _ {es : List Entry} {i : ℕ} {before after : List Entry} {fs : List Frame} {a e : ℕ} {l r : machine.Tree} (p : PartAt es i before (join fs a e l r) after) where

@@ -1,8 +1,8 @@
 -- The thread tree as the code has it: one entry for each position. "a tree position, preorder, root 0, left before right"
-use Prim.Native.Nat.{ℕ, _-_, _+_, _≤_}
+use Prim.Native.Nat.{ℕ, _+_, _≤_}
 use mathlib.Core.Path.{_≡_}
 use mathlib.Core.List.{List, [], _∷_, map}
-use lib.ListN.{length, take, drop, replicate}
+use lib.ListN.{length, take}
 use Rattle.limits.specs.Limits.{POSITIONS}
 use Rattle.script.specs.Lists.{Every}
 use Rattle.machine.specs.declared.Value.{Value}
@@ -43,7 +43,7 @@ abbrev pub frameSum : List Entry → ℕ
 frameSum [] = 0
 frameSum (x ∷ xs) = x .frames + frameSum xs
 
--- What the places after the last entry hold.
+-- What a place holds before it is filled, and what is read past the last one.
 abbrev pub blank : Entry
 blank = record { cell = Failed; frames = 0 }
 
@@ -51,11 +51,10 @@ blank = record { cell = Failed; frames = 0 }
 abbrev pub used : Tree → List Entry
 used self = take (self .len) (self .entries)
 
--- There is a place for each position of a tree with the most threads, and the places not in use are blank.
-pub record Tidy (self : Tree) : Type 0 where
+-- There is a place for each position of a tree with the most threads, and the tree's entries stand in them.
+pub record Bounded (self : Tree) : Type 0 where
   pub small : self .len ≤ POSITIONS
   pub whole : length (self .entries) ≡ POSITIONS
-  pub rest : drop (self .len) (self .entries) ≡ replicate (POSITIONS - self .len) blank
 
 -- "All words are unsigned 16-bit": those of the values too. The value of a position is null where it has none.
 abbrev pub resultOf : Cell → Value

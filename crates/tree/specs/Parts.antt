@@ -4,7 +4,6 @@ use Prim.Native.Nat.{ℕ, suc, _+_, _≤_, _<_}
 use mathlib.Core.Path.{_≡_}
 use mathlib.Core.List.{List, [], _∷_, _++_}
 use lib.ListN.{length, take, drop, getD}
-use Rattle.limits.specs.Limits.{POSITIONS}
 use Rattle.machine.specs.declared.Frame.{Frame}
 use Rattle.machine.specs.Config as machine
 use Rattle.machine.specs.Config.{running, failed, join}
@@ -13,7 +12,7 @@ use Rattle.block.specs.Values.{Storable}
 use Rattle.block.specs.Block.{waiting}
 use Rattle.tree.specs.declared.Entry.{Entry}
 use Rattle.tree.specs.declared.Tree.{Tree}
-use Rattle.tree.specs.Entries.{entries, beneathCell, blank, used, Tidy, resultOf, Worded}
+use Rattle.tree.specs.Entries.{entries, beneathCell, blank, used, Bounded, resultOf, Worded}
 
 -- The part at position i of the entries es is u, with these entries before it and these after it.
 pub record PartAt (es : List Entry) (i : ℕ) (before : List Entry) (u : machine.Tree) (after : List Entry) : Type 0 where
@@ -37,39 +36,33 @@ pub record Ends (es : List Entry) (i r : ℕ) : Type 0 where
 abbrev pub splice : List Entry → ℕ → ℕ → List Entry → List Entry
 splice l at old new = take at l ++ (new ++ drop (at + old) l)
 
--- What an exchange asks: the old entries lie in the tree, there are n new ones, and all of them fit. What it gives.
-pub record Room (self : Tree) (at old : ℕ) (new : List Entry) (n : ℕ) : Type 0 where
-  pub tidy : Tidy self
-  pub inside : at + old ≤ self .len
-  pub enough : n ≤ length new
-  pub fits : self .len + n ≤ POSITIONS + old
-
+-- r has the `old` entries from `at` on exchanged for `new`.
 pub record Spliced (self : Tree) (at old : ℕ) (new : List Entry) (r : Tree) : Type 0 where
-  pub tidy : Tidy r
+  pub bounded : Bounded r
   pub now : used r ≡ splice (used self) at old new
 
 -- r has the entry x in place of the part at i, whatever that part is.
 pub record Replaced (self : Tree) (i : ℕ) (x : Entry) (r : Tree) : Type 0 where
-  pub tidy : Tidy r
+  pub bounded : Bounded r
   pub now : {before after : List Entry} {u : machine.Tree} → PartAt (used self) i before u after → used r ≡ before ++ (x ∷ after)
   pub words : Storable (resultOf (x .cell)) → Worded (used self) → Worded (used r)
 
 -- "A fork becomes a join that keeps its frames, its last part and the bindings for it, which both asyncs also start with"
 pub record Forked (self : Tree) (i a b c e : ℕ) (r : Tree) : Type 0 where
-  pub tidy : Tidy r
+  pub bounded : Bounded r
   pub now : {before after : List Entry} {u : machine.Tree} → size u ≡ 1 → PartAt (used self) i before u after
       → PartAt (used r) i before (join (waiting u) c e (running a e []) (running b e [])) after
   pub words : Worded (used self) → Worded (used r)
 
 -- "it becomes failed and all beneath is dropped": also a thread becomes failed so, and keeps no frame.
 pub record Failing (self : Tree) (i : ℕ) (r : Tree) : Type 0 where
-  pub tidy : Tidy r
+  pub bounded : Bounded r
   pub now : {before after : List Entry} {u : machine.Tree} → PartAt (used self) i before u after → PartAt (used r) i before failed after
   pub words : Worded (used self) → Worded (used r)
 
 -- "A join with both sides finished goes on as the left thread, at the last part and with the frames kept"
 pub record Joined (self : Tree) (i : ℕ) (r : Tree) : Type 0 where
-  pub tidy : Tidy r
+  pub bounded : Bounded r
   pub now : {before after : List Entry} {fs : List Frame} {a e : ℕ} {left right : machine.Tree} → PartAt (used self) i before (join fs a e left right) after
       → PartAt (used r) i before (running a e fs) after
   pub words : Worded (used self) → Worded (used r)

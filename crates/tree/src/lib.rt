@@ -2,10 +2,10 @@
 use limits::Limits;
 use machine::Value;
 ghost use Prim.Native.Nat.{_+_, _≤_, _<_};
-ghost use lib.ListN.{take};
+ghost use mathlib.Core.List.{[], _∷_};
 ghost use Rattle.limits.specs.Limits.{POSITIONS};
-ghost use Rattle.tree.specs.Entries.{used, Tidy};
-ghost use Rattle.tree.specs.Parts.{Ends, Room, Spliced, Replaced, Forked, Failing, Joined};
+ghost use Rattle.tree.specs.Entries.{used, Bounded};
+ghost use Rattle.tree.specs.Parts.{Ends, Spliced, Replaced, Forked, Failing, Joined};
 ghost use Rattle.tree.specs.Phases.{PhaseIs, FoldIs};
 
 // What stands at a position: a failed thread, a thread at a node in an environment, a thread with a value, or a join with its last part and the environment for
@@ -81,49 +81,53 @@ pub fn fold_by(left: Phase, right: Phase) -> Fold
 }
 
 impl Tree {
-    // The `old` entries from `at` on exchanged for the first `n` of `new`.
-    fn spliced(self, at: usize, old: usize, new: [Entry; 3], n: usize) -> Tree
-        requires { ⌜ Room self at old new n ⌝ }
-        ensures { λ r. ⌜ Spliced self at old (take n new) r ⌝ }
+    // The `old` entries from `at` on taken out.
+    fn removed(mut self, at: usize, old: usize) -> Tree
+        requires { ⌜ Bounded self × (at + old ≤ self .len) ⌝ }
+        ensures { λ r. ⌜ Spliced self at old [] r ⌝ }
     {
-        let len = self.len - old + n;
-        let blank = Entry {
-            cell: Cell::Failed,
-            frames: 0,
-        };
-        let mut out = [blank; Limits::POSITIONS];
-        let mut m = 0;
+        let len = self.len - old;
+        let mut m = at;
         while m < len {
-            if m < at {
-                out[m] = self.entries[m];
-            } else if m < at + n {
-                out[m] = new[m - at];
-            } else {
-                out[m] = self.entries[m - n + old];
-            }
+            self.entries[m] = self.entries[m + old];
             m += 1;
         }
-        Tree {
-            entries: out,
-            len: len,
+        self.len = len;
+        self
+    }
+
+    // The entries x and y put in at `at`.
+    fn inserted(mut self, at: usize, x: Entry, y: Entry) -> Tree
+        requires { ⌜ Bounded self × (at ≤ self .len) × (self .len + 2 ≤ POSITIONS) ⌝ }
+        ensures { λ r. ⌜ Spliced self at 0 (x ∷ y ∷ []) r ⌝ }
+    {
+        let mut m = self.len;
+        while at < m {
+            m -= 1;
+            self.entries[m + 2] = self.entries[m];
         }
+        self.entries[at] = x;
+        self.entries[at + 1] = y;
+        self.len += 2;
+        self
     }
 
     // The part at `i`, which ends before `end`, becomes the one entry x.
-    fn replaced(self, i: usize, end: usize, x: Entry) -> Tree
-        requires { ⌜ Tidy self × Ends (used self) i end ⌝ }
+    fn replaced(mut self, i: usize, end: usize, x: Entry) -> Tree
+        requires { ⌜ Bounded self × Ends (used self) i end ⌝ }
         ensures { λ r. ⌜ Replaced self i x r ⌝ }
     {
-        self.spliced(i, end - i, [x, x, x], 1)
+        self.entries[i] = x;
+        self.removed(i + 1, end - i - 1)
     }
 
     // The thread at `i` becomes a join of threads at the nodes a and b, which goes on at c.
-    pub fn forked(self, i: usize, a: u16, b: u16, c: u16, env: u16) -> Tree
-        requires { ⌜ Tidy self × (i < self .len) × (self .len + 2 ≤ POSITIONS) ⌝ }
+    pub fn forked(mut self, i: usize, a: u16, b: u16, c: u16, env: u16) -> Tree
+        requires { ⌜ Bounded self × (i < self .len) × (self .len + 2 ≤ POSITIONS) ⌝ }
         ensures { λ r. ⌜ Forked self i a b c env r ⌝ }
     {
         let x = self.entries[i];
-        let join = Entry {
+        self.entries[i] = Entry {
             cell: Cell::Join(c, env),
             frames: x.frames,
         };
@@ -135,12 +139,12 @@ impl Tree {
             cell: Cell::Running(b, env),
             frames: 0,
         };
-        self.spliced(i, 1, [join, left, right], 3)
+        self.inserted(i + 1, left, right)
     }
 
     // The part at `i`, which ends before `end`, becomes failed, and all beneath is dropped.
     pub fn failed(self, i: usize, end: usize) -> Tree
-        requires { ⌜ Tidy self × Ends (used self) i end ⌝ }
+        requires { ⌜ Bounded self × Ends (used self) i end ⌝ }
         ensures { λ r. ⌜ Failing self i r ⌝ }
     {
         self.replaced(
@@ -155,7 +159,7 @@ impl Tree {
 
     // The join at `i`, which ends before `end`, goes on as a thread, at its last part and with its frames; any other tree is handed back as it is.
     pub fn joined(self, i: usize, end: usize) -> Tree
-        requires { ⌜ Tidy self × Ends (used self) i end ⌝ }
+        requires { ⌜ Bounded self × Ends (used self) i end ⌝ }
         ensures { λ r. ⌜ Joined self i r ⌝ }
     {
         let x = self.entries[i];

@@ -29,8 +29,8 @@ ghost use Rattle.environments.specs.Chains.{bindingAt};
 ghost use Rattle.values.specs.Objects.{Asked, valueAt, objectAt, objectsIn, objectFits, objectsTest};
 
 // Does a value fit what is wanted? It is null, or an object that is there and whose class is the type wanted or below it: "value types fit".
-pub fn value_fits(s: &[u8], block: &[u8], v: Value, want: Want) -> bool
-    requires { ⌜ Asked (now s) (now block) ⌝ }
+pub fn value_fits(s: &[u8], starts: &[u16], block: &[u8], v: Value, want: Want) -> bool
+    requires { ⌜ Asked (now s) (now block) × Starts (now s) (now starts) ⌝ }
     ensures { λ r. ⌜ r ≡ valueFitsTest (codeOf (now (s .entry))) (objectsIn (now (s .entry)) (now (block .entry))) v want ⌝ }
 {
     let Value::Ref(n) = v else {
@@ -41,12 +41,15 @@ pub fn value_fits(s: &[u8], block: &[u8], v: Value, want: Want) -> bool
         return false;
     }
     let class = areas::word(block, Area::Objects, o, Layout::CLASS);
-    meets(s, class, want)
+    meets(s, starts, class, want)
 }
 
 // Do the values of object i fit the types of the fields whose records are the `count` from `from` on? WF-FIELDS.
-fn fields_fit(s: &[u8], block: &[u8], i: usize, from: usize, count: usize) -> bool
-    requires { ⌜ Asked (now s) (now block) × (i < counted (now block) Objects) × (from + count ≤ countOf (now s) Fields) × (count ≤ CLASS-FIELDS) ⌝ }
+fn fields_fit(s: &[u8], starts: &[u16], block: &[u8], i: usize, from: usize, count: usize) -> bool
+    requires { ⌜
+        Asked (now s) (now block) × Starts (now s) (now starts) × (i < counted (now block) Objects) × (from + count ≤ countOf (now s) Fields) ×
+        (count ≤ CLASS-FIELDS)
+        ⌝ }
     ensures { λ r. ⌜
         r ≡ fieldsTest (codeOf (now (s .entry))) (objectsIn (now (s .entry)) (now (block .entry))) (run (fieldAt (now (s .entry))) from count)
         (run (valueAt (now (block .entry)) i) 0 count)
@@ -56,7 +59,7 @@ fn fields_fit(s: &[u8], block: &[u8], i: usize, from: usize, count: usize) -> bo
     while j < count {
         let t = record_word(s, Section::Fields, from + j, 1);
         let v = areas::field(block, i, j);
-        if !value_fits(s, block, v, Want::Upto(t)) {
+        if !value_fits(s, starts, block, v, Want::Upto(t)) {
             return false;
         }
         j += 1;
@@ -79,7 +82,7 @@ fn object_fits(s: &[u8], starts: &[u16], block: &[u8], i: usize) -> bool
         Declared::Class(c) => {
             let from = starts[Limits::INTERFACES + c] as usize;
             let count = own_count(s, Section::Fields, c);
-            fields_fit(s, block, i, from, count)
+            fields_fit(s, starts, block, i, from, count)
         }
         Declared::Neither => false,
     }
@@ -103,8 +106,8 @@ fn objects_fit(s: &[u8], starts: &[u16], block: &[u8]) -> bool
 
 // Is the type of binding i a type (WF-ENV), does its value fit it (WF-VARS), and has it a link to an earlier binding or to none? "links run to earlier
 // bindings"
-fn binding_fits(s: &[u8], block: &[u8], i: usize) -> bool
-    requires { ⌜ Asked (now s) (now block) × (counted (now block) Bindings ≤ BINDINGS) × (i < counted (now block) Bindings) ⌝ }
+fn binding_fits(s: &[u8], starts: &[u16], block: &[u8], i: usize) -> bool
+    requires { ⌜ Asked (now s) (now block) × Starts (now s) (now starts) × (counted (now block) Bindings ≤ BINDINGS) × (i < counted (now block) Bindings) ⌝ }
     ensures { λ r. ⌜ r ≡ bindingTest (codeOf (now (s .entry))) (objectsIn (now (s .entry)) (now (block .entry))) i (bindingAt (now (block .entry)) i) ⌝ }
 {
     let t = areas::word(block, Area::Bindings, i, Layout::TYPE);
@@ -117,12 +120,12 @@ fn binding_fits(s: &[u8], block: &[u8], i: usize) -> bool
         return false;
     }
     let v = areas::value(block, Area::Bindings, i, Layout::BOUND);
-    value_fits(s, block, v, Want::Upto(t))
+    value_fits(s, starts, block, v, Want::Upto(t))
 }
 
 // Do all bindings fit? The newest is asked first.
-fn bindings_fit(s: &[u8], block: &[u8]) -> bool
-    requires { ⌜ Asked (now s) (now block) × (counted (now block) Bindings ≤ BINDINGS) ⌝ }
+fn bindings_fit(s: &[u8], starts: &[u16], block: &[u8]) -> bool
+    requires { ⌜ Asked (now s) (now block) × Starts (now s) (now starts) × (counted (now block) Bindings ≤ BINDINGS) ⌝ }
     ensures { λ r. ⌜
         r ≡ bindingsTest (codeOf (now (s .entry))) (objectsIn (now (s .entry)) (now (block .entry)))
         (configIn (fieldCount (now (s .entry))) (now (block .entry)) .stores .bindings)
@@ -130,7 +133,7 @@ fn bindings_fit(s: &[u8], block: &[u8]) -> bool
 {
     let mut n = areas::count(block, Area::Bindings);
     while 0 < n {
-        if !binding_fits(s, block, n - 1) {
+        if !binding_fits(s, starts, block, n - 1) {
             return false;
         }
         n -= 1;
@@ -146,5 +149,5 @@ pub fn stores_fit(s: &[u8], starts: &[u16], block: &[u8]) -> bool
     if !objects_fit(s, starts, block) {
         return false;
     }
-    bindings_fit(s, block)
+    bindings_fit(s, starts, block)
 }

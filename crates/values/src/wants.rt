@@ -2,16 +2,17 @@
 use machine::Want;
 ghost use mathlib.Core.Path.{_≡_};
 ghost use Rattle.script.specs.Statements.{WithinLayout};
+ghost use Rattle.members.specs.Tables.{Starts};
 ghost use Rattle.machine.specs.Config.{codeOf};
 ghost use Rattle.machine.specs.Decide.{meetsTest};
 
 // Does the type t meet what is expected? Where any type is expected it does, else it must be the expected type or below.
-pub fn meets(s: &[u8], t: u16, want: Want) -> bool
-    requires { ⌜ WithinLayout (now s) ⌝ }
+pub fn meets(s: &[u8], starts: &[u16], t: u16, want: Want) -> bool
+    requires { ⌜ WithinLayout (now s) × Starts (now s) (now starts) ⌝ }
     ensures { λ r. ⌜ r ≡ meetsTest (codeOf (now (s .entry))) t want ⌝ }
 {
     match want {
         Want::Any => true,
-        Want::Upto(u) => members::is_below(s, t, u),
+        Want::Upto(u) => members::is_below(s, starts, t, u),
     }
 }

@@ -13,20 +13,16 @@ ghost use Rattle.limits.specs.Limits.{BINDINGS};
 ghost use Rattle.script.specs.declared.Section.the-variants.{Nodes as nodes};
 ghost use Rattle.script.specs.Section.{countOf};
 ghost use Rattle.script.specs.Reading.{programOf, exprAt};
-ghost use Rattle.typing.specs.Published.{WfEnv};
 ghost use Rattle.typing.specs.Typing.{inferred};
-ghost use Rattle.inference.specs.At.{Blank};
 ghost use Rattle.machine.specs.declared.Frame.{Frame};
 ghost use Rattle.machine.specs.Config.{Stores, returning};
 ghost use Rattle.machine.specs.Machine.{context, extend};
 ghost use Rattle.block.specs.declared.Area.the-variants.{Bindings};
 ghost use Rattle.block.specs.Layout.{counted};
-ghost use Rattle.block.specs.Values.{Storable};
-ghost use Rattle.environments.specs.Chains.{Chain, Typed, bindingsIn};
 ghost use Rattle.environments.specs.Known.{Inferable};
-ghost use Rattle.state.specs.Represents.{Rest, StateAt, SomeState};
-ghost use Rattle.state.specs.Positions.{entryAt};
+ghost use Rattle.state.specs.Represents.{Rest, StateAt};
 ghost use Rattle.moves.specs.Performs.{Performs};
+ghost use Rattle.waiting.specs.AtFrame.{AtTypedFrame};
 
 // "a waiting let adds one binding, its type the one inferred for the let's first part under the frame's bindings"
 pub fn bind_value(
@@ -38,10 +34,8 @@ pub fn bind_value(
     i: usize,
     w: WaitingLet,
 ) -> Effect
-    requires { ⌜ Blank (now s) (now starts) (now facts) (now table) × (w .first < countOf (now s) nodes) ⌝ }
-    requires { ⌜ Chain (now block) (w .env) × Typed (now block) × WfEnv (programOf (now s)) (context (bindingsIn (now block)) (w .env)) ⌝ }
-    requires { ⌜ Inferable (now s) (now block) (w .env) (w .first) ⌝ }
-    requires { ⌜ SomeState (now block) i × (0 < entryAt (now block) i .frames) × Storable (w .value) ⌝ }
+    requires { ⌜ AtTypedFrame (now s) (now starts) (now facts) (now table) (now block) i (w .env) (w .value) ⌝ }
+    requires { ⌜ (w .first < countOf (now s) nodes) × Inferable (now s) (now block) (w .env) (w .first) ⌝ }
     ensures { λ r. ⌜
         ((rest : Rest) (st : Stores) (fs : List Frame) (g : Frame) →
         StateAt (now (block .entry)) i rest st (returning (w .value) (g ∷ fs)) →

@@ -33,10 +33,9 @@ ghost use Rattle.block.specs.declared.Area.the-variants.{Objects, Bindings};
 ghost use Rattle.block.specs.Layout.{counted};
 ghost use Rattle.block.specs.Values.{Storable};
 ghost use Rattle.block.specs.Block.{Parts, laid};
-ghost use Rattle.environments.specs.Chains.{Chain};
-ghost use Rattle.state.specs.Represents.{Rest, StateAt, SomeState};
-ghost use Rattle.state.specs.Positions.{entryAt};
+ghost use Rattle.state.specs.Represents.{Rest, StateAt};
 ghost use Rattle.moves.specs.Performs.{Performs, OwnFields};
+ghost use Rattle.waiting.specs.AtFrame.{AtFrame, AtFrameIn};
 
 // A call of the method of an object that is there, with its argument.
 struct Call {
@@ -47,7 +46,7 @@ struct Call {
 
 // "a waiting cast vanishes"
 pub fn drop_cast(block: &mut [u8], i: usize, v: Value) -> Effect
-    requires { ⌜ SomeState (now block) i × (0 < entryAt (now block) i .frames) × Storable v ⌝ }
+    requires { ⌜ AtFrame (now block) i v ⌝ }
     ensures { λ r. ⌜
         ((rest : Rest) (st : Stores) (n : ℕ) (fs : List Frame) →
         StateAt (now (block .entry)) i rest st (returning v (casts n ∷ fs)) →
@@ -76,7 +75,7 @@ fn open_object(block: &mut [u8], o: u16)
 
 // "A value at a lock frame opens the object."
 pub fn open_lock(block: &mut [u8], i: usize, v: Value, o: u16) -> Effect
-    requires { ⌜ SomeState (now block) i × (0 < entryAt (now block) i .frames) × Storable v ⌝ }
+    requires { ⌜ AtFrame (now block) i v ⌝ }
     ensures { λ r. ⌜
         ((rest : Rest) (st : Stores) (fs : List Frame) →
         StateAt (now (block .entry)) i rest st (returning v (locks o ∷ fs)) →
@@ -113,10 +112,7 @@ fn write_field(s: &[u8], starts: &[u16], block: &mut [u8], o: usize, f: u16, v: 
 
 // "a waiting write stores and gives null"; "Targets are tested after the argument; null fails the thread."
 pub fn store_value(s: &[u8], starts: &[u16], block: &mut [u8], i: usize, w: WaitingMember) -> Effect
-    requires { ⌜
-        WithinLayout (now s) × Starts (now s) (now starts) × SomeState (now block) i × (0 < entryAt (now block) i .frames) ×
-        Chain (now block) (w .env) × Storable (w .value)
-        ⌝ }
+    requires { ⌜ AtFrameIn (now s) (now starts) (now block) i (w .env) (w .value) ⌝ }
     ensures { λ r. ⌜
         ((rest : Rest) (st : Stores) (g : Frame) (fs : List Frame) →
         StateAt (now (block .entry)) i rest st (returning (w .value) (g ∷ fs)) →
@@ -156,8 +152,9 @@ fn add_call(block: &mut [u8], n: usize, class: u16, o: u16, param: u16, v: Value
 
 // "a waiting call adds two .. and enters the body with no others", where the object o is there.
 fn call_object(s: &[u8], starts: &[u16], block: &mut [u8], i: usize, call: Call) -> Effect
-    requires { ⌜ WithinLayout (now s) × Starts (now s) (now starts) ×
-        SomeState (now block) i × (0 < entryAt (now block) i .frames) × (call .object < counted (now block) Objects) × Storable (call .value) ⌝ }
+    requires { ⌜
+        WithinLayout (now s) × Starts (now s) (now starts) × AtFrame (now block) i (call .value) × (call .object < counted (now block) Objects)
+        ⌝ }
     ensures { λ r. ⌜
         ((rest : Rest) (st : Stores) (g : Frame) (fs : List Frame) →
         StateAt (now (block .entry)) i rest st (returning (call .value) (g ∷ fs)) →
@@ -191,10 +188,7 @@ pub fn enter_method(
     i: usize,
     w: WaitingMember,
 ) -> Effect
-    requires { ⌜
-        WithinLayout (now s) × Starts (now s) (now starts) × SomeState (now block) i × (0 < entryAt (now block) i .frames) ×
-        Chain (now block) (w .env) × Storable (w .value)
-        ⌝ }
+    requires { ⌜ AtFrameIn (now s) (now starts) (now block) i (w .env) (w .value) ⌝ }
     ensures { λ r. ⌜
         ((rest : Rest) (st : Stores) (g : Frame) (fs : List Frame) →
         StateAt (now (block .entry)) i rest st (returning (w .value) (g ∷ fs)) →

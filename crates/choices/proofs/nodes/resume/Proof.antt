@@ -19,13 +19,28 @@ top-frame-requires : tie.Need-top-frame-requires
 top-frame-requires c κs = (some-state (c .before .before .before .before .before .before .before .before .before .pre .1 .here .seen), omega (arith, c .before .before .word .ensures .0))
 
 wake-requires : tie.Need-wake-requires
-wake-requires c κs = ((c .before .before .before .before .before .before .before .before .before .before .before .before .before .before .before .pre .0, laws.resumes-there (c .before .before .before .before .before .before .before .before .before .before .before .before .before .before .before .pre .1) _ _ _ (λ z. c .before .before .before .before .before .before .before .if1 .left (c .before .before .before .before .before .before .before .before .word .ensures .0 ∙ z)) (c .before .before .before .before .before .top-frame .ensures) (c .before .before .before .f .given .1) .node), ((seen-chain (c .before .before .before .before .before .before .before .before .before .before .before .before .before .before .before .pre .1 .here .seen) (c .before .before .before .before .before .before .before .before .before .before .before .before .before .before .before .pre .0 .within) (c .before .before .before .before .before .before .before .before .before .before .before .before .before .before .before .pre .1 .stores .bindings) _ (laws.resumes-there (c .before .before .before .before .before .before .before .before .before .before .before .before .before .before .before .pre .1) _ _ _ (λ z. c .before .before .before .before .before .before .before .if1 .left (c .before .before .before .before .before .before .before .before .word .ensures .0 ∙ z)) (c .before .before .before .before .before .top-frame .ensures) (c .before .before .before .f .given .1) .env), seen-typed (c .before .before .before .before .before .before .before .before .before .before .before .before .before .before .before .pre .1 .here .seen) (c .before .before .before .before .before .before .before .before .before .before .before .before .before .before .before .pre .0 .within) (c .before .before .before .before .before .before .before .before .before .before .before .before .before .before .before .pre .1 .stores .bindings), seen-env (c .before .before .before .before .before .before .before .before .before .before .before .before .before .before .before .pre .1 .here .seen) (c .before .before .before .before .before .before .before .before .before .before .before .before .before .before .before .pre .0 .within) (c .before .before .before .before .before .before .before .before .before .before .before .before .before .before .before .pre .1 .stores .bindings) _), (laws.resumes-first (c .before .before .before .before .before .before .before .before .before .before .before .before .before .before .before .pre .1) _ _ _ (λ z. c .before .before .before .before .before .before .before .if1 .left (c .before .before .before .before .before .before .before .before .word .ensures .0 ∙ z)) (c .before .before .before .before .before .top-frame .ensures) (c .before .before .before .f .given .1), (some-state (c .before .before .before .before .before .before .before .before .before .before .before .before .before .before .before .pre .1 .here .seen), omega (arith, c .before .before .before .before .before .before .before .before .word .ensures .0), laws.resumes-word (c .before .before .before .before .before .before .before .before .before .before .before .before .before .before .before .pre .1)))))
+wake-requires c κs =
+    let blank = c .before .before .before .before .before .before .before .before .before .before .before .before .before .before .before .pre .0 in
+    let h = c .before .before .before .before .before .before .before .before .before .before .before .before .before .before .before .pre .1 in
+    let seen = h .here .seen in
+    let bindings = h .stores .bindings in
+    let there = laws.resumes-there h _ _ _ (λ z. c .before .before .before .before .before .before .before .if1 .left (c .before .before .before .before .before .before .before .before .word .ensures .0 ∙ z)) (c .before .before .before .before .before .top-frame .ensures) (c .before .before .before .f .given .1) in
+    let first = laws.resumes-first h _ _ _ (λ z. c .before .before .before .before .before .before .before .if1 .left (c .before .before .before .before .before .before .before .before .word .ensures .0 ∙ z)) (c .before .before .before .before .before .top-frame .ensures) (c .before .before .before .f .given .1) in (
+      record {
+        blank = blank;
+        chain = seen-chain seen (blank .within) bindings _ (there .env);
+        typed = seen-typed seen (blank .within) bindings;
+        types = seen-env seen (blank .within) bindings _;
+        frame = record { here = some-state seen; waiting = omega (arith, c .before .before .before .before .before .before .before .before .word .ensures .0); word = laws.resumes-word h };
+      },
+      (there .node, first),
+    )
 
 drop-cast-requires : tie.Need-drop-cast-requires
-drop-cast-requires c κs = (some-state (c .before .before .before .before .before .before .before .before .before .before .before .before .before .pre .1 .here .seen), omega (arith, c .before .before .before .before .before .before .word .ensures .0), laws.resumes-word (c .before .before .before .before .before .before .before .before .before .before .before .before .before .pre .1))
+drop-cast-requires c κs = record { here = some-state (c .before .before .before .before .before .before .before .before .before .before .before .before .before .pre .1 .here .seen); waiting = omega (arith, c .before .before .before .before .before .before .word .ensures .0); word = laws.resumes-word (c .before .before .before .before .before .before .before .before .before .before .before .before .before .pre .1) }
 
 open-lock-requires : tie.Need-open-lock-requires
-open-lock-requires c κs = (some-state (c .before .before .before .before .before .before .before .before .before .before .before .before .before .before .pre .1 .here .seen), omega (arith, c .before .before .before .before .before .before .before .word .ensures .0), laws.resumes-word (c .before .before .before .before .before .before .before .before .before .before .before .before .before .before .pre .1))
+open-lock-requires c κs = record { here = some-state (c .before .before .before .before .before .before .before .before .before .before .before .before .before .before .pre .1 .here .seen); waiting = omega (arith, c .before .before .before .before .before .before .before .word .ensures .0); word = laws.resumes-word (c .before .before .before .before .before .before .before .before .before .before .before .before .before .before .pre .1) }
 
 returns-2 : tie.Need-returns-2
 returns-2 c =

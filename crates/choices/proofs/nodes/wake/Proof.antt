@@ -9,7 +9,8 @@ use Rattle.choices.proofs.nodes.wake.Tie as tie
 
 bind-value-requires : tie.Need-bind-value-requires
 bind-value-requires c κs =
-    ((c .before .before .before .before .before .before .before .before .before .before .before .before .pre .0 .0, let-part _ _ _ _ (c .before .before .before .before .before .before .before .before .before .before .before .before .pre .0 .0 .within) (c .before .before .before .before .before .before .before .before .before .before .before .before .pre .0 .1) (laws.let-view (record { kind-is = c .before .before .before .before .before .before .node-word .ensures .0; first = c .before .before .before .before .before .node-word2 .ensures .0; second = c .before .before .before .before .node-word3 .ensures .0; third = c .before .before .before .node-word4 .ensures .0 }) (c .before .before .match .keys3))), (c .before .before .before .before .before .before .before .before .before .before .before .before .pre .1 .0, (c .before .before .before .before .before .before .before .before .before .before .before .before .pre .1 .1 .0 _ _ _ (laws.let-view (record { kind-is = c .before .before .before .before .before .before .node-word .ensures .0; first = c .before .before .before .before .before .node-word2 .ensures .0; second = c .before .before .before .before .node-word3 .ensures .0; third = c .before .before .before .node-word4 .ensures .0 }) (c .before .before .match .keys3)), c .before .before .before .before .before .before .before .before .before .before .before .before .pre .1 .1 .1)))
+    let view = laws.let-view (record { kind-is = c .before .before .before .before .before .before .node-word .ensures .0; first = c .before .before .before .before .before .node-word2 .ensures .0; second = c .before .before .before .before .node-word3 .ensures .0; third = c .before .before .before .node-word4 .ensures .0 }) (c .before .before .match .keys3) in
+    (c .before .before .before .before .before .before .before .before .before .before .before .before .pre .0, (let-part _ _ _ _ (c .before .before .before .before .before .before .before .before .before .before .before .before .pre .0 .blank .within) (c .before .before .before .before .before .before .before .before .before .before .before .before .pre .1 .0) view, c .before .before .before .before .before .before .before .before .before .before .before .before .pre .1 .1 _ _ _ view))
 
 returns : tie.Need-returns
 returns c =

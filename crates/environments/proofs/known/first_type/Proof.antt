@@ -6,7 +6,7 @@ use Rattle.environments.proofs.known.first_type.Statement.{statement}
 use Rattle.environments.proofs.known.first_type.Tie as tie
 
 cast-t12 : tie.Need-cast-t12
-cast-t12 c = omega (arith, laws.told-small (laws.asked (c .before .before .before .before .before .before .before .before .before .pre .0 .0) (c .before .before .before .before .before .before .before .before .before .pre .0 .1) (c .before .before .before .before .before .before .before .before .before .pre .1 .0 .0) (c .before .before .before .before .before .before .before .before .before .pre .1 .0 .2)) _ (c .before .before .before .known-type .ensures) _ (c .before .t .given .1))
+cast-t12 c = omega (arith, laws.told-small (laws.scoped (c .before .before .before .before .before .before .before .before .before .pre .0 .0) (c .before .before .before .before .before .before .before .before .before .pre .0 .1) (c .before .before .before .before .before .before .before .before .before .pre .1 .0 .0) (c .before .before .before .before .before .before .before .before .before .pre .1 .0 .2)) _ (c .before .before .before .known-type .ensures) _ (c .before .t .given .1))
 
 returns-2 : tie.Need-returns-2
 returns-2 c = (sym (c .before .before .before .known-type .ensures _ (c .before .t .given .1)), refl)

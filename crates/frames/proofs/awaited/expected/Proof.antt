@@ -5,13 +5,13 @@ use Rattle.frames.proofs.awaited.expected.Statement.{statement}
 use Rattle.frames.proofs.awaited.expected.Tie as tie
 
 returns : tie.Need-returns
-returns c = laws.expected-never (c .before .before .before .args .s .now) _ (c .before .before .before .args .want) (c .enum-told .given .1)
+returns c = laws.expected-never (c .before .before .before .before .args .s .now) _ (c .before .before .before .before .args .want) (c .enum-told .given .1)
 
 returns-2 : tie.Need-returns-2
-returns-2 c = laws.expected-not (c .before .before .before .before .before .before .args .s .now) _ (c .before .before .before .before .before .before .args .want) _ _ (c .before .before .before .w .given .1) _ (c .before .meets .ensures) (not-true _ (c .if1 .taken))
+returns-2 c = laws.expected-not (c .before .before .before .before .before .before .before .args .s .now) _ (c .before .before .before .before .before .before .before .args .want) _ _ (c .before .before .before .w .given .1) _ (c .before .meets .ensures) (not-true _ (c .if1 .taken))
 
 returns-3 : tie.Need-returns-3
-returns-3 c = laws.expected-so (c .before .before .before .before .before .before .args .s .now) _ (c .before .before .before .before .before .before .args .want) _ _ (c .before .before .before .w .given .1) _ (c .before .meets .ensures) (not-false _ (c .if1 .left))
+returns-3 c = laws.expected-so (c .before .before .before .before .before .before .before .args .s .now) _ (c .before .before .before .before .before .before .before .args .want) _ _ (c .before .before .before .w .given .1) _ (c .before .meets .ensures) (not-false _ (c .if1 .left))
 
 pub expected-spec : {M : Type 1} → statement M
 expected-spec =

@@ -18,34 +18,34 @@ abbrev μ-loop : tie.MeasureT-loop
 μ-loop s starts facts table₀ block memo₀ from n w₀ k₀ table memo w k = n - k
 
 loop-holds : tie.Need-loop-holds Inv-loop μ-loop
-loop-holds c = (laws.climb-begun _ _ _ _ _ _, c .before .before .before .before .before .before .pre .0 .1)
+loop-holds c = (laws.climb-begun _ _ _ _ _ _, c .before .before .before .before .before .before .pre .0 .remembers)
 
 add-frame-want : tie.Need-add-frame-want Inv-loop μ-loop
-add-frame-want c = omega (arith, laws.frame-place (c .before .before .before .before .before .before .before .before .before .before .pre .0 .0) _ (laws.climb-place (c .before .before .before .before .before .before .before .before .before .before .pre .0 .0) (c .before .before .before .before .before .before .before .before .before .before .pre .1) (c .before .before .before .loop .inv .0) (omega arith)))
+add-frame-want c = omega (arith, laws.frame-place (c .before .before .before .before .before .before .before .before .before .before .pre .0 .ready) _ (laws.climb-place (c .before .before .before .before .before .before .before .before .before .before .pre .0 .ready) (c .before .before .before .before .before .before .before .before .before .before .pre .1) (c .before .before .before .loop .inv .0) (omega arith)))
 
 frame-want-requires : tie.Need-frame-want-requires Inv-loop μ-loop
-frame-want-requires c κs = ((still-ready (c .before .before .before .before .before .before .before .before .before .before .pre .0 .0) (c .before .before .before .loop .inv .0 .same), c .before .before .before .loop .inv .1), laws.climb-place (c .before .before .before .before .before .before .before .before .before .before .pre .0 .0) (c .before .before .before .before .before .before .before .before .before .before .pre .1) (c .before .before .before .loop .inv .0) (omega arith))
+frame-want-requires c κs = (record { ready = still-ready (c .before .before .before .before .before .before .before .before .before .before .pre .0 .ready) (c .before .before .before .loop .inv .0 .same); remembers = c .before .before .before .loop .inv .1 }, laws.climb-place (c .before .before .before .before .before .before .before .before .before .before .pre .0 .ready) (c .before .before .before .before .before .before .before .before .before .before .pre .1) (c .before .before .before .loop .inv .0) (omega arith))
 
 same-length : tie.Need-same-length Inv-loop μ-loop
 same-length c = ap length (c .before .before .before .before .before .before .frame-want .ensures .1 .0 ∙ c .before .before .before .before .before .before .before .before .before .before .loop .inv .0 .same)
 
 same-length-2 : tie.Need-same-length-2 Inv-loop μ-loop
-same-length-2 c = same-size (c .before .before .before .before .before .before .frame-want .ensures .1 .1) (c .before .before .before .before .before .before .before .before .before .before .before .before .before .before .before .before .before .pre .0 .1)
+same-length-2 c = same-size (c .before .before .before .before .before .before .frame-want .ensures .1 .1) (c .before .before .before .before .before .before .before .before .before .before .before .before .before .before .before .before .before .pre .0 .remembers)
 
 returns : tie.Need-returns Inv-loop μ-loop
-returns c = (laws.climb-stopped (c .before .before .before .before .before .before .before .before .before .before .before .before .before .before .before .before .before .pre .0 .0) (c .before .before .before .before .before .before .before .before .before .before .before .before .before .before .before .before .before .pre .1) (c .before .before .before .before .before .before .before .before .before .before .loop .inv .0) (omega arith) _ (c .before .before .before .before .before .before .frame-want .ensures .0) (c .enum-told .given .1), (c .before .before .before .before .before .before .frame-want .ensures .1 .0 ∙ c .before .before .before .before .before .before .before .before .before .before .loop .inv .0 .same, c .before .before .before .before .before .before .frame-want .ensures .1 .1))
+returns c = (laws.climb-stopped (c .before .before .before .before .before .before .before .before .before .before .before .before .before .before .before .before .before .pre .0 .ready) (c .before .before .before .before .before .before .before .before .before .before .before .before .before .before .before .before .before .pre .1) (c .before .before .before .before .before .before .before .before .before .before .loop .inv .0) (omega arith) _ (c .before .before .before .before .before .before .frame-want .ensures .0) (c .enum-told .given .1), (c .before .before .before .before .before .before .frame-want .ensures .1 .0 ∙ c .before .before .before .before .before .before .before .before .before .before .loop .inv .0 .same, c .before .before .before .before .before .before .frame-want .ensures .1 .1))
 
 loop-again : tie.Need-loop-again Inv-loop μ-loop
-loop-again c = (laws.climb-more (c .before .before .before .before .before .before .before .before .before .before .before .before .before .before .before .before .before .before .pre .0 .0) (c .before .before .before .before .before .before .before .before .before .before .before .before .before .before .before .before .before .before .pre .1) (c .before .before .before .before .before .before .before .before .before .before .before .loop .inv .0) (omega arith) _ (c .before .before .before .before .before .before .before .frame-want .ensures .0) (c .before .before .before .before .before .before .before .frame-want .ensures .1 .0) _ (c .before .v .given .1), c .before .before .before .before .before .before .before .frame-want .ensures .1 .1)
+loop-again c = (laws.climb-more (c .before .before .before .before .before .before .before .before .before .before .before .before .before .before .before .before .before .before .pre .0 .ready) (c .before .before .before .before .before .before .before .before .before .before .before .before .before .before .before .before .before .before .pre .1) (c .before .before .before .before .before .before .before .before .before .before .before .loop .inv .0) (omega arith) _ (c .before .before .before .before .before .before .before .frame-want .ensures .0) (c .before .before .before .before .before .before .before .frame-want .ensures .1 .0) _ (c .before .v .given .1), c .before .before .before .before .before .before .before .frame-want .ensures .1 .1)
 
 same-length-3 : tie.Need-same-length-3 Inv-loop μ-loop
 same-length-3 c = ap length (c .before .loop .inv .0 .same)
 
 same-length-4 : tie.Need-same-length-4 Inv-loop μ-loop
-same-length-4 c = same-size (c .before .loop .inv .1) (c .before .before .before .before .before .before .before .before .pre .0 .1)
+same-length-4 c = same-size (c .before .loop .inv .1) (c .before .before .before .before .before .before .before .before .pre .0 .remembers)
 
 returns-2 : tie.Need-returns-2 Inv-loop μ-loop
-returns-2 c = (laws.climb-done (c .before .before .before .before .before .before .before .before .pre .0 .0) (c .before .before .before .before .before .before .before .before .pre .1) (c .before .loop .inv .0) (omega arith), (c .before .loop .inv .0 .same, c .before .loop .inv .1))
+returns-2 c = (laws.climb-done (c .before .before .before .before .before .before .before .before .pre .0 .ready) (c .before .before .before .before .before .before .before .before .pre .1) (c .before .loop .inv .0) (omega arith), (c .before .loop .inv .0 .same, c .before .loop .inv .1))
 
 pub frames-want-spec : {M : Type 1} → statement M
 frames-want-spec =

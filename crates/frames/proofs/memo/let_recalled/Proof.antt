@@ -7,19 +7,19 @@ use Rattle.frames.proofs.memo.let_recalled.Statement.{statement}
 use Rattle.frames.proofs.memo.let_recalled.Tie as tie
 
 recall-requires : tie.Need-recall-requires
-recall-requires c κs = (ready.chain (c .before .before .before .before .before .before .before .pre .0 .0) _ (c .before .before .before .before .before .before .before .pre .1 .1), c .before .before .before .before .before .before .before .pre .0 .1 .placed, ready.small-node (c .before .before .before .before .before .before .before .pre .0 .0) (c .before .before .before .before .before .before .before .pre .1 .0))
+recall-requires c κs = (ready.chain (c .before .before .before .before .before .before .before .pre .0 .ready) _ (c .before .before .before .before .before .before .before .pre .1 .0 .environment), c .before .before .before .before .before .before .before .pre .0 .remembers .placed, ready.small-node (c .before .before .before .before .before .before .before .pre .0 .ready) (c .before .before .before .before .before .before .before .pre .1 .0 .node))
 
 returns : tie.Need-returns
-returns c = (laws.as-recalled _ _ (c .before .before .before .before .before .before .before .before .before .before .pre .0 .1) _ (c .before .before .recall .ensures) _ _ (c .enum-told2 .given .1), (refl, c .before .before .before .before .before .before .before .before .before .before .pre .0 .1))
+returns c = (laws.as-recalled _ _ (c .before .before .before .before .before .before .before .before .before .before .pre .0 .remembers) _ (c .before .before .recall .ensures) _ _ (c .enum-told2 .given .1), (refl, c .before .before .before .before .before .before .before .before .before .before .pre .0 .remembers))
 
 returns-2 : tie.Need-returns-2
-returns-2 c = (laws.as-told _ _ _ _ _ Never (c .before .before .before .before .let-waits .ensures .0) (c .enum-told3 .given .1), (c .before .before .before .before .let-waits .ensures .1, c .before .before .before .before .before .before .before .before .before .before .before .before .before .before .before .before .pre .0 .1))
+returns-2 c = (laws.as-told _ _ _ _ _ Never (c .before .before .before .before .let-waits .ensures .0) (c .enum-told3 .given .1), (c .before .before .before .before .let-waits .ensures .1, c .before .before .before .before .before .before .before .before .before .before .before .before .before .before .before .before .pre .0 .remembers))
 
 remember-requires : tie.Need-remember-requires
-remember-requires c κs = (c .before .before .before .before .before .before .before .before .before .before .before .before .before .before .before .before .before .before .pre .0 .1 .placed .size, ready.small-node (c .before .before .before .before .before .before .before .before .before .before .before .before .before .before .before .before .before .before .pre .0 .0) (c .before .before .before .before .before .before .before .before .before .before .before .before .before .before .before .before .before .before .pre .1 .0), ready.small-environment (c .before .before .before .before .before .before .before .before .before .before .before .before .before .before .before .before .before .before .pre .0 .0) (c .before .before .before .before .before .before .before .before .before .before .before .before .before .before .before .before .before .before .pre .1 .1))
+remember-requires c κs = (c .before .before .before .before .before .before .before .before .before .before .before .before .before .before .before .before .before .before .pre .0 .remembers .placed .size, ready.small-node (c .before .before .before .before .before .before .before .before .before .before .before .before .before .before .before .before .before .before .pre .0 .ready) (c .before .before .before .before .before .before .before .before .before .before .before .before .before .before .before .before .before .before .pre .1 .0 .node), ready.small-environment (c .before .before .before .before .before .before .before .before .before .before .before .before .before .before .before .before .before .before .pre .0 .ready) (c .before .before .before .before .before .before .before .before .before .before .before .before .before .before .before .before .before .before .pre .1 .0 .environment))
 
 returns-3 : tie.Need-returns-3
-returns-3 c = (laws.as-told _ _ _ _ _ (For _ _) (c .before .before .before .before .before .before .before .before .before .let-waits .ensures .0) (c .before .before .before .before .before .t .given .1), (c .before .before .before .before .before .before .before .before .before .let-waits .ensures .1, laws.remembered _ (c .before .before .before .before .before .before .before .before .before .before .before .before .before .before .before .before .before .before .before .before .before .pre .0 .1 .placed .size) _ (ready.small-node (c .before .before .before .before .before .before .before .before .before .before .before .before .before .before .before .before .before .before .before .before .before .pre .0 .0) (c .before .before .before .before .before .before .before .before .before .before .before .before .before .before .before .before .before .before .before .before .before .pre .1 .0)) _ _ _ (c .before .before .before .before .before .before .before .before .before .before .before .before .before .before .before .before .before .before .before .before .before .pre .0 .1) (c .before .before .before .before .before .before .before .before .before .before .before .before .before .before .before .before .before .before .before .before .before .pre .1 .1) (laws.as-told _ _ _ _ _ (For _ _) (c .before .before .before .before .before .before .before .before .before .let-waits .ensures .0) (c .before .before .before .before .before .t .given .1)) (c .before .before .remember .ensures)))
+returns-3 c = (laws.as-told _ _ _ _ _ (For _ _) (c .before .before .before .before .before .before .before .before .before .let-waits .ensures .0) (c .before .before .before .before .before .t .given .1), (c .before .before .before .before .before .before .before .before .before .let-waits .ensures .1, laws.remembered _ (c .before .before .before .before .before .before .before .before .before .before .before .before .before .before .before .before .before .before .before .before .before .pre .0 .remembers .placed .size) _ (ready.small-node (c .before .before .before .before .before .before .before .before .before .before .before .before .before .before .before .before .before .before .before .before .before .pre .0 .ready) (c .before .before .before .before .before .before .before .before .before .before .before .before .before .before .before .before .before .before .before .before .before .pre .1 .0 .node)) _ _ _ (c .before .before .before .before .before .before .before .before .before .before .before .before .before .before .before .before .before .before .before .before .before .pre .0 .remembers) (c .before .before .before .before .before .before .before .before .before .before .before .before .before .before .before .before .before .before .before .before .before .pre .1 .0 .environment) (laws.as-told _ _ _ _ _ (For _ _) (c .before .before .before .before .before .before .before .before .before .let-waits .ensures .0) (c .before .before .before .before .before .t .given .1)) (c .before .before .remember .ensures)))
 
 pub let-recalled-spec : {M : Type 1} → statement M
 let-recalled-spec =

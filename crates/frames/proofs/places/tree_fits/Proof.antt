@@ -29,7 +29,7 @@ loop-holds : tie.Need-loop-holds Inv-loop μ-loop
 loop-holds c = (c .count .ensures .0, laws.pass-begun _ _ _ _, remembers-nothing _ _)
 
 position-fits-requires : tie.Need-position-fits-requires Inv-loop μ-loop
-position-fits-requires c κs = ((still-ready (c .before .before .before .before .before .before .before .before .before .before .pre) (c .before .before .before .loop .inv .1 .same), c .before .before .before .loop .inv .2), (omega (arith, c .before .before .before .loop .inv .0), c .before .before .before .loop .inv .1 .begins))
+position-fits-requires c κs = (record { ready = still-ready (c .before .before .before .before .before .before .before .before .before .before .pre) (c .before .before .before .loop .inv .1 .same); remembers = c .before .before .before .loop .inv .2 }, (omega (arith, c .before .before .before .loop .inv .0), c .before .before .before .loop .inv .1 .begins))
 
 same-length : tie.Need-same-length Inv-loop μ-loop
 same-length c = ap length (c .before .before .before .before .position-fits .ensures .1 .0 ∙ c .before .before .before .before .before .before .before .before .loop .inv .1 .same)

@@ -22,10 +22,10 @@ word-requires : tie.Need-word-requires Inv-loop μ-loop
 word-requires c κs = (c .before .before .before .before .pre .long, omega (arith, c .before .before .count .ensures .0, c .before .before .before .before .pre .few Positions), omega arith)
 
 returns : tie.Need-returns Inv-loop μ-loop
-returns c = position-failed _ _ _ (c .before .before .before .loop .inv .1) _ (omega arith) (c .before .word .ensures .0) (c .if1 .taken)
+returns c = position-failed _ _ _ (c .before .before .before .loop .inv .1) _ (omega arith) (c .before .word .ensures .0) (omega (arith, c .if1 .taken))
 
 loop-again : tie.Need-loop-again Inv-loop μ-loop
-loop-again c = (omega arith, position-more _ _ _ (c .before .before .before .loop .inv .1) _ (omega arith) (c .before .word .ensures .0) (c .if1 .left))
+loop-again c = (omega arith, position-more _ _ _ (c .before .before .before .loop .inv .1) _ (omega arith) (c .before .word .ensures .0) (λ z. omega (arith, c .if1 .left, z)))
 
 returns-2 : tie.Need-returns-2 Inv-loop μ-loop
 returns-2 c = all-done _ _ _ _ _ (c .before .loop .inv .1) (omega arith)

@@ -21,13 +21,13 @@ remove-frames-requires : tie.Need-remove-frames-requires
 remove-frames-requires c κs = (seen-length (c .before .before .before .before .before .before .before .before .before .before .pre .seen), omega (arith, frames-inside (c .before .before .before .before .before .before .before .before .before .before .pre .seen) _ _ (c .before .before .before .before .before .before .before .frames-before .ensures) (c .before .before .before .frames-within .ensures)), seen-few (c .before .before .before .before .before .before .before .before .before .before .pre .seen) Frames)
 
 failed-requires : tie.Need-failed-requires
-failed-requires c κs = (c .before .before .before .before .before .take-tree .ensures .tidy, rw (c .before .before .before .before .before .take-tree .ensures .same) (c .before .before .before .before .before .before .before .before .before .part-end .ensures))
+failed-requires c κs = (c .before .before .before .before .before .take-tree .ensures .bounded, rw (c .before .before .before .before .before .take-tree .ensures .same) (c .before .before .before .before .before .before .before .before .before .part-end .ensures))
 
 put-tree-requires : tie.Need-put-tree-requires
 put-tree-requires c κs = (
   omega (arith, seen-length (c .before .before .before .before .before .before .before .before .before .before .before .before .before .before .before .pre .seen), c .before .before .before .before .remove-frames .kept .0),
   frames-few (c .before .before .before .before .before .before .before .before .before .before .before .before .before .before .before .pre .seen) (λ p is. (_, c .before .before .before .before .remove-frames .ensures p is)),
-  c .failed .ensures .tidy,
+  c .failed .ensures .bounded,
   c .failed .ensures .words (c .before .before .before .before .before .before .take-tree .ensures .worded),
 )
 

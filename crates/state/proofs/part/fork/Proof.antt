@@ -12,7 +12,7 @@ take-tree-requires c κs = (seen-length (c .before .before .pre .0 .seen), seen-
 
 forked-requires : tie.Need-forked-requires
 forked-requires c κs = (
-  c .before .take-tree .ensures .tidy,
+  c .before .take-tree .ensures .bounded,
   omega (arith, taken-len (c .before .take-tree .ensures), seen-inside (c .before .before .before .before .pre .0 .seen)),
   omega (arith, taken-len (c .before .take-tree .ensures), c .before .before .before .before .pre .1),
 )
@@ -21,7 +21,7 @@ put-tree-requires : tie.Need-put-tree-requires
 put-tree-requires c κs = (
   seen-length (c .before .before .before .before .before .pre .0 .seen),
   seen-few (c .before .before .before .before .before .pre .0 .seen) Positions,
-  c .forked .ensures .tidy,
+  c .forked .ensures .bounded,
   c .forked .ensures .words (c .before .before .take-tree .ensures .worded),
 )
 

@@ -12,13 +12,13 @@ take-tree-requires : tie.Need-take-tree-requires
 take-tree-requires c κs = (seen-length (c .before .before .before .before .pre .seen), seen-few (c .before .before .before .before .pre .seen) Positions)
 
 joined-requires : tie.Need-joined-requires
-joined-requires c κs = (c .before .take-tree .ensures .tidy, rw (c .before .take-tree .ensures .same) (c .before .before .before .part-end .ensures))
+joined-requires c κs = (c .before .take-tree .ensures .bounded, rw (c .before .take-tree .ensures .same) (c .before .before .before .part-end .ensures))
 
 put-tree-requires : tie.Need-put-tree-requires
 put-tree-requires c κs = (
   seen-length (c .before .before .before .before .before .before .before .pre .seen),
   seen-few (c .before .before .before .before .before .before .before .pre .seen) Positions,
-  c .joined .ensures .tidy,
+  c .joined .ensures .bounded,
   c .joined .ensures .words (c .before .before .take-tree .ensures .worded),
 )
 

@@ -7,19 +7,19 @@ use Rattle.values.proofs.stores.bindings_fit.Statement.{statement}
 use Rattle.values.proofs.stores.bindings_fit.Tie as tie
 
 abbrev Inv-loop : tie.InvT-loop
-Inv-loop s block n₀ n = (n ≤ counted block Bindings) × BindingsLeft s block n
+Inv-loop s starts block n₀ n = (n ≤ counted block Bindings) × BindingsLeft s block n
 
 abbrev μ-loop : tie.MeasureT-loop
-μ-loop s block n₀ n = n
+μ-loop s starts block n₀ n = n
 
 count-requires : tie.Need-count-requires Inv-loop μ-loop
-count-requires c κs = c .before .before .pre .0 .long
+count-requires c κs = c .before .before .before .pre .0 .long
 
 loop-holds : tie.Need-loop-holds Inv-loop μ-loop
 loop-holds c = (omega (arith, c .count .ensures .0), bindings-begun _ _ _ (c .count .ensures .0))
 
 binding-fits-requires : tie.Need-binding-fits-requires Inv-loop μ-loop
-binding-fits-requires c κs = (c .before .before .before .before .before .pre .0, c .before .before .before .before .before .pre .1, omega arith)
+binding-fits-requires c κs = (c .before .before .before .before .before .before .pre .0, c .before .before .before .before .before .before .pre .1, c .before .before .before .before .before .before .pre .2, omega arith)
 
 returns : tie.Need-returns Inv-loop μ-loop
 returns c = bindings-no _ _ _ (c .before .before .before .loop .inv .1) _ (omega arith) (c .before .binding-fits .ensures) (c .if1 .taken)

@@ -29,7 +29,7 @@ own-count-requires c κs =
     (laid (pre .0 .script), laws.own-run (pre .0) _ _ (c .before .before .before .before .before .word .ensures .0) (c .before .before .before .before .declared-as .ensures) (c .before .before .d .given .1) (pre .1) .owner)
 
 fields-fit-requires : tie.Need-fields-fit-requires
-fields-fit-requires c κs = (c .before .before .before .before .before .before .before .before .before .before .pre .0, c .before .before .before .before .before .before .before .before .before .before .pre .2, own-ends (c .before .before .before .before .before .before .before .before .before .before .pre .0 .script) (laws.own-run (c .before .before .before .before .before .before .before .before .before .before .pre .0) _ _ (c .before .before .before .before .before .before .word .ensures .0) (c .before .before .before .before .before .declared-as .ensures) (c .before .before .before .d .given .1) (c .before .before .before .before .before .before .before .before .before .before .pre .1)) _ _ refl (c .own-count .ensures .0), omega (arith, c .own-count .ensures .0, laws.own-few (c .before .before .before .before .before .before .before .before .before .before .pre .0) _ _ (c .before .before .before .before .before .before .word .ensures .0) (c .before .before .before .before .before .declared-as .ensures) (c .before .before .before .d .given .1) (c .before .before .before .before .before .before .before .before .before .before .pre .2)))
+fields-fit-requires c κs = (c .before .before .before .before .before .before .before .before .before .before .pre .0, c .before .before .before .before .before .before .before .before .before .before .pre .1, c .before .before .before .before .before .before .before .before .before .before .pre .2, own-ends (c .before .before .before .before .before .before .before .before .before .before .pre .0 .script) (laws.own-run (c .before .before .before .before .before .before .before .before .before .before .pre .0) _ _ (c .before .before .before .before .before .before .word .ensures .0) (c .before .before .before .before .before .declared-as .ensures) (c .before .before .before .d .given .1) (c .before .before .before .before .before .before .before .before .before .before .pre .1)) _ _ refl (c .own-count .ensures .0), omega (arith, c .own-count .ensures .0, laws.own-few (c .before .before .before .before .before .before .before .before .before .before .pre .0) _ _ (c .before .before .before .before .before .before .word .ensures .0) (c .before .before .before .before .before .declared-as .ensures) (c .before .before .before .d .given .1) (c .before .before .before .before .before .before .before .before .before .before .pre .2)))
 
 returns : tie.Need-returns
 returns c = laws.object-interface (c .before .before .before .before .before .before .before .pre .0) _ _ (c .before .before .before .word .ensures .0) (c .before .before .declared-as .ensures) (c .enum-told .given .1)

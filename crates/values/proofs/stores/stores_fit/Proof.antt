@@ -9,7 +9,7 @@ returns : tie.Need-returns
 returns c = stores-no _ _ _ (c .before .objects-fit .ensures) (c .if1 .taken)
 
 bindings-fit-requires : tie.Need-bindings-fit-requires
-bindings-fit-requires c κs = (c .before .before .before .before .before .pre .0, c .before .before .before .before .before .pre .1)
+bindings-fit-requires c κs = (c .before .before .before .before .before .pre .0, c .before .before .before .before .before .pre .2, c .before .before .before .before .before .pre .1)
 
 returns-2 : tie.Need-returns-2
 returns-2 c = stores-are _ _ _ (c .before .before .objects-fit .ensures) _ (c .before .if1 .left) (c .bindings-fit .ensures)

@@ -18,8 +18,8 @@ returns-2 c = (λ rest st fs g s. performs-as (binds-full s _ fs (c .before .bef
 
 pop-requires : tie.Need-pop-requires
 pop-requires c κs =
-    let now = bound-more _ _ (c .before .before .before .before .before .before .count .ensures .0) (c .before .before .before .before .before .if1 .left) (c .before .before .before .add-binding .ensures) (c .before .before .before .before .before .before .before .before .before .before .before .before .before .before .before .before .before .before .before .before .before .pre .1 .1 .1 .0 .seen) in
-    (some-state now, still-waiting (c .before .before .before .before .before .before .before .before .before .before .before .before .before .before .before .before .before .before .before .before .before .pre .1 .1 .1 .0 .seen) now (c .before .before .before .before .before .before .before .before .before .before .before .before .before .before .before .before .before .before .before .before .before .pre .1 .1 .1 .1), omega arith)
+    let now = bound-more _ _ (c .before .before .before .before .before .before .count .ensures .0) (c .before .before .before .before .before .if1 .left) (c .before .before .before .add-binding .ensures) (c .before .before .before .before .before .before .before .before .before .before .before .before .before .before .before .before .before .before .before .before .before .pre .0 .frame .here .seen) in
+    (some-state now, still-waiting (c .before .before .before .before .before .before .before .before .before .before .before .before .before .before .before .before .before .before .before .before .before .pre .0 .frame .here .seen) now (c .before .before .before .before .before .before .before .before .before .before .before .before .before .before .before .before .before .before .before .before .before .pre .0 .frame .waiting), omega arith)
 
 returns-3 : tie.Need-returns-3
 returns-3 c = (

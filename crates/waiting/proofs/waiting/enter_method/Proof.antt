@@ -12,7 +12,7 @@ returns-2 : tie.Need-returns-2
 returns-2 c = λ rest st g fs s. performs-as (targets.null-target (targets.calls _ st fs _ _ _) (c .before .before .before .before .before .before .before .before .before .target-of .ensures _ rest st _ s) (c .before .before .before .before .before .before .before .found .given .1) (c .before .before .before .before .enum-told2 .given .1)) (c .before .before .fails .ensures rest st _ s)
 
 call-object-requires : tie.Need-call-object-requires
-call-object-requires c κs = (c .before .before .before .before .before .before .before .before .before .before .before .before .pre .0, c .before .before .before .before .before .before .before .before .before .before .before .before .pre .1, c .before .before .before .before .before .before .before .before .before .before .before .before .pre .2, c .before .before .before .before .before .before .before .before .before .before .before .before .pre .3, targets.found-below (c .before .before .before .before .before .before .before .before .before .before .before .before .pre .2 .seen) (targets.object-found (c .before .before .before .before .before .before .before .target-of .ensures _ _ _ _ (c .before .before .before .before .before .before .before .before .before .before .before .before .pre .2 .seen)) (c .before .before .before .before .before .found .given .1) (c .before .before .value .given .1)) .0, c .before .before .before .before .before .before .before .before .before .before .before .before .pre .5)
+call-object-requires c κs = (c .before .before .before .before .before .before .before .before .before .before .before .before .pre .within, c .before .before .before .before .before .before .before .before .before .before .before .before .pre .runs, c .before .before .before .before .before .before .before .before .before .before .before .before .pre .frame, targets.found-below (c .before .before .before .before .before .before .before .before .before .before .before .before .pre .frame .here .seen) (targets.object-found (c .before .before .before .before .before .before .before .target-of .ensures _ _ _ _ (c .before .before .before .before .before .before .before .before .before .before .before .before .pre .frame .here .seen)) (c .before .before .before .before .before .found .given .1) (c .before .before .value .given .1)) .0)
 
 returns-3 : tie.Need-returns-3
 returns-3 c = λ rest st g fs s. performs-as (targets.object-target (targets.calls _ st fs _ _ _) (c .before .before .before .before .before .before .before .before .before .before .target-of .ensures _ rest st _ s) (c .before .before .before .before .before .before .before .before .found .given .1) (c .before .before .before .before .before .value .given .1)) (c .before .before .call-object .ensures rest st g fs s)

@@ -9,12 +9,12 @@ use Rattle.waiting.proofs.waiting.open_lock.Statement.{statement}
 use Rattle.waiting.proofs.waiting.open_lock.Tie as tie
 
 open-object-requires : tie.Need-open-object-requires
-open-object-requires c κs = (seen-length (c .before .before .pre .0 .seen), seen-few (c .before .before .pre .0 .seen) Objects)
+open-object-requires c κs = (seen-length (c .before .before .pre .here .seen), seen-few (c .before .before .pre .here .seen) Objects)
 
 pop-requires : tie.Need-pop-requires
 pop-requires c κs =
-    let now = c .before .before .before .open-object .ensures _ _ _ _ (c .before .before .before .before .before .before .pre .0 .seen) in
-    (some-state now, still-waiting (c .before .before .before .before .before .before .pre .0 .seen) now (c .before .before .before .before .before .before .pre .1), c .before .before .before .before .before .before .pre .2)
+    let now = c .before .before .before .open-object .ensures _ _ _ _ (c .before .before .before .before .before .before .pre .here .seen) in
+    (some-state now, still-waiting (c .before .before .before .before .before .before .pre .here .seen) now (c .before .before .before .before .before .before .pre .waiting), c .before .before .before .before .before .before .pre .word)
 
 returns : tie.Need-returns
 returns c = λ rest st fs s. performs-moved (c .before .before .pop .ensures rest _ _ _ fs (returning _ fs) refl refl refl (c .before .before .before .before .before .before .open-object .ensures _ _ _ _ s))
