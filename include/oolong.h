@@ -42,7 +42,7 @@ extern "C" {
 
 /* The major version changes where a call, a reply, a number's meaning or the block's layout does; the minor where something is added; the patch where neither does. */
 #define OOLONG_VERSION_MAJOR 1
-#define OOLONG_VERSION_MINOR 0
+#define OOLONG_VERSION_MINOR 1
 #define OOLONG_VERSION_PATCH 0
 #define OOLONG_VERSION (OOLONG_VERSION_MAJOR * 10000 + OOLONG_VERSION_MINOR * 100 + OOLONG_VERSION_PATCH)
 
@@ -92,7 +92,7 @@ enum oolong_number {
     OOLONG_NO_VARIABLE = 11,   /* a variable is not bound */
     OOLONG_NO_NULL = 12,       /* the type of a null is to be inferred */
     OOLONG_NO_MEMBER = 13,     /* the target's type lacks the field or method */
-    OOLONG_NO_FIT = 14,        /* an inferred type is not below the wanted one (place: the node that does not fit: an operand, an argument, a value to write or a method's body) */
+    OOLONG_NO_FIT = 14,        /* an inferred type is not below the wanted one (place: the node that does not fit: an operand, an argument, a value to write or a method's body; of a let, a lock or a fork the innermost last part) */
     OOLONG_NO_SHARING = 15,    /* the two asyncs of a fork share a variable (place: the fork) */
     OOLONG_NO_BLOCK_LENGTH = 20,  /* the block is not 49,152 bytes; place 0 */
     OOLONG_NO_BUFFER_LENGTH = 22, /* there are more than 4,096 choices (oolong_run), or the flags are not 63 bytes (oolong_offer); place 0. Asked before 21 */

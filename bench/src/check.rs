@@ -1,7 +1,9 @@
 //! Check.
 
 use crate::lent::check_times;
-use crate::scripts::{casts_up, deepest, figure_ten, forks, forks_with_variables, ladder, largest, spread};
+use crate::scripts::{
+    casts_up, deepest, figure_ten, forks, forks_to_null, forks_with_variables, ladder, largest, spread,
+};
 use crate::table::{heading, row};
 use second::script::Script;
 
@@ -34,6 +36,7 @@ fn cases() -> Vec<Case> {
         ("deepest nesting", deepest(1024), deepest(512)),
         ("341 forks in a chain", forks(341, false), forks(170, false)),
         ("341 forks, left in left", forks(341, true), forks(170, true)),
+        ("340 checked forks, null at the end", forks_to_null(340), forks_to_null(170)),
         ("204 forks with variables", forks_with_variables(204), forks_with_variables(102)),
     ]
 }

@@ -2,7 +2,7 @@
 
 use crate::blocks::beside_frames;
 use crate::lent::{made, played, run_times, start_block};
-use crate::scripts::{beside, deepest, endless, figure_ten, forks};
+use crate::scripts::{beside, deepest, endless, figure_ten, forks, lets_of_nulls};
 use crate::table::{heading, row};
 use crate::timing::Times;
 use second::script::Script;
@@ -48,6 +48,7 @@ fn cases() -> Vec<Case> {
         ("Figure 10, no integers", figure_ten(), None),
         ("a method that calls itself", endless(), None),
         ("511 lets in lets", deepest(1024), Some(deepest(512))),
+        ("340 lets of nulls in lets", lets_of_nulls(340), Some(lets_of_nulls(170))),
         ("31 forks, left in left", forks(31, true), Some(forks(15, true))),
         ("80 forks in a chain", forks(80, false), Some(forks(40, false))),
     ]

@@ -1,5 +1,6 @@
 //! Scripts at the limits.
 
+use second::expr::parts_mut;
 use second::script::Script;
 
 /// Node numbers of `recursive`: where its method's body is.
@@ -117,6 +118,17 @@ pub fn deepest(nodes: u16) -> Script {
     script
 }
 
+/// Lets in lets, each binding a variable of its own to a cast null: no first part looks a variable up.
+pub fn lets_of_nulls(lets: u16) -> Script {
+    let mut script = Script { interfaces: vec![[0, 0, 0]], classes: vec![[1, 0, 0]], ..empty() };
+    for depth in 0..lets {
+        let at = 3 * depth;
+        script.nodes.extend([[5, 2 + depth, at + 1, at + 3], [7, 2, at + 2, 0], [0; 4]]);
+    }
+    script.nodes.push([6, 2, 0, 0]);
+    script
+}
+
 /// Forks whose asyncs and last parts are `new`s: each fork in the last part of the one before, or in its left async.
 pub fn forks(count: u16, nested_left: bool) -> Script {
     let mut script = Script { interfaces: vec![[0, 0, 0]], classes: vec![[1, 0, 0]], ..empty() };
@@ -126,6 +138,15 @@ pub fn forks(count: u16, nested_left: bool) -> Script {
         script.nodes.extend([[6, 2, 0, 0], [6, 2, 0, 0]]);
     }
     script.nodes.push([6, 2, 0, 0]);
+    script
+}
+
+/// Forks in a chain beneath a cast, so that they are checked, with a null at the end.
+pub fn forks_to_null(count: u16) -> Script {
+    let mut script = forks(count, false);
+    script.nodes.iter_mut().flat_map(|node| parts_mut(node)).for_each(|part| *part += 1);
+    script.nodes.insert(0, [7, 2, 1, 0]);
+    script.nodes[3 * usize::from(count) + 1] = [0; 4];
     script
 }
 

@@ -26,15 +26,15 @@ use Rattle.calls.specs.Samples.{configured, variable}
 
 -- J is an empty list interface (type 1), I the join of J and J (type 2), C a class of I (type 3) and D a class of J (type 4). C has a field of name 0 and
 -- type C and a method of name 0 that gives back its parameter of type C. The start, of type I, is
--- let x = new C in let y = (x.0 = x) in let z = x.0(x) in fork{let w = x in (J)null}{new D}; (I)x.
+-- let x = new C in let y = (x.0 = x) in let z = x.0(x) in fork{let w = x in (J)let v = x in null}{new D}; (I)x.
 unfoldable pub blockScript : List ℕ
 blockScript =
     bytes
-    (24 ∷ 2 ∷ 36 ∷ 0 ∷ 36 ∷ 2 ∷ 48 ∷ 1 ∷ 52 ∷ 1 ∷ 60 ∷ 17
+    (24 ∷ 2 ∷ 36 ∷ 0 ∷ 36 ∷ 2 ∷ 48 ∷ 1 ∷ 52 ∷ 1 ∷ 60 ∷ 19
     ∷ 0 ∷ 0 ∷ 0 ∷ 1 ∷ 1 ∷ 1 ∷ 2 ∷ 1 ∷ 1 ∷ 1 ∷ 0 ∷ 0 ∷ 0 ∷ 3 ∷ 0 ∷ 3 ∷ 3 ∷ 14
     ∷ 5 ∷ 2 ∷ 1 ∷ 2 ∷ 6 ∷ 3 ∷ 0 ∷ 0 ∷ 5 ∷ 3 ∷ 3 ∷ 4 ∷ 3 ∷ 2 ∷ 0 ∷ 5 ∷ 5 ∷ 4 ∷ 6 ∷ 7 ∷ 1 ∷ 2 ∷ 0 ∷ 0 ∷ 4 ∷ 2 ∷ 0 ∷ 8 ∷ 8 ∷ 9 ∷ 10 ∷ 11
     ∷ 1 ∷ 2 ∷ 0 ∷ 0 ∷ 5 ∷ 5 ∷ 12 ∷ 15 ∷ 6 ∷ 4 ∷ 0 ∷ 0 ∷ 7 ∷ 2 ∷ 13 ∷ 0 ∷ 1 ∷ 2 ∷ 0 ∷ 0 ∷ 1 ∷ 2 ∷ 0 ∷ 0 ∷ 1 ∷ 1 ∷ 0 ∷ 0
-    ∷ 7 ∷ 1 ∷ 16 ∷ 0 ∷ 0 ∷ 0 ∷ 0 ∷ 0 ∷ [])
+    ∷ 7 ∷ 1 ∷ 16 ∷ 0 ∷ 5 ∷ 6 ∷ 17 ∷ 18 ∷ 1 ∷ 2 ∷ 0 ∷ 0 ∷ 0 ∷ 0 ∷ 0 ∷ 0 ∷ [])
 
 -- A configuration, and whether its block is well formed.
 pub record BlockCase : Type 0 where
@@ -127,13 +127,21 @@ blockCases =
     record { config = configured (objectC false ∷ []) xOfC (join [] 15 1 (running 9 1 []) (running 10 1 [])); well = false } ∷
     -- "and to any type at an async": x under a cast to J, as an async
     record { config = configured (objectC false ∷ []) xOfC (asyncLeft (running 13 1 (casts 15 ∷ []))); well = true } ∷
-    -- "what a let frame waits for fits the type inferred for the let's first part under the frame's bindings (there must be one)": let w = x in (J)null where x
+    -- "what a let frame waits for fits the type inferred for the let's first part under the frame's bindings (there must be one)": let w = x in (J).. where x
     -- has type C, with an object of class C
     record { config = configured (objectC false ∷ objectD ∷ []) xOfC (asyncLeft (returning (ref 0) (awaits 9 1 ∷ []))); well = true } ∷
     -- with an object of class D
     record { config = configured (objectC false ∷ objectD ∷ []) xOfC (asyncLeft (returning (ref 1) (awaits 9 1 ∷ []))); well = false } ∷
     -- where there is no x, with null
     record { config = configured (objectC false ∷ objectD ∷ []) xOfC (asyncLeft (returning nil (awaits 9 0 ∷ []))); well = false } ∷
+    -- "its last part is checked against that same type", what is expected beneath the frame: let v = x in null, expected to be a J, an I or below, anything
+    record { config = configured (objectC false ∷ objectD ∷ []) xOfC (asyncLeft (returning (ref 0) (awaits 16 1 ∷ casts 15 ∷ []))); well = true } ∷
+    record { config = configured (objectC false ∷ objectD ∷ []) xOfC (returning (ref 0) (awaits 16 1 ∷ [])); well = true } ∷
+    record { config = configured (objectC false ∷ objectD ∷ []) xOfC (asyncLeft (returning (ref 0) (awaits 16 1 ∷ []))); well = true } ∷
+    -- let w = x in (J).., expected to be an I or below
+    record { config = configured (objectC false ∷ objectD ∷ []) xOfC (returning (ref 0) (awaits 9 1 ∷ [])); well = false } ∷
+    -- let v = x in null where there is no x, expected to be anything
+    record { config = configured (objectC false ∷ objectD ∷ []) xOfC (asyncLeft (running 16 0 [])); well = false } ∷
     -- "value types fit", of a write frame: x.0 = x where x has type C, with an object of class C
     record { config = configured (objectC false ∷ objectD ∷ []) xOfC (asyncLeft (returning (ref 0) (awaits 3 1 ∷ []))); well = true } ∷
     -- with an object of class D

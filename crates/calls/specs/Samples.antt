@@ -225,6 +225,36 @@ samples =
           trial (times 7 0 []) 1 7 7 (configured (openC ∷ []) (variable 1 1 (ref 0) 2 ∷ variable 0 2 (ref 0) 0 ∷ boundX ∷ []) (returning (ref 0) [])) [] ∷
           [];
     } ∷
+    -- "when a let, a lock or a fork is checked against a type, its last part is checked against that same type": (C)let x = new C in null.
+    record {
+      script = nodesWithClass (7 ∷ 2 ∷ 1 ∷ 0 ∷ 5 ∷ 2 ∷ 2 ∷ 3 ∷ 6 ∷ 2 ∷ 0 ∷ 0 ∷ 0 ∷ 0 ∷ 0 ∷ 0 ∷ []);
+      verdict = Accepted 2;
+      trials =
+          trial (times 3 0 []) 0 3 3 (configured (openC ∷ []) [] (returning (ref 0) (awaits 1 0 ∷ casts 0 ∷ []))) (1 ∷ []) ∷
+          trial (times 6 0 []) 1 6 6 (configured (openC ∷ []) (boundX ∷ []) (returning nil [])) [] ∷
+          [];
+    } ∷
+    -- "A start that ends in null still gets 12": let x = new C in null, at the null.
+    record { script = nodesWithClass (5 ∷ 2 ∷ 1 ∷ 2 ∷ 6 ∷ 2 ∷ 0 ∷ 0 ∷ 0 ∷ 0 ∷ 0 ∷ 0 ∷ []); verdict = Refused Nulls 52; trials = [] } ∷
+    -- The same at an async: C has a method with the body let y = new C in lock y in fork{new C}{new C}; null, and the start is
+    -- let x = new C in fork{x.0(x)}{new C}; x. First the let waits, then the fork's last part is run under the lock's frame, then all is finished.
+    record {
+      script =
+          nodesWithMethod 2 2 7
+          (5 ∷ 2 ∷ 1 ∷ 2 ∷ 6 ∷ 2 ∷ 0 ∷ 0 ∷ 8 ∷ 3 ∷ 4 ∷ 5 ∷ 4 ∷ 2 ∷ 0 ∷ 6 ∷ 6 ∷ 2 ∷ 0 ∷ 0 ∷ 1 ∷ 2 ∷ 0 ∷ 0 ∷ 1 ∷ 2 ∷ 0 ∷ 0
+          ∷ 5 ∷ 3 ∷ 8 ∷ 9 ∷ 6 ∷ 2 ∷ 0 ∷ 0 ∷ 9 ∷ 3 ∷ 10 ∷ 0 ∷ 8 ∷ 11 ∷ 12 ∷ 13 ∷ 6 ∷ 2 ∷ 0 ∷ 0 ∷ 6 ∷ 2 ∷ 0 ∷ 0 ∷ 0 ∷ 0 ∷ 0 ∷ 0 ∷ []);
+      verdict = Accepted 2;
+      trials =
+          trial (times 4 0 (times 4 1 [])) 0 8 8
+          (configured (openC ∷ []) (afterCalls (λ n. ref 0) 1) (join [] 5 1 (running 8 3 (awaits 7 3 ∷ [])) (running 4 1 []))) (0 ∷ 1 ∷ 1 ∷ []) ∷
+          trial (times 4 0 (times 8 1 (2 ∷ 3 ∷ 1 ∷ []))) 0 15 15
+          (configured (openC ∷ shutC ∷ openC ∷ openC ∷ []) (variable 3 2 (ref 1) 3 ∷ afterCalls (λ n. ref 0) 1)
+          (join [] 5 1 (running 13 4 (locks 1 ∷ [])) (running 4 1 [])))
+          (0 ∷ 1 ∷ 1 ∷ []) ∷
+          trial (times 4 0 (times 8 1 (2 ∷ 3 ∷ 1 ∷ 1 ∷ 1 ∷ 2 ∷ 0 ∷ 0 ∷ []))) 1 20 20
+          (configured (replicate 5 openC) (variable 3 2 (ref 1) 3 ∷ afterCalls (λ n. ref 0) 1) (returning (ref 0) [])) [] ∷
+          [];
+    } ∷
     -- "the 256th object is made, the 257th gives stop 4": a method's body is this.0(new C), and the start let x = new C in x.0(new C).
     record {
       script = nodesWithMethod 2 2 4 (5 ∷ 2 ∷ 1 ∷ 2 ∷ 6 ∷ 2 ∷ 0 ∷ 0 ∷ 4 ∷ 2 ∷ 0 ∷ 3 ∷ 6 ∷ 2 ∷ 0 ∷ 0 ∷ 4 ∷ 0 ∷ 0 ∷ 5 ∷ 6 ∷ 2 ∷ 0 ∷ 0 ∷ []);

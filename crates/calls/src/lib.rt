@@ -1,7 +1,4 @@
-// The four calls on byte lists: the questions about lent buffers, with their numbers. All else is definitions and theorems; the calls' code is in `engine`.
-mod numbers;
-
-pub use numbers::lent_number;
+// The four calls on byte lists: the questions about lent buffers. All else is definitions and theorems; the calls' code is in `engine`.
 
 // The questions about what is lent beside the script: "Is the state block 49,152 bytes?", "Is the choice list at most 4,096 bytes (Run), or the flag buffer
 // exactly 63 (Offer)?" and "Is the block a well-formed configuration of this script?", in the order in which they are asked.

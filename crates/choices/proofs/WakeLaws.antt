@@ -139,7 +139,7 @@ awaits-there (locks o) gs (a-lock ok) e = let z : _≡_ {A = ℕ} 2 0 = ap frame
 
 -- the first part of a let that waits has a type
 let-first : {s : Code} {start : ℕ} (acc : AcceptedCode s start) {Γ : List Slot} {x t : ℕ} {a b : Point} {v : Want} → Awaits s Γ (n-bind x a b) t v → inferred (s .program) Γ (s .expr a) ≡ Typed t
-let-first acc (a-let h k m) = infer-computes acc h
+let-first acc (a-let h k) = infer-computes acc h
 
 awaits-first : {s : Code} {start : ℕ} (acc : AcceptedCode s start) {bs : List Binding} {n env : ℕ} {w u : Want} (g : Frame) (gs : List Frame) → FramesOk s bs w (g ∷ gs) u → g ≡ awaits n env → (x a b : ℕ) → s .view n ≡ n-bind x a b
     → (t : ℕ) × (inferred (s .program) (context bs env) (s .expr a) ≡ Typed t)

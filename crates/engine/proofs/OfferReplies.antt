@@ -15,6 +15,7 @@ use Rattle.machine.specs.Config.{Config}
 use Rattle.calls.specs.declared.LentQuestion.the-variants.{BlockLength, BufferLength, BlockForm}
 use Rattle.calls.specs.Calls.{Questioned, no-at, yes-with, flagsLong, lentNumber, configOf, askForm, blockAsked, offeredFrom, offerOf}
 use Rattle.calls.specs.Answers.{found}
+use Rattle.c_replies.specs.declared.offer.OfferReply.{OfferReply}
 
 -- "the block stays as it was"
 pub offer-block : (s b fl : List ℕ) → b ≡ offerOf s b fl .block
@@ -26,40 +27,43 @@ offer-block s b fl = go (blockAsked s b (flagsLong fl))
     go (yes-with c) = refl
 
 module _ (s b fl : List ℕ) where
-  abbrev pub OfferSays : ℕ → ℕ → List ℕ → Type 0
-  OfferSays number place after = (number ≡ offerOf s b fl .number) × ((place ≡ offerOf s b fl .place) × (after ≡ offerOf s b fl .flags))
+  abbrev pub OfferSays : OfferReply → List ℕ → Type 0
+  OfferSays r after = (r .number ≡ offerOf s b fl .number) × ((r .place ≡ offerOf s b fl .place) × (after ≡ offerOf s b fl .flags))
 
-  pub offer-script-refused : (number place : ℕ) → number ≡ verdictNumber (checkOf s) → place ≡ verdictPlace (checkOf s) → (number ≡ 0 → ⊥) → OfferSays number place fl
+  abbrev Reply : ℕ → ℕ → OfferReply
+  Reply number place = record { number = number; place = place }
+
+  pub offer-script-refused : (r : OfferReply) (number place : ℕ) → r ≡ Reply number place → number ≡ verdictNumber (checkOf s) → place ≡ verdictPlace (checkOf s) → (number ≡ 0 → ⊥) → OfferSays r fl
   unfolding offerOf blockAsked
-  offer-script-refused number place n p ne = go (checkOf s) refl n p
+  offer-script-refused r number place e n p ne = rw e (go (checkOf s) refl n p)
     where
-      go : (v : Verdict) → checkOf s ≡ v → number ≡ verdictNumber v → place ≡ verdictPlace v → OfferSays number place fl
+      go : (v : Verdict) → checkOf s ≡ v → number ≡ verdictNumber v → place ≡ verdictPlace v → OfferSays (Reply number place) fl
       go (Accepted t) q n p = absurd (ne n)
       go (Refused k at) q n p = rw (q, n, p) (refl, (refl, refl))
 
   module _ (t : ℕ) (acc : checkOf s ≡ Accepted t) where
-    pub offer-block-refused : (number : ℕ) → (length b ≡ BLOCK → ⊥) → number ≡ lentNumber BlockLength → OfferSays number 0 fl
+    pub offer-block-refused : (r : OfferReply) (number : ℕ) → r ≡ Reply number 0 → (length b ≡ BLOCK → ⊥) → number ≡ lentNumber BlockLength → OfferSays r fl
     unfolding offerOf blockAsked
-    offer-block-refused number ne n = rw (acc, ne-eqb _ _ ne, n) (refl, (refl, refl))
+    offer-block-refused r number e ne n = rw (e, acc, ne-eqb _ _ ne, n) (refl, (refl, refl))
 
     module _ (long : length b ≡ BLOCK) where
-      pub offer-flags-refused : (number : ℕ) → (length fl ≡ FLAGS → ⊥) → number ≡ lentNumber BufferLength → OfferSays number 0 fl
+      pub offer-flags-refused : (r : OfferReply) (number : ℕ) → r ≡ Reply number 0 → (length fl ≡ FLAGS → ⊥) → number ≡ lentNumber BufferLength → OfferSays r fl
       unfolding offerOf blockAsked
-      offer-flags-refused number ne n = rw (acc, eq-eqb _ _ long, ne-eqb _ _ ne, n) (refl, (refl, refl))
+      offer-flags-refused r number e ne n = rw (e, acc, eq-eqb _ _ long, ne-eqb _ _ ne, n) (refl, (refl, refl))
 
       asked : length fl ≡ FLAGS → offerOf s b fl ≡ offeredFrom s b fl (askForm (configOf s t b))
       unfolding offerOf blockAsked
       asked l = rw (acc, eq-eqb _ _ long, eq-eqb _ _ l)
 
-      module _ {after : List ℕ} (l : length fl ≡ FLAGS) (r : Bool) (e : r ≡ found (configOf s t b)) (h : after ≡ offeredFrom s b fl (askForm (configOf s t b)) .flags) where
-        pub offer-form-refused : (number : ℕ) → not r ≡ true → number ≡ lentNumber BlockForm → OfferSays number 0 after
-        offer-form-refused number f n = rw (asked l) (go (configOf s t b) refl)
+      module _ {after : List ℕ} (l : length fl ≡ FLAGS) (formed : Bool) (e : formed ≡ found (configOf s t b)) (h : after ≡ offeredFrom s b fl (askForm (configOf s t b)) .flags) where
+        pub offer-form-refused : (r : OfferReply) (number : ℕ) → r ≡ Reply number 0 → not formed ≡ true → number ≡ lentNumber BlockForm → OfferSays r after
+        offer-form-refused r number q f n = rw (q, asked l) (go (configOf s t b) refl)
           where
             go : (q : Option Config) → configOf s t b ≡ q → (number ≡ offeredFrom s b fl (askForm (configOf s t b)) .number) × ((0 ≡ offeredFrom s b fl (askForm (configOf s t b)) .place) × (after ≡ offeredFrom s b fl (askForm (configOf s t b)) .flags))
             go none k = rw (h, k, n) (refl, (refl, refl))
             go (some c) k = absurd (true-false (sym f ∙ ap not (e ∙ ap found k)))
 
-        pub offer-done : not r ≡ false → OfferSays 0 0 after
+        pub offer-done : not formed ≡ false → OfferSays (Reply 0 0) after
         offer-done f = rw (asked l) (go (configOf s t b) refl)
           where
             go : (q : Option Config) → configOf s t b ≡ q → (0 ≡ offeredFrom s b fl (askForm (configOf s t b)) .number) × ((0 ≡ offeredFrom s b fl (askForm (configOf s t b)) .place) × (after ≡ offeredFrom s b fl (askForm (configOf s t b)) .flags))

@@ -1,12 +1,10 @@
--- The replies that a verdict makes.
+-- The replies that a verdict makes, and what Start replies and leaves.
 use Prim.Native.Nat.{ℕ}
 use mathlib.Core.Path.{_≡_, refl, sym, _∙_}
 use mathlib.Core.List.{List}
 use lib.ListN.{length, replicate, length-replicate}
 use borrow.Author.Tests.{eq-eqb, ne-eqb}
 use Rattle.limits.specs.Limits.{BLOCK}
-use Rattle.script.specs.declared.Question.{Question}
-use Rattle.script.specs.Asking.{numberOf}
 use Rattle.typing.specs.declared.Verdict.{Verdict}
 use Rattle.typing.specs.declared.Verdict.the-variants.{Accepted, Refused}
 use Rattle.typing.specs.Check.{checkOf, verdictNumber, verdictPlace, verdictType}
@@ -20,13 +18,11 @@ use Rattle.block.specs.Block.{encode}
 use Rattle.calls.specs.declared.LentQuestion.the-variants.{BlockLength}
 use Rattle.calls.specs.Calls.{lentNumber, startOf, startAsked}
 use Rattle.calls.proofs.Runs.{number-some}
+use Rattle.c_replies.specs.declared.start.StartReply.{StartReply}
 
-module _ (v w : Verdict) (h : v ≡ w) where
-  pub accepted : (t : ℕ) → v ≡ Accepted t → (0 ≡ verdictNumber w) × ((0 ≡ verdictPlace w) × (t ≡ verdictType w))
-  accepted t e = rw (← h, e) (refl, (refl, refl))
-
-  pub refused : (q : Question) (place number : ℕ) → v ≡ Refused q place → number ≡ numberOf q → (number ≡ verdictNumber w) × ((place ≡ verdictPlace w) × (0 ≡ verdictType w))
-  refused q place number e n = rw (← h, e, n) (refl, (refl, refl))
+-- The reply that a verdict makes.
+pub told : {v w : Verdict} {number place type : ℕ} → v ≡ w → (number ≡ verdictNumber v) × ((place ≡ verdictPlace v) × (type ≡ verdictType v)) → (number ≡ verdictNumber w) × ((place ≡ verdictPlace w) × (type ≡ verdictType w))
+told e h = rw e at h
 
 -- The tables that Check fills, for the verdict that it comes to, and for an accepted script.
 pub filled : (s starts facts : List ℕ) {v w : Verdict} → v ≡ w → TablesFilled s starts facts v → TablesFilled s starts facts w
@@ -46,14 +42,17 @@ lent =
 
 -- What Start replies and leaves, after each of its answers: the script is refused, the block is refused, the initial block is written.
 module _ (s b : List ℕ) where
-  abbrev pub StartSays : ℕ → ℕ → List ℕ → Type 0
-  StartSays number place after = (number ≡ startOf s b .number) × ((place ≡ startOf s b .place) × (after ≡ startOf s b .block))
+  abbrev pub StartSays : StartReply → List ℕ → Type 0
+  StartSays r after = (r .number ≡ startOf s b .number) × ((r .place ≡ startOf s b .place) × (after ≡ startOf s b .block))
 
-  pub script-refused : (number place : ℕ) → number ≡ verdictNumber (checkOf s) → place ≡ verdictPlace (checkOf s) → (number ≡ 0 → ⊥) → StartSays number place b
+  abbrev Reply : ℕ → ℕ → StartReply
+  Reply number place = record { number = number; place = place }
+
+  pub script-refused : (r : StartReply) (number place : ℕ) → r ≡ Reply number place → number ≡ verdictNumber (checkOf s) → place ≡ verdictPlace (checkOf s) → (number ≡ 0 → ⊥) → StartSays r b
   unfolding startOf startAsked
-  script-refused number place n p ne = go (checkOf s) refl n p
+  script-refused r number place k n p ne = rw k (go (checkOf s) refl n p)
     where
-      go : (v : Verdict) → checkOf s ≡ v → number ≡ verdictNumber v → place ≡ verdictPlace v → StartSays number place b
+      go : (v : Verdict) → checkOf s ≡ v → number ≡ verdictNumber v → place ≡ verdictPlace v → StartSays (Reply number place) b
       go (Accepted t) e n p = absurd (ne n)
       go (Refused q at) e n p = rw (e, n, p) (refl, (refl, refl))
 
@@ -64,10 +63,10 @@ module _ (s b : List ℕ) where
       go (Accepted t) e n = (t, e)
       go (Refused q at) e n = absurd (number-some q (sym n))
 
-  pub block-refused : (checked number : ℕ) → checked ≡ verdictNumber (checkOf s) → checked ≡ 0 → (length b ≡ BLOCK → ⊥) → number ≡ lentNumber BlockLength → StartSays number 0 b
+  pub block-refused : (r : StartReply) (checked number : ℕ) → r ≡ Reply number 0 → checked ≡ verdictNumber (checkOf s) → checked ≡ 0 → (length b ≡ BLOCK → ⊥) → number ≡ lentNumber BlockLength → StartSays r b
   unfolding startOf startAsked
-  block-refused checked number c z ne n = rw (accepts (sym z ∙ c) .1, ne-eqb _ _ ne, n) (refl, (refl, refl))
+  block-refused r checked number k c z ne n = rw (k, accepts (sym z ∙ c) .1, ne-eqb _ _ ne, n) (refl, (refl, refl))
 
-  pub started : (checked : ℕ) (after : List ℕ) → checked ≡ verdictNumber (checkOf s) → checked ≡ 0 → length b ≡ BLOCK → after ≡ encode initial → StartSays 0 0 after
+  pub started : (checked : ℕ) (after : List ℕ) → checked ≡ verdictNumber (checkOf s) → checked ≡ 0 → length b ≡ BLOCK → after ≡ encode initial → StartSays (Reply 0 0) after
   unfolding startOf startAsked
   started checked after c z l w = rw (accepts (sym z ∙ c) .1, eq-eqb _ _ l, w) (refl, (refl, refl))

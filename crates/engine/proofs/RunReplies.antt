@@ -18,10 +18,10 @@ use Rattle.machine.specs.Machine.{limits}
 use Rattle.machine.specs.Runs.{report}
 use Rattle.calls.specs.declared.LentQuestion.the-variants.{BlockLength, BufferLength, BlockForm}
 use Rattle.calls.specs.Calls.{lentNumber, configOf, askForm, blockAsked, ranFrom, runOf}
+use Rattle.c_replies.specs.declared.run.RunReply.{RunReply}
 use Rattle.replies.specs.declared.RunResult.{RunResult}
 use Rattle.replies.specs.RunResults.{Reported, ResultOfRun}
 use Rattle.engine.proofs.Replies.{accepts}
-use Rattle.engine.specs.declared.run.RunReply.{RunReply}
 
 -- the start's type, where the script is accepted
 pub type-is : (s : List ℕ) (checked t : ℕ) → checked ≡ verdictNumber (checkOf s) → checked ≡ 0 → t ≡ verdictType (checkOf s) → checkOf s ≡ Accepted t
@@ -78,7 +78,7 @@ module _ (s b ns : List ℕ) where
         pub run-form-refused : (r : RunReply) (number : ℕ) → r ≡ Refusal number 0 → not (p .formed) ≡ true → number ≡ lentNumber BlockForm → RunSays r after
         run-form-refused r number e f n = let h = not-formed s b ns after p (configOf s t b) plays f in rw (asked few, h .0, e, n, h .1) (refl, (refl, (refl, (refl, (refl, refl)))))
 
-        pub run-done : not (p .formed) ≡ false → RunSays (record { number = 0; place = 0; stop = p .stop; read = p .read; moves = p .moves }) after
-        run-done f =
+        pub run-done : (r : RunReply) → r ≡ record { number = 0; place = 0; stop = p .stop; read = p .read; moves = p .moves } → not (p .formed) ≡ false → RunSays r after
+        run-done r e f =
             let h = is-formed s b ns after p (configOf s t b) plays f in
-            rw (asked few, h .is) (refl, (refl, (h .reported .stop, (h .reported .read, (h .reported .moves, h .reported .block)))))
+            rw (e, asked few, h .is) (refl, (refl, (h .reported .stop, (h .reported .read, (h .reported .moves, h .reported .block)))))

@@ -1,18 +1,10 @@
 // Check.
+use c_replies::CheckReply;
 use members::STARTS;
 use names::FACTS;
-use typing::Verdict;
 ghost use mathlib.Core.Path.{_≡_};
 ghost use Rattle.typing.specs.Check.{checkOf, verdictNumber, verdictPlace, verdictType};
 ghost use Rattle.checker.specs.Lent.{TablesLent, TablesFilled};
-
-// Check's reply: the number of the question that gets a no and its place, or 0, 0 and the start's type.
-#[repr(C)]
-pub struct CheckReply {
-    pub number: u16,
-    pub place: u16,
-    pub start_type: u16,
-}
 
 // Check's reply about a script, whatever its bytes and its length. The tables are lent, and are filled for an accepted script.
 pub fn check_script(script: &[u8], starts: &mut [u16], facts: &mut [u16]) -> CheckReply
@@ -23,21 +15,7 @@ pub fn check_script(script: &[u8], starts: &mut [u16], facts: &mut [u16]) -> Che
     ensures tables { λ r. ⌜ TablesFilled (now (script .entry)) (now (starts .exit)) (now (facts .exit)) (checkOf (now (script .entry))) ⌝ }
 {
     let v = checker::verdict_of(script, starts, facts);
-    match v {
-        Verdict::Accepted(t) => CheckReply {
-            number: 0,
-            place: 0,
-            start_type: t,
-        },
-        Verdict::Refused(q, place) => {
-            let number = script::number_of(q);
-            CheckReply {
-                number,
-                place,
-                start_type: 0,
-            }
-        }
-    }
+    c_replies::check_reply(v)
 }
 
 // Check: questions 1 to 15 about a script, whatever its bytes and its length.

@@ -1,18 +1,13 @@
 // Offer.
 use crate::check::check_script;
+use c_replies::OfferReply;
+use c_replies::offer_refusal;
 use calls::LentQuestion;
 use limits::Limits;
 use members::STARTS;
 use names::FACTS;
 ghost use mathlib.Core.Path.{_≡_};
 ghost use Rattle.calls.specs.Calls.{offerOf};
-
-// Offer's reply: the number of the question that gets a no and its place, or 0 and 0.
-#[repr(C)]
-pub struct OfferReply {
-    pub number: u16,
-    pub place: u16,
-}
 
 // Offer: questions 1 to 15 about the script, then 20, 22 and 21. A yes to all sets the flags; a no leaves them as they were. The block is only read.
 #[no_mangle]
@@ -27,22 +22,16 @@ pub extern "C" fn oolong_offer(script: &[u8], block: &[u8], flags: &mut [u8]) ->
     let mut facts = [0u16; FACTS];
     let checked = check_script(script, &mut starts, &mut facts);
     if checked.number != 0 {
-        return OfferReply {
-            number: checked.number,
-            place: checked.place,
-        };
+        return offer_refusal(checked.number, checked.place);
     }
     if block.len() != Limits::BLOCK {
-        let number = calls::lent_number(LentQuestion::BlockLength);
-        return OfferReply { number, place: 0 };
+        return offer_refusal(numbers::lent_number(LentQuestion::BlockLength), 0);
     }
     if flags.len() != Limits::FLAGS {
-        let number = calls::lent_number(LentQuestion::BufferLength);
-        return OfferReply { number, place: 0 };
+        return offer_refusal(numbers::lent_number(LentQuestion::BufferLength), 0);
     }
     if !replies::offer(script, &starts, &facts, checked.start_type, block, flags) {
-        let number = calls::lent_number(LentQuestion::BlockForm);
-        return OfferReply { number, place: 0 };
+        return offer_refusal(numbers::lent_number(LentQuestion::BlockForm), 0);
     }
     OfferReply {
         number: 0,

@@ -1,16 +1,11 @@
 // Start.
 use crate::check::oolong_check;
+use c_replies::StartReply;
+use c_replies::start_refusal;
 use calls::LentQuestion;
 use limits::Limits;
 ghost use mathlib.Core.Path.{_≡_};
 ghost use Rattle.calls.specs.Calls.{startOf};
-
-// Start's reply: the number of the question that gets a no and its place, or 0 and 0.
-#[repr(C)]
-pub struct StartReply {
-    pub number: u16,
-    pub place: u16,
-}
 
 // Start: questions 1 to 15 about the script, then 20 about the block. A yes to all writes the initial block over whatever was there; a no leaves every byte as
 // it was.
@@ -23,14 +18,10 @@ pub extern "C" fn oolong_start(script: &[u8], block: &mut [u8]) -> StartReply
 {
     let checked = oolong_check(script);
     if checked.number != 0 {
-        return StartReply {
-            number: checked.number,
-            place: checked.place,
-        };
+        return start_refusal(checked.number, checked.place);
     }
     if block.len() != Limits::BLOCK {
-        let number = calls::lent_number(LentQuestion::BlockLength);
-        return StartReply { number, place: 0 };
+        return start_refusal(numbers::lent_number(LentQuestion::BlockLength), 0);
     }
     areas::start(block);
     StartReply {

@@ -1,6 +1,7 @@
 // The type of a node that has one, where its kind and its own words tell it: its parts are not walked.
 use crate::infer_under;
 use crate::scopes::variable_type;
+use inference::answer_of;
 use members::Member;
 use script::Found;
 use sections::node_word;
@@ -64,7 +65,7 @@ fn known_type(s: &[u8], starts: &[u16], block: &[u8], env: u16, a: u16) -> Found
     }
 }
 
-// The type of node a, which has one, under the bindings of an environment: what `infer_under` answers, and only for a let, a fork and a lock is it asked.
+// The type of node a, which has one, under the bindings of an environment: what `infer_under` gives, and only for a let, a fork and a lock is it asked.
 pub fn first_type(
     s: &[u8],
     starts: &[u16],
@@ -81,7 +82,7 @@ pub fn first_type(
     ensures { λ r. ⌜ now (table .exit) ≡ now (table .entry) ⌝ }
 {
     let Found::At(t) = known_type(s, starts, block, env, a) else {
-        return infer_under(s, starts, facts, table, block, env, a);
+        return answer_of(infer_under(s, starts, facts, table, block, env, a));
     };
     Answer::Typed(t as u16)
 }

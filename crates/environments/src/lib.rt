@@ -4,12 +4,12 @@ mod scopes;
 
 use block::Area;
 use block::Layout;
+use inference::Given;
 pub use known::first_type;
 use machine::Value;
 use names::Rank;
 pub use scopes::same_scope;
 pub use scopes::variable_type;
-use typing::Answer;
 ghost use mathlib.Core.Path.{_≡_};
 ghost use Prim.Native.Nat.{_+_, _<_};
 ghost use lib.ListN.{length};
@@ -21,10 +21,10 @@ ghost use Rattle.script.specs.Reading.{programOf, exprAt};
 ghost use Rattle.script.specs.Statements.{WithinLayout};
 ghost use Rattle.slices.specs.Zero.{AllZero};
 ghost use Rattle.typing.specs.Published.{WfEnv};
-ghost use Rattle.typing.specs.Typing.{inferred};
 ghost use Rattle.names.specs.Ranks.{RANKS};
 ghost use Rattle.names.specs.Facts.{Facts};
 ghost use Rattle.inference.specs.At.{Blank};
+ghost use Rattle.inference.specs.Given.{GivenIn};
 ghost use Rattle.block.specs.declared.Area.the-variants.{Bindings};
 ghost use Rattle.block.specs.Layout.{width, wordIn};
 ghost use Rattle.machine.specs.Machine.{scope, find, context};
@@ -89,7 +89,7 @@ pub fn empty(table: &mut [u16])
     }
 }
 
-// The type of node a under the bindings of an environment. The table of zeros is lent for their types, and is zeros again.
+// What node a gives under the bindings of an environment. The table of zeros is lent for their types, and is zeros again.
 pub fn infer_under(
     s: &[u8],
     starts: &[u16],
@@ -98,10 +98,10 @@ pub fn infer_under(
     block: &[u8],
     env: u16,
     a: u16,
-) -> Answer
+) -> Given
     requires { ⌜ Blank (now s) (now starts) (now facts) (now table) × (a < countOf (now s) nodes) ⌝ }
     requires { ⌜ Chain (now block) env × Typed (now block) × WfEnv (programOf (now s)) (context (bindingsIn (now block)) env) ⌝ }
-    ensures { λ r. ⌜ r ≡ inferred (programOf (now (s .entry))) (context (bindingsIn (now (block .entry))) env) (exprAt (now (s .entry)) a) ⌝ }
+    ensures { λ r. ⌜ GivenIn (programOf (now (s .entry))) (context (bindingsIn (now (block .entry))) env) (exprAt (now (s .entry)) a) r ⌝ }
     ensures { λ r. ⌜ now (table .exit) ≡ now (table .entry) ⌝ }
 {
     fill(s, facts, table, block, env);

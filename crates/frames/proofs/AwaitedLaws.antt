@@ -1,39 +1,50 @@
 -- What a waiting node waits for, as the code goes: one law for each answer.
 use mathlib.Core.Path.{_≡_, refl, sym, _∙_}
-use mathlib.Core.Bool.{Bool, true, false}
-use mathlib.Core.List.{List, _∷_}
+use mathlib.Core.Bool.{Bool, true, false, _||_}
+use mathlib.Core.List.{List, [], _∷_}
+use mathlib.Core.Logic.{⊎-elim}
 use mathlib.Core.Option.{Option, none, some}
 use Prim.Native.Nat.{ℕ, zero, suc, _<_}
 use native.Mathlib.Omega.{arith}
+use types.Run.{OneOf}
+use denote.Enum.Declared.{tagOf}
 use Rattle.script.specs.declared.Question.{Question}
 use Rattle.script.specs.declared.Section.the-variants.{Nodes as nodes}
 use Rattle.script.specs.declared.Found.{Found}
 use Rattle.script.specs.declared.Found.the-variants.{At as Is, Nothing as Missed}
 use Rattle.script.specs.Section.{countOf, nodeWord}
-use Rattle.script.specs.Syntax.{Point, Slot, Signature}
+use Rattle.script.specs.Syntax.{Point, Expr, Slot, Signature, Program}
 use Rattle.script.specs.Reading.{kindOf, nodeOf, viewAt, exprAt, programOf}
 use Rattle.script.proofs.Reading.{first, in-order}
+use Rattle.script.proofs.Regular.{formed, regular}
 use Rattle.sections.specs.Laid.{foundOf}
+use Rattle.typing.specs.declared.Aim.{Aim}
+use Rattle.typing.specs.declared.Aim.the-variants.{Infers as infers, Checks as checks}
 use Rattle.typing.specs.declared.Answer.{Answer}
 use Rattle.typing.specs.declared.Answer.the-variants.{Typed, Faulty}
 use Rattle.members.specs.declared.Member.{Member}
 use Rattle.members.specs.declared.Member.the-variants.{Types, Missing}
-use Rattle.typing.specs.Members.{typeIn, fieldIn, methodIn}
-use Rattle.typing.specs.Typing.{answer, andThen, inferred}
+use Rattle.typing.specs.Members.{below, typeIn, fieldIn, methodIn}
+use Rattle.typing.specs.Typing.{andThen, fits, answer, inferred}
+use Rattle.typing.proofs.Rules.{infer-type, inferred-typed}
 use Rattle.members.specs.Tables.{memberOf}
-use Rattle.inference.proofs.InferLaws.{nodeBy}
+use Rattle.inference.specs.declared.Given.{Given}
+use Rattle.inference.specs.declared.Given.the-variants.{Typed as typed-at, Null as null-at, Faulty as faulty-at}
+use Rattle.inference.specs.Given.{inferredAs, answerAs, GivenIn}
+use Rattle.inference.proofs.Given.{the-type}
+use Rattle.inference.proofs.InferLaws.{nodeBy, type-small}
 use Rattle.machine.specs.Config.{Code, codeOf}
 use Rattle.machine.specs.Machine.{context}
 use Rattle.machine.specs.declared.Want.{Want}
-use Rattle.machine.specs.declared.Want.the-variants.{Upto as upto}
-use Rattle.machine.specs.Decide.{given, ifTyped, only, meetsTest, answerTest, wants, awaited}
+use Rattle.machine.specs.declared.Want.the-variants.{Any as any, Upto as upto}
+use Rattle.machine.specs.Decide.{given, ifTyped, only, meetsTest, isTyped, givesTest, wants, awaited}
 use Rattle.environments.specs.Chains.{bindingsIn}
 use Rattle.environments.specs.Known.{ScopedNode, Inferable}
 use Rattle.environments.proofs.KnownLaws.{found-some, expr-is}
 use Rattle.frames.specs.declared.awaited.Expects.the-variants.{No, Wants}
 use Rattle.frames.specs.declared.awaited.Waits.{Waits}
-use Rattle.frames.specs.declared.awaited.Waits.the-variants.{Never, For}
-use Rattle.frames.specs.Expecting.{expectsOf, wantsOf, WaitsAs}
+use Rattle.frames.specs.declared.awaited.Waits.the-variants.{Never, For, ForNull}
+use Rattle.frames.specs.Expecting.{expectsOf, wantsOf, givenTest, waitsBy, GivesSmall, WaitsAs}
 
 -- a node of kind k
 pub view-by : (s : List ℕ) (n : Point) (k : ℕ) → nodeWord s n 0 ≡ k → viewAt s n ≡ nodeBy s n k
@@ -53,9 +64,39 @@ method-found : {A : Type 0} (o : Option Signature) (r : Member) (t u : ℕ) (k :
 method-found none r t u k e f = absurd (let z : _≡_ {A = ℕ} 0 1 = cc in omega arith)
 method-found (some g) r t u k e f = let y : g .param ≡ t = cc in let z : g .result ≡ u = cc in rw (y, z)
 
--- what is inferred for the last part of a let, where the first has type t
-abbrev lastAnswer : List ℕ → List ℕ → ℕ → Point → ℕ → Answer
-lastAnswer s b e n t = inferred (programOf s) (record { name = nodeWord s n 1; type = t } ∷ context (bindingsIn b) e) (exprAt s (nodeWord s n 3))
+-- the test, by what an expression gives
+fits-typed : (q : Bool) (n t : ℕ) → isTyped (fits q n t) ≡ q
+fits-typed true n t = refl
+fits-typed false n t = refl
+
+given-any : (c : Code) (g : Given) → isTyped (inferredAs g) || isTyped (answerAs (c .program) (checks 0) g) ≡ givenTest c g any
+given-any c (typed-at t n) = refl
+given-any c (null-at n) = refl
+given-any c (faulty-at q n) = refl
+
+given-upto : (c : Code) (g : Given) (t : ℕ) → isTyped (answerAs (c .program) (checks t) g) ≡ givenTest c g (upto t)
+given-upto c (typed-at u n) t = fits-typed (below (c .program) u t) n t
+given-upto c (null-at n) t = refl
+given-upto c (faulty-at q n) t = refl
+
+pub gives-by : (c : Code) (Γ : List Slot) (e : Expr) (g : Given) → GivenIn (c .program) Γ e g → (v : Want) → givesTest c Γ e v ≡ givenTest c g v
+gives-by c Γ e g h any = rw (← h infers, ← h (checks 0)) (given-any c g)
+gives-by c Γ e g h (upto t) = rw (← h (checks t)) (given-upto c g t)
+
+-- what a let waits for, by what its last part gives
+waits-only : (c : Code) (t : ℕ) (g : Given) (v : Want) → only (givenTest c g v) (some (upto t)) ≡ wantsOf c v (waitsBy t g)
+waits-only c t (typed-at u n) v = refl
+waits-only c t (null-at n) v = refl
+waits-only c t (faulty-at q n) v = refl
+
+-- what gives a type or a null gets no no
+none-of : (n : ℕ) → OneOf (0 ∷ 1 ∷ []) n → n ≡ 2 → ⊥
+none-of n h z = ⊎-elim (λ (e : n ≡ 0). omega arith) (λ (e : n ≡ 1). omega arith) h
+
+gives-something : (p : Program) (g : Given) (q : Question) (m : Point) → OneOf (0 ∷ 1 ∷ []) (tagOf the-type g) → ((a : Aim) → answerAs p a g ≡ Faulty q m) → ⊥
+gives-something p (typed-at t n) q m h f = let k = f infers in let z : _≡_ {A = ℕ} 0 1 = cc in omega arith
+gives-something p (null-at n) q m h f = let k = f (checks 0) in let z : _≡_ {A = ℕ} 0 1 = cc in omega arith
+gives-something p (faulty-at l n) q m h f = none-of _ h refl
 
 module _ {s starts b : List ℕ} {n : Point} {e : ℕ} (a : ScopedNode s starts b e n) where
   -- a write and a call, by the type of the target
@@ -112,47 +153,73 @@ module _ {s starts b : List ℕ} {n : Point} {e : ℕ} (a : ScopedNode s starts 
   module _ (k : nodeWord s n 0 ≡ 5) where
     awaited-is : (w : Want)
         → awaited (codeOf s) (context (bindingsIn b) e) (viewAt s n) w
-        ≡ ifTyped (inferred (programOf s) (context (bindingsIn b) e) (exprAt s (nodeWord s n 2))) (λ t. only (answerTest (codeOf s) (lastAnswer s b e n t) w) (some (upto t)))
+        ≡ ifTyped (inferred (programOf s) (context (bindingsIn b) e) (exprAt s (nodeWord s n 2)))
+        (λ t. only (givesTest (codeOf s) (record { name = nodeWord s n 1; type = t } ∷ context (bindingsIn b) e) (exprAt s (nodeWord s n 3)) w) (some (upto t)))
     unfolding kindOf
     awaited-is w = rw (view-by s n 5 k)
 
-    inferred-is : inferred (programOf s) (context (bindingsIn b) e) (exprAt s n)
-        ≡ andThen (inferred (programOf s) (context (bindingsIn b) e) (exprAt s (nodeWord s n 2))) (lastAnswer s b e n)
+    answer-is : (o : Aim) → answer (programOf s) (context (bindingsIn b) e) (exprAt s n) o
+        ≡ andThen (inferred (programOf s) (context (bindingsIn b) e) (exprAt s (nodeWord s n 2)))
+        (λ t. answer (programOf s) (record { name = nodeWord s n 1; type = t } ∷ context (bindingsIn b) e) (exprAt s (nodeWord s n 3)) o)
     unfolding kindOf answer
-    inferred-is = rw (expr-is (a .within) (a .there) 5 k)
+    answer-is o = rw (expr-is (a .within) (a .there) 5 k)
 
     pub first-there : {q : Point} → q ≡ nodeWord s n 2 → q < countOf s nodes
     unfolding kindOf
     first-there eq = rw eq (in-order s (a .within) n (a .there) (nodeWord s n 2) (rw (view-by s n 5 k) first) .there)
 
-    module _ (r : Answer) (er : r ≡ inferred (programOf s) (context (bindingsIn b) e) (exprAt s n)) where
-      pub let-faulty : (q : Question) (m : Point) → r ≡ Faulty q m → WaitsAs s b n e Never
-      let-faulty q m f w = awaited-is w ∙ go (inferred (programOf s) (context (bindingsIn b) e) (exprAt s (nodeWord s n 2))) (sym inferred-is ∙ sym er ∙ f)
+    module _ (g : Given) (eg : GivenIn (programOf s) (context (bindingsIn b) e) (exprAt s n) g) where
+      last-gives : (t : ℕ) → inferred (programOf s) (context (bindingsIn b) e) (exprAt s (nodeWord s n 2)) ≡ Typed t
+          → GivenIn (programOf s) (record { name = nodeWord s n 1; type = t } ∷ context (bindingsIn b) e) (exprAt s (nodeWord s n 3)) g
+      last-gives t d o = eg o ∙ answer-is o ∙ rw d
+
+      last-test : (t : ℕ) → inferred (programOf s) (context (bindingsIn b) e) (exprAt s (nodeWord s n 2)) ≡ Typed t → (w : Want)
+          → givesTest (codeOf s) (record { name = nodeWord s n 1; type = t } ∷ context (bindingsIn b) e) (exprAt s (nodeWord s n 3)) w ≡ givenTest (codeOf s) g w
+      last-test t d w = gives-by (codeOf s) (record { name = nodeWord s n 1; type = t } ∷ context (bindingsIn b) e) (exprAt s (nodeWord s n 3)) g (last-gives t d) w
+
+      pub let-faulty : (q : Question) (m : Point) → g ≡ faulty-at q m → WaitsAs s b n e Never
+      let-faulty q m f w = awaited-is w ∙ go (inferred (programOf s) (context (bindingsIn b) e) (exprAt s (nodeWord s n 2))) refl
         where
-          go : (o : Answer) → andThen o (lastAnswer s b e n) ≡ Faulty q m → ifTyped o (λ t. only (answerTest (codeOf s) (lastAnswer s b e n t) w) (some (upto t))) ≡ none
-          go (Typed t) h = rw h
-          go (Faulty p l) h = refl
+          go : (o : Answer) → inferred (programOf s) (context (bindingsIn b) e) (exprAt s (nodeWord s n 2)) ≡ o
+              → ifTyped o (λ t. only (givesTest (codeOf s) (record { name = nodeWord s n 1; type = t } ∷ context (bindingsIn b) e) (exprAt s (nodeWord s n 3)) w) (some (upto t))) ≡ none
+          go (Typed t) d = rw (last-test t d w, f)
+          go (Faulty p l) d = refl
 
-      module _ (u : ℕ) (f : r ≡ Typed u) (q : Point) (eq : q ≡ nodeWord s n 2) where
-        pub first-inferable : Inferable s b e q
-        first-inferable = go (inferred (programOf s) (context (bindingsIn b) e) (exprAt s (nodeWord s n 2))) refl (sym inferred-is ∙ sym er ∙ f)
-          where
-            go : (o : Answer) → inferred (programOf s) (context (bindingsIn b) e) (exprAt s (nodeWord s n 2)) ≡ o → andThen o (lastAnswer s b e n) ≡ Typed u → Inferable s b e q
-            go (Typed t) d h = record { type = t; is = rw eq d }
-            go (Faulty p l) d h = absurd (let z : _≡_ {A = ℕ} 0 1 = cc in omega arith)
+      pub first-inferable : OneOf (0 ∷ 1 ∷ []) (tagOf the-type g) → (q : Point) → q ≡ nodeWord s n 2 → Inferable s b e q
+      first-inferable h q eq = go (inferred (programOf s) (context (bindingsIn b) e) (exprAt s (nodeWord s n 2))) refl
+        where
+          go : (o : Answer) → inferred (programOf s) (context (bindingsIn b) e) (exprAt s (nodeWord s n 2)) ≡ o → Inferable s b e q
+          go (Typed t) d = record { type = t; is = rw eq d }
+          go (Faulty p l) d = absurd (gives-something (programOf s) g p l h (λ o. eg o ∙ answer-is o ∙ rw d))
 
-        module _ (o : Answer) (eo : o ≡ inferred (programOf s) (context (bindingsIn b) e) (exprAt s q)) where
-          pub first-faulty : (p : Question) (m : Point) → o ≡ Faulty p m → WaitsAs s b n e Never
-          first-faulty p m d w = rw (awaited-is w, ← eq, ← eo, d)
+      module _ (q : Point) (eq : q ≡ nodeWord s n 2) (o : Answer) (eo : o ≡ inferred (programOf s) (context (bindingsIn b) e) (exprAt s q)) where
+        pub first-faulty : (p : Question) (m : Point) → o ≡ Faulty p m → WaitsAs s b n e Never
+        first-faulty p m d w = rw (awaited-is w, ← eq, ← eo, d)
 
-          pub let-waits : (t : ℕ) → o ≡ Typed t → WaitsAs s b n e (For t u)
-          let-waits t d w =
-              let last : lastAnswer s b e n t ≡ Typed u = sym (inferred-is ∙ rw (← eq, ← eo, d)) ∙ sym er ∙ f in
-              rw (awaited-is w, ← eq, ← eo, d, last)
+        pub let-waits : (t : ℕ) → o ≡ Typed t → (r : Waits) → r ≡ waitsBy t g → WaitsAs s b n e r
+        let-waits t d r er w = rw er (awaited-is w ∙ rw (← eq, ← eo, d, last-test t (rw (← eq) (sym eo ∙ d)) w) (waits-only (codeOf s) t g w))
+
+      pub let-small : (t : ℕ) (r : Waits) → r ≡ waitsBy t g → GivesSmall r
+      let-small t r er = rw er (go g eg)
+        where
+          go : (g : Given) → GivenIn (programOf s) (context (bindingsIn b) e) (exprAt s n) g → GivesSmall (waitsBy t g)
+          go (typed-at v m) h y u f =
+              let same : v ≡ u = cc in
+              let i = inferred-typed (programOf s) (regular s (a .within)) (context (bindingsIn b) e) (exprAt s n) v (a .types) (formed s (a .within) n (a .there)) (sym (h infers)) in
+              rw (← same) (type-small (a .within) v (infer-type (programOf s) (regular s (a .within)) i))
+          go (null-at m) h y u f = absurd (let z : _≡_ {A = ℕ} 0 1 = cc in omega arith)
+          go (faulty-at q m) h y u f = absurd (let z : _≡_ {A = ℕ} 0 1 = cc in omega arith)
+
+-- nothing is given where nothing is waited for
+pub never-small : GivesSmall Never
+never-small t u f = absurd (let z : _≡_ {A = ℕ} 0 1 = cc in omega arith)
 
 -- what is expected, by whether what is given meets
 pub expected-never : (s : List ℕ) (w : Waits) (v : Want) → w ≡ Never → No ≡ expectsOf (wantsOf (codeOf s) v w)
 expected-never s w v f = rw f
+
+pub expected-null : (s : List ℕ) (w : Waits) (v : Want) (t : ℕ) → w ≡ ForNull t → Wants (upto t) ≡ expectsOf (wantsOf (codeOf s) v w)
+expected-null s w v t f = rw f
 
 module _ (s : List ℕ) (w : Waits) (v : Want) (t u : ℕ) (f : w ≡ For t u) (m : Bool) (e : m ≡ meetsTest (codeOf s) u v) where
   pub expected-not : m ≡ false → No ≡ expectsOf (wantsOf (codeOf s) v w)

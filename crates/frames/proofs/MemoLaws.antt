@@ -1,9 +1,13 @@
 -- The memo: what is recalled from it holds, and what is kept in it.
-use mathlib.Core.Path.{_≡_, refl, sym, _∙_}
-use mathlib.Core.List.{List}
+use mathlib.Core.Path.{_≡_, refl, sym, ap, _∙_}
+use mathlib.Core.List.{List, [], _∷_}
+use mathlib.Core.Logic.{⊎-elim}
 use Prim.Native.Nat.{ℕ, zero, suc, _+_, _-_, _*_, _<_, _≤_}
 use native.Mathlib.Omega.{arith}
 use native.Mathlib.Decide.{ℕ-discrete}
+use native.Mathlib.Numerals.{add-one}
+use types.Run.{OneOf}
+use denote.Enum.Declared.{tagOf}
 use lib.ListN.{length, getD, set, replicate, length-set, length-replicate}
 use lib.Seq.{getD-set-same, getD-set-other}
 use Rattle.limits.specs.Limits.{NODES}
@@ -11,28 +15,41 @@ use Rattle.script.specs.Syntax.{Point}
 use Rattle.machine.specs.Machine.{context}
 use Rattle.environments.specs.Chains.{bindingCount, bindingsIn, Chain}
 use Rattle.frames.specs.declared.awaited.Waits.{Waits}
-use Rattle.frames.specs.declared.awaited.Waits.the-variants.{Never, For}
+use Rattle.frames.specs.declared.awaited.Waits.the-variants.{Never, For, ForNull}
 use Rattle.frames.specs.Expecting.{WaitsAs}
-use Rattle.frames.specs.Memo.{WIDTH, keptAt, awaitsAt, givesAt, Placed, Remembers, Recalled, Recalls, withEntry}
+use Rattle.frames.specs.Memo.{WIDTH, keptAt, awaitsAt, givesAt, waitsIn, Placed, Remembers, Recalled, Recalls, withEntry}
+use Rattle.frames.proofs.awaited.Waits.{the-type}
 
 -- nothing is recalled, or an entry is
 pub recalls-nothing : (b memo : List ℕ) (n : Point) (e : ℕ) → Recalls b memo n e Never
-recalls-nothing b memo n e t u f = absurd (let z : _≡_ {A = ℕ} 0 1 = cc in omega arith)
+recalls-nothing b memo n e f = absurd (f refl)
 
-pub recalls-entry : (b memo : List ℕ) (n : Point) (e : ℕ) → (keptAt memo n ≡ 0 → ⊥) → context (bindingsIn b) (keptAt memo n - 1) ≡ context (bindingsIn b) e
-    → Recalls b memo n e (For (awaitsAt memo n) (givesAt memo n))
-recalls-entry b memo n e h same t u f =
-    record { kept = keptAt memo n - 1; used = omega arith; scope = same; awaits = cc; gives = cc }
+module _ (b memo : List ℕ) (n : Point) (e : ℕ) (h : keptAt memo n ≡ 0 → ⊥) (same : context (bindingsIn b) (keptAt memo n - 1) ≡ context (bindingsIn b) e) where
+  recalls-says : (r : Waits) → waitsIn (awaitsAt memo n) (givesAt memo n) ≡ r → Recalls b memo n e r
+  recalls-says r k f = record { kept = keptAt memo n - 1; used = omega arith; scope = same; says = k }
 
-recalled : {s b memo : List ℕ} {n : Point} {e t u : ℕ} → Remembers s b memo → Recalled b memo n e t u → WaitsAs s b n e (For t u)
-recalled {n = n} m r v = rw (← r .scope, ← r .awaits, ← r .gives) (m .entries n (r .kept) (r .used) v)
+  pub recalls-null : givesAt memo n ≡ 0 → Recalls b memo n e (ForNull (awaitsAt memo n))
+  recalls-null z = recalls-says _ (rw z)
 
-pub as-recalled : {s b memo : List ℕ} (n : Point) (e : ℕ) → Remembers s b memo → (r : Waits) → Recalls b memo n e r → (t u : ℕ) → r ≡ For t u → WaitsAs s b n e r
-as-recalled n e m r h t u f = rw f (recalled m (h t u f))
+  pub recalls-entry : (givesAt memo n ≡ 0 → ⊥) → Recalls b memo n e (For (awaitsAt memo n) (givesAt memo n - 1))
+  recalls-entry z = let k : givesAt memo n ≡ suc (givesAt memo n - 1) = omega arith in recalls-says _ (ap (waitsIn (awaitsAt memo n)) k)
+
+none-of : (n : ℕ) → OneOf (1 ∷ 2 ∷ []) n → n ≡ 0 → ⊥
+none-of n h z = ⊎-elim (λ (e : n ≡ 1). omega arith) (λ (e : n ≡ 2). omega arith) h
+
+recalled : {s b memo : List ℕ} {n : Point} {e : ℕ} {r : Waits} → Remembers s b memo → Recalled b memo n e r → WaitsAs s b n e r
+recalled {n = n} m k v = rw (← k .scope, ← k .says) (m .entries n (k .kept) (k .used) v)
+
+pub as-recalled : {s b memo : List ℕ} (n : Point) (e : ℕ) → Remembers s b memo → (r : Waits) → Recalls b memo n e r → OneOf (1 ∷ 2 ∷ []) (tagOf the-type r) → WaitsAs s b n e r
+as-recalled n e m r h f = recalled m (h (λ z. none-of _ f (ap (tagOf the-type) z)))
 
 -- what is inferred, as it is answered
 pub as-told : (s b : List ℕ) (n : Point) (e : ℕ) (r w : Waits) → WaitsAs s b n e r → r ≡ w → WaitsAs s b n e w
 as-told s b n e r w h f = rw f at h
+
+-- a type that is given, as its word says it
+pub in-words : (t u : ℕ) → For t u ≡ waitsIn t (u + 1)
+in-words t u = rw add-one
 
 -- the chain of an environment that is kept
 pub kept-chain : {b memo : List ℕ} (n : Point) {e : ℕ} → Chain b e → Placed b memo → (keptAt memo n ≡ 0 → ⊥) → Chain b (keptAt memo n - 1)
@@ -69,13 +86,13 @@ module _ (memo : List ℕ) (size : length memo ≡ NODES * WIDTH) (n : Point) (h
   own-gives : givesAt (withEntry memo n e t u) n ≡ u
   own-gives = getD-set-same (twice memo n e t) (n * WIDTH + 2) u 0 (simp length-set (omega arith))
 
-  module _ {s b : List ℕ} (m : Remembers s b memo) (l : e ≤ bindingCount b) (w : WaitsAs s b n e (For t u)) where
+  module _ {s b : List ℕ} (m : Remembers s b memo) (l : e ≤ bindingCount b) (w : WaitsAs s b n e (waitsIn t u)) where
     own : (k f : ℕ) → k ≡ n → keptAt (withEntry memo n e t u) k ≡ suc f
-        → WaitsAs s b k f (For (awaitsAt (withEntry memo n e t u) k) (givesAt (withEntry memo n e t u) k))
+        → WaitsAs s b k f (waitsIn (awaitsAt (withEntry memo n e t u) k) (givesAt (withEntry memo n e t u) k))
     own k f d q = let z : e ≡ f = omega (arith, rw d at q, own-kept) in rw (d, own-awaits, own-gives, ← z) w
 
     other : (k f : ℕ) → (k ≡ n → ⊥) → keptAt (withEntry memo n e t u) k ≡ suc f
-        → WaitsAs s b k f (For (awaitsAt (withEntry memo n e t u) k) (givesAt (withEntry memo n e t u) k))
+        → WaitsAs s b k f (waitsIn (awaitsAt (withEntry memo n e t u) k) (givesAt (withEntry memo n e t u) k))
     other k f d q =
         rw (elsewhere k (k * WIDTH + 1) d (omega arith) (omega arith), elsewhere k (k * WIDTH + 2) d (omega arith) (omega arith)) (m .entries k f (sym (elsewhere k (k * WIDTH) d (omega arith) (omega arith)) ∙ q))
 

@@ -1,5 +1,5 @@
 -- What is expected above a frame, and of a node, as the code goes: one law for each answer.
-use mathlib.Core.Path.{_≡_, refl, sym, ap, _∙_}
+use mathlib.Core.Path.{_≡_, refl, sym, _∙_}
 use mathlib.Core.Bool.{Bool, true, false, and-false}
 use mathlib.Core.List.{List}
 use mathlib.Core.Option.{none}
@@ -8,27 +8,22 @@ use native.Mathlib.Omega.{arith}
 use borrow.Author.Tests.{lt-ltb, le-ltb, le-leb, lt-leb}
 use lib.Dec.{leb}
 use lib.ListN.{length}
-use Rattle.script.specs.declared.Question.{Question}
 use Rattle.script.specs.declared.Section.the-variants.{Nodes as nodes}
 use Rattle.script.specs.Section.{countOf, nodeWord}
-use Rattle.script.specs.Syntax.{Point, Expr, isNull, build}
-use Rattle.script.specs.Reading.{unknown-kind, kindOf, nodeOf, exprAt, programOf}
-use Rattle.script.specs.Statements.{WithinLayout}
-use Rattle.script.proofs.Reading.{known}
-use Rattle.typing.specs.declared.Answer.{Answer}
-use Rattle.typing.specs.declared.Answer.the-variants.{Typed, Faulty}
-use Rattle.typing.specs.Typing.{inferred}
+use Rattle.script.specs.Syntax.{Point}
+use Rattle.script.specs.Reading.{kindOf, nodeOf, exprAt, programOf}
+use Rattle.inference.specs.declared.Given.{Given}
+use Rattle.inference.specs.Given.{GivenIn}
 use Rattle.machine.specs.declared.Want.{Want}
 use Rattle.machine.specs.Config.{codeOf}
 use Rattle.machine.specs.Machine.{context}
-use Rattle.machine.specs.Decide.{meetsTest, answerTest, castType}
+use Rattle.machine.specs.Decide.{castType}
 use Rattle.environments.specs.Chains.{bindingCount, bindingsIn}
-use Rattle.environments.proofs.KnownLaws.{expr-is}
 use Rattle.frames.specs.declared.awaited.Waits.{Waits}
 use Rattle.frames.specs.declared.awaited.Waits.the-variants.{Never, For}
-use Rattle.frames.specs.Expecting.{WaitsAs, AwaitsAs, CastsAs, nodeTest}
+use Rattle.frames.specs.Expecting.{givenTest, WaitsAs, AwaitsAs, CastsAs, nodeTest}
 use Rattle.frames.proofs.ReadyLaws.{bindings-length}
-use Rattle.frames.proofs.AwaitedLaws.{view-by}
+use Rattle.frames.proofs.AwaitedLaws.{view-by, gives-by}
 
 -- an environment of the block, and none of it
 module _ (b : List ℕ) (e : ℕ) where
@@ -77,21 +72,6 @@ module _ (s : List ℕ) (n : Point) where
     unfolding kindOf
     casts-waits f t et v = rw (lt-ltb n (countOf s nodes) h, view-by s n 7 (sym ek ∙ f), ← et)
 
--- a node is a null just if its kind is 0
-solid : (n : Point) (f : Point → Expr) (k a b c : ℕ) → (k ≡ 0 → ⊥) → (kindOf k ≡ unknown-kind → ⊥) → isNull (build n f (nodeOf (kindOf k) a b c)) ≡ false
-unfolding kindOf
-solid n f zero a b c h u = absurd (h refl)
-solid n f (suc zero) a b c h u = refl
-solid n f (suc (suc zero)) a b c h u = refl
-solid n f (suc (suc (suc zero))) a b c h u = refl
-solid n f (suc (suc (suc (suc zero)))) a b c h u = refl
-solid n f (suc (suc (suc (suc (suc zero))))) a b c h u = refl
-solid n f (suc (suc (suc (suc (suc (suc zero)))))) a b c h u = refl
-solid n f (suc (suc (suc (suc (suc (suc (suc zero))))))) a b c h u = refl
-solid n f (suc (suc (suc (suc (suc (suc (suc (suc zero)))))))) a b c h u = refl
-solid n f (suc (suc (suc (suc (suc (suc (suc (suc (suc zero))))))))) a b c h u = refl
-solid n f (suc (suc (suc (suc (suc (suc (suc (suc (suc (suc k)))))))))) a b c h u = absurd (u refl)
-
 -- a node that runs
 module _ (s b : List ℕ) (n : Point) (e : ℕ) (v : Want) where
   pub node-outside : countOf s nodes ≤ n → false ≡ nodeTest (codeOf s) (bindingsIn b) n e v
@@ -100,21 +80,6 @@ module _ (s b : List ℕ) (n : Point) (e : ℕ) (v : Want) where
   pub node-unbound : bindingCount b < e → false ≡ nodeTest (codeOf s) (bindingsIn b) n e v
   node-unbound l = rw (env-not b e l)
 
-  module _ (w : WithinLayout s) (h : n < countOf s nodes) (l : e ≤ bindingCount b) (k : ℕ) (ek : k ≡ nodeWord s n 0) where
-    pub node-null : k ≡ 0 → true ≡ nodeTest (codeOf s) (bindingsIn b) n e v
-    unfolding kindOf
-    node-null z = rw (env-there b e l, lt-ltb n (countOf s nodes) h, expr-is w h k (sym ek), z)
-
-    module _ (z : k ≡ 0 → ⊥) (r : Answer) (er : r ≡ inferred (programOf s) (context (bindingsIn b) e) (exprAt s n)) where
-      test-is : nodeTest (codeOf s) (bindingsIn b) n e v ≡ answerTest (codeOf s) r v
-      test-is =
-          let full : isNull (exprAt s n) ≡ false =
-          ap isNull (expr-is w h k (sym ek)) ∙ solid n (exprAt s) k (nodeWord s n 1) (nodeWord s n 2) (nodeWord s n 3) z (rw ek (known s w n h))
-          in
-          rw (env-there b e l, lt-ltb n (countOf s nodes) h, full, er)
-
-      pub node-faulty : (q : Question) (m : Point) → r ≡ Faulty q m → false ≡ nodeTest (codeOf s) (bindingsIn b) n e v
-      node-faulty q m f = rw (test-is, f)
-
-      pub node-typed : (t : ℕ) (m : Bool) → r ≡ Typed t → m ≡ meetsTest (codeOf s) t v → m ≡ nodeTest (codeOf s) (bindingsIn b) n e v
-      node-typed t m f em = rw (test-is, f) em
+  pub node-gives : n < countOf s nodes → e ≤ bindingCount b → (g : Given) → GivenIn (programOf s) (context (bindingsIn b) e) (exprAt s n) g → (m : Bool) → m ≡ givenTest (codeOf s) g v
+      → m ≡ nodeTest (codeOf s) (bindingsIn b) n e v
+  node-gives h l g eg m em = rw (env-there b e l, lt-ltb n (countOf s nodes) h, gives-by (codeOf s) (context (bindingsIn b) e) (exprAt s n) g eg v) em

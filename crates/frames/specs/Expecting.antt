@@ -1,26 +1,29 @@
 -- What question 21 asks of the frames and threads of a block in order, position by position and frame by frame. "what a let frame waits for fits the type
 -- inferred for the let's first part"
-use Prim.Native.Nat.{ℕ, zero, suc, _<_, _≤_}
+use Prim.Native.Nat.{ℕ, zero, suc, _+_, _<_, _≤_}
 use mathlib.Core.Path.{_≡_}
-use mathlib.Core.Bool.{Bool, true, _&&_}
+use mathlib.Core.Bool.{Bool, true, false, _&&_}
 use mathlib.Core.List.{List, reverse}
 use mathlib.Core.Option.{Option, none, some}
 use lib.Dec.{leb, ltb}
 use lib.ListN.{length, getD, take, drop}
+use Rattle.limits.specs.Limits.{INTERFACES, CLASSES}
 use Rattle.script.specs.declared.Section.the-variants.{Nodes as nodes}
 use Rattle.script.specs.Lists.{sumBelow}
 use Rattle.script.specs.Section.{countOf}
 use Rattle.script.specs.Syntax.{Point}
 use Rattle.script.specs.Reading.{viewAt, programOf}
 use Rattle.script.specs.Regular.{IsType}
+use Rattle.inference.specs.declared.Given.{Given}
+use Rattle.inference.specs.declared.Given.the-variants.{Typed as typed-at, Null as null-at, Faulty as faulty-at}
 use Rattle.inference.specs.At.{Blank}
 use Rattle.machine.specs.declared.Frame.{Frame}
 use Rattle.machine.specs.declared.Frame.the-variants.{Awaits as awaits, Casts as casts, Locks as locks}
 use Rattle.machine.specs.declared.Want.{Want}
-use Rattle.machine.specs.declared.Want.the-variants.{Any as any}
+use Rattle.machine.specs.declared.Want.the-variants.{Any as any, Upto as upto}
 use Rattle.machine.specs.Config.{Code, codeOf, Binding, Stores, Tree, running, returning, failed, join, Config}
 use Rattle.machine.specs.Machine.{fieldCount, context}
-use Rattle.machine.specs.Decide.{given, only, valueFitsTest, atTest, wants, awaited, castType, expects, wantTest}
+use Rattle.machine.specs.Decide.{given, only, meetsTest, valueFitsTest, atTest, wants, awaited, castType, expects, wantTest}
 use Rattle.block.specs.declared.Area.the-variants.{Bindings, Positions}
 use Rattle.block.specs.Layout.{wordIn, TYPE, LINK, WAITING}
 use Rattle.block.specs.Block.{preorder, framesOf}
@@ -30,7 +33,7 @@ use Rattle.environments.specs.Chains.{bindingCount, bindingsIn}
 use Rattle.frames.specs.declared.awaited.Expects.{Expects}
 use Rattle.frames.specs.declared.awaited.Expects.the-variants.{No, Wants}
 use Rattle.frames.specs.declared.awaited.Waits.{Waits}
-use Rattle.frames.specs.declared.awaited.Waits.the-variants.{Never, For}
+use Rattle.frames.specs.declared.awaited.Waits.the-variants.{Never, For, ForNull}
 
 -- What is expected, as the code says it.
 abbrev pub expectsOf : Option Want → Expects
@@ -41,6 +44,23 @@ expectsOf (some w) = Wants w
 abbrev pub wantsOf : Code → Want → Waits → Option Want
 wantsOf s v Never = none
 wantsOf s v (For t u) = wants s u v t
+wantsOf s v (ForNull t) = some (upto t)
+
+-- Does what a node gives meet what is expected? A null always does.
+abbrev pub givenTest : Code → Given → Want → Bool
+givenTest s (typed-at t n) v = meetsTest s t v
+givenTest s (null-at n) v = true
+givenTest s (faulty-at q n) v = false
+
+-- What a let waits for whose first part has type t, by what the whole let gives.
+abbrev pub waitsBy : ℕ → Given → Waits
+waitsBy t (typed-at u n) = For t u
+waitsBy t (null-at n) = ForNull t
+waitsBy t (faulty-at q n) = Never
+
+-- A type that is given is one of the few.
+abbrev pub GivesSmall : Waits → Type 0
+GivesSmall r = (t u : ℕ) → r ≡ For t u → u ≤ INTERFACES + CLASSES
 
 -- What node n waits for in the environment e of the block b, whatever is expected beneath its frame.
 abbrev pub WaitsAs : List ℕ → List ℕ → Point → ℕ → Waits → Type 0

@@ -4,6 +4,7 @@ use crate::awaited::Expects;
 use crate::awaited::Waits;
 use crate::awaited::call_waits;
 use crate::awaited::expected;
+use crate::awaited::given_meets;
 use crate::awaited::write_waits;
 use crate::memo::let_recalled;
 use block::Area;
@@ -12,8 +13,6 @@ use machine::Want;
 use script::Section;
 use sections::count_of;
 use sections::node_word;
-use typing::Answer;
-use values::meets;
 ghost use mathlib.Core.Path.{_≡_};
 ghost use Prim.Native.Nat.{_+_, _<_, _≤_};
 ghost use lib.ListN.{getD};
@@ -161,7 +160,7 @@ pub fn frames_want(
     Expects::Wants(w)
 }
 
-// Is node n one of the script's, e an environment of the block, and the node a null or of a type that meets `want`?
+// Is node n one of the script's, e an environment of the block, and does what the node gives meet `want`?
 pub fn node_fits(
     s: &[u8],
     starts: &[u16],
@@ -182,12 +181,6 @@ pub fn node_fits(
     if areas::count(block, Area::Bindings) < e as usize {
         return false;
     }
-    let kind = node_word(s, n, 0);
-    if kind == 0 {
-        return true;
-    }
-    let Answer::Typed(t) = environments::infer_under(s, starts, facts, table, block, e, n) else {
-        return false;
-    };
-    meets(s, starts, t, want)
+    let g = environments::infer_under(s, starts, facts, table, block, e, n);
+    given_meets(s, starts, g, want)
 }

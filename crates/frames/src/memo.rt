@@ -13,7 +13,8 @@ ghost use Rattle.environments.specs.Chains.{Chain};
 ghost use Rattle.frames.specs.Expecting.{WaitsAs, NodeUnder};
 ghost use Rattle.frames.specs.Memo.{WIDTH as ENTRY-WIDTH, Placed, Remembers, MemoReady, Recalls, withEntry};
 
-// The words of an entry: an environment and 1 more, or 0 where none is kept, and the two types. There is an entry for each node.
+// The words of an entry: an environment and 1 more, or 0 where none is kept; the type that is waited for; and the one that is given and 1 more, or 0 for a
+// null. There is an entry for each node.
 const WIDTH: usize = 3;
 
 pub const MEMO: usize = Limits::NODES * WIDTH;
@@ -31,18 +32,23 @@ fn recall(block: &[u8], memo: &[u16], n: u16, e: u16) -> Waits
     if !same_scope(block, word - 1, e) {
         return Waits::Never;
     }
-    Waits::For(memo[at + 1], memo[at + 2])
+    let t = memo[at + 1];
+    let given = memo[at + 2];
+    if given == 0 {
+        return Waits::ForNull(t);
+    }
+    Waits::For(t, given - 1)
 }
 
-// Keeps for node n in environment e that it waits for type t and gives u.
-fn remember(memo: &mut [u16], n: u16, e: u16, t: u16, u: u16)
+// Keeps for node n in environment e that it waits for type t, and what it gives.
+fn remember(memo: &mut [u16], n: u16, e: u16, t: u16, given: u16)
     requires { ⌜ (length (now memo) ≡ NODES * ENTRY-WIDTH) × (n < NODES) × (e + 1 < WORD) ⌝ }
-    ensures { λ r. ⌜ now (memo .exit) ≡ withEntry (now (memo .entry)) n e t u ⌝ }
+    ensures { λ r. ⌜ now (memo .exit) ≡ withEntry (now (memo .entry)) n e t given ⌝ }
 {
     let at = n as usize * WIDTH;
     memo[at] = e + 1;
     memo[at + 1] = t;
-    memo[at + 2] = u;
+    memo[at + 2] = given;
 }
 
 // What the let n waits for in environment e, from the memo if it is kept there; else it is inferred, and kept.
@@ -66,9 +72,16 @@ pub fn let_recalled(
     let Waits::Never = kept else {
         return kept;
     };
-    let Waits::For(t, u) = let_waits(s, starts, facts, table, block, n, e) else {
-        return Waits::Never;
-    };
-    remember(memo, n, e, t, u);
-    Waits::For(t, u)
+    let w = let_waits(s, starts, facts, table, block, n, e);
+    match w {
+        Waits::Never => Waits::Never,
+        Waits::For(t, u) => {
+            remember(memo, n, e, t, u + 1);
+            w
+        }
+        Waits::ForNull(t) => {
+            remember(memo, n, e, t, 0);
+            w
+        }
+    }
 }

@@ -1,7 +1,8 @@
 -- How the walk answers at a node, as the code goes: one law for each answer, with what was read and answered on the way.
 use mathlib.Core.Path.{_≡_, refl, sym, ap, _∙_}
 use mathlib.Core.Bool.{Bool, true, false}
-use mathlib.Core.List.{List, _∷_}
+use mathlib.Core.List.{List, [], _∷_}
+use mathlib.Core.Logic.{⊎-elim}
 use mathlib.Core.Option.{Option, none, some}
 use Prim.Native.Nat.{ℕ, zero, suc, _+_, _-_, _<_, _≤_}
 use native.Mathlib.Omega.{arith}
@@ -9,36 +10,45 @@ use lib.Dec.{eqb}
 use lib.ListN.{length, getD, set, length-set}
 use lib.Seq.{getD-set-same, getD-set-other, set-getD, set-set}
 use borrow.Author.Tests.{eqb-true, eqb-false}
+use types.Run.{OneOf}
+use denote.Enum.Declared.{tagOf}
 use Rattle.limits.specs.Limits.{INTERFACES, CLASSES}
 use Rattle.script.specs.declared.Question.{Question}
-use Rattle.script.specs.declared.Question.the-variants.{Variables, Nulls, Members, Fits, Sharing}
+use Rattle.script.specs.declared.Question.the-variants.{Variables, Members, Sharing}
 use Rattle.script.specs.declared.Found.{Found}
 use Rattle.script.specs.declared.Found.the-variants.{At as Is, Nothing}
 use Rattle.script.specs.declared.Section.the-variants.{Interfaces as interfaces, Classes as classes, Nodes as nodes}
 use Rattle.script.specs.Lists.{_∈_, named}
 use Rattle.script.specs.Section.{countOf, nodeWord}
-use Rattle.script.specs.Syntax.{Point, Expr, var, select, update, call, lock, pointOf, isNull, Node, n-null, n-var, n-select, n-update, n-call, n-bind, n-new, n-cast, n-fork, n-lock, parts, build, Slot, Signature, Program}
-use Rattle.script.specs.Reading.{kindOf, nodeOf, unknown-kind, viewAt, exprAt, programOf}
+use Rattle.script.specs.Syntax.{Point, Expr, null, var, select, update, call, lock, pointOf, isNull, Node, n-null, parts, build, Slot, Signature, Program}
+use Rattle.script.specs.Reading.{kindOf, nodeOf, viewAt, exprAt, programOf}
 use Rattle.script.specs.Statements.{Part, WithinLayout}
 use Rattle.sections.specs.Laid.{foundOf}
 use Rattle.script.specs.Regular.{IsType}
 use Rattle.script.proofs.Declarations.{length-interfaces, length-classes}
-use Rattle.script.proofs.Reading.{first, expr-at, in-order, known}
+use Rattle.script.proofs.Reading.{first, expr-at, in-order}
 use Rattle.script.proofs.Regular.{formed, regular}
+use Rattle.typing.specs.declared.Aim.{Aim}
+use Rattle.typing.specs.declared.Aim.the-variants.{Infers as infers, Checks as checks}
 use Rattle.typing.specs.declared.Answer.{Answer}
 use Rattle.typing.specs.declared.Answer.the-variants.{Typed, Faulty}
 use Rattle.members.specs.declared.Member.{Member}
 use Rattle.members.specs.declared.Member.the-variants.{Types, Missing}
-use Rattle.typing.specs.Members.{below, typeIn, fieldIn, methodIn}
-use Rattle.typing.specs.Typing.{fv, shares, andThen, orFaulty, unlessShared, answer, inferred, checked}
+use Rattle.typing.specs.Members.{typeIn, fieldIn, methodIn}
+use Rattle.typing.specs.Typing.{fv, shares, andThen, orFaulty, unlessShared, aimed, answer, inferred, checked}
+use Rattle.typing.specs.Refusals.{lastOf}
 use Rattle.names.specs.Ranks.{RANKS, nameIn, Names, RankOf, of-node, Ranked}
 use Rattle.slices.specs.Bits.{flagOf}
 use Rattle.names.specs.Facts.{Facts}
 use Rattle.members.specs.Tables.{memberOf}
 use Rattle.inference.specs.Tables.{boundWord, EnvIs}
 use Rattle.inference.specs.At.{Target, At, Inferred, Checked}
+use Rattle.inference.specs.declared.Given.{Given}
+use Rattle.inference.proofs.Given.{the-type}
+use Rattle.inference.specs.declared.Given.the-variants.{Typed as typed-at, Null as null-at, Faulty as faulty-at}
+use Rattle.inference.specs.Given.{inferredAs, answerAs, GivenAs, noNull, givenBy}
 use Rattle.typing.proofs.Members.{field-in, field-type}
-use Rattle.typing.proofs.Rules.{checked-as, env-more, infer-type, inferred-typed}
+use Rattle.typing.proofs.Rules.{env-more, infer-type, inferred-typed, checked-as}
 
 -- What is found is gone on with as its type would be.
 found-then : (q : Question) (n : Point) (o : Option ℕ) (k : ℕ → Answer) → orFaulty q n o k ≡ andThen (orFaulty q n o (λ t. Typed t)) k
@@ -67,9 +77,9 @@ module _ (p : Program) (Γ : List Slot) (n x : ℕ) where
   unfolding answer
   call-is m e = found-then Variables n (typeIn Γ x) _
 
-  lock-is : (e : Expr) → inferred p Γ (lock n x e) ≡ andThen (inferred p Γ (var n x)) (λ t. inferred p Γ e)
+  lock-is : (e : Expr) (a : Aim) → answer p Γ (lock n x e) a ≡ andThen (inferred p Γ (var n x)) (λ t. answer p Γ e a)
   unfolding answer
-  lock-is e = found-then Variables n (typeIn Γ x) _
+  lock-is e a = found-then Variables n (typeIn Γ x) _
 
 -- The table of an environment: a variable's word, and one more variable.
 module _ {s facts env : List ℕ} {Γ : List Slot} (g : EnvIs s facts env Γ) where
@@ -208,36 +218,44 @@ only-null (suc (suc (suc (suc (suc (suc (suc (suc zero)))))))) a b c h1 h2 h3 h4
 only-null (suc (suc (suc (suc (suc (suc (suc (suc (suc zero))))))))) a b c h1 h2 h3 h4 h5 h6 h7 h8 h9 = absurd (h9 refl)
 only-null (suc (suc (suc (suc (suc (suc (suc (suc (suc (suc k)))))))))) a b c h1 h2 h3 h4 h5 h6 h7 h8 h9 = refl
 
--- A node of a known kind that is not 0 is not null, and the place of its expression is its number.
-module _ (n : Point) (f : Point → Expr) where
-  not-null : (k a b c : ℕ) → (k ≡ 0 → ⊥) → (kindOf k ≡ unknown-kind → ⊥) → isNull (build n f (nodeOf (kindOf k) a b c)) ≡ false
-  unfolding kindOf
-  not-null zero a b c h u = absurd (h refl)
-  not-null (suc zero) a b c h u = refl
-  not-null (suc (suc zero)) a b c h u = refl
-  not-null (suc (suc (suc zero))) a b c h u = refl
-  not-null (suc (suc (suc (suc zero)))) a b c h u = refl
-  not-null (suc (suc (suc (suc (suc zero))))) a b c h u = refl
-  not-null (suc (suc (suc (suc (suc (suc zero)))))) a b c h u = refl
-  not-null (suc (suc (suc (suc (suc (suc (suc zero))))))) a b c h u = refl
-  not-null (suc (suc (suc (suc (suc (suc (suc (suc zero)))))))) a b c h u = refl
-  not-null (suc (suc (suc (suc (suc (suc (suc (suc (suc zero))))))))) a b c h u = refl
-  not-null (suc (suc (suc (suc (suc (suc (suc (suc (suc (suc k)))))))))) a b c h u = absurd (u refl)
+-- What a part gives that is inferred, and what it answers: a type, or a no whatever the aim.
+no-null-typed : (g : Given) (t : ℕ) (n : Point) → noNull g ≡ typed-at t n → inferredAs g ≡ Typed t
+no-null-typed (typed-at u m) t n e = cc
+no-null-typed (null-at m) t n e = absurd (let z : _≡_ {A = ℕ} 0 1 = cc in omega arith)
+no-null-typed (faulty-at q m) t n e = absurd (let z : _≡_ {A = ℕ} 0 1 = cc in omega arith)
 
-  point-of : (v : Node) → pointOf (build n f v) ≡ n
-  point-of n-null = refl
-  point-of (n-var x) = refl
-  point-of (n-select x g) = refl
-  point-of (n-update x g p) = refl
-  point-of (n-call x m p) = refl
-  point-of (n-bind x p q) = refl
-  point-of (n-new c) = refl
-  point-of (n-cast t p) = refl
-  point-of (n-fork p q r) = refl
-  point-of (n-lock x p) = refl
+none-of : (n : ℕ) → OneOf (1 ∷ 2 ∷ []) n → n ≡ 0 → ⊥
+none-of n h z = ⊎-elim (λ (e : n ≡ 1). omega arith) (λ (e : n ≡ 2). omega arith) h
+
+no-null-no : (p : Program) (a : Aim) (g : Given) (k : ℕ → Answer) → OneOf (1 ∷ 2 ∷ []) (tagOf the-type (noNull g)) → answerAs p a (noNull g) ≡ andThen (inferredAs g) k
+no-null-no p a (typed-at t n) k h = absurd (none-of _ h refl)
+no-null-no p infers (null-at n) k h = refl
+no-null-no p (checks t) (null-at n) k h = refl
+no-null-no p infers (faulty-at q n) k h = refl
+no-null-no p (checks t) (faulty-at q n) k h = refl
+
+fault-as : (p : Program) (a : Aim) (q : Question) (n : Point) → answerAs p a (faulty-at q n) ≡ Faulty q n
+fault-as p infers q n = refl
+fault-as p (checks t) q n = refl
+
+-- what a null gives, and a node without a last part, by what is inferred for it
+null-as : (p : Program) (Γ : List Slot) (n : Point) (a : Aim) → answerAs p a (null-at n) ≡ answer p Γ (null n) a
+unfolding answer
+null-as p Γ n infers = refl
+null-as p Γ n (checks t) = refl
+
+by-as : (p : Program) (n : Point) (a : Aim) (r : Answer) → answerAs p a (givenBy n r) ≡ aimed p n a r
+by-as p n infers (Typed t) = refl
+by-as p n infers (Faulty q k) = refl
+by-as p n (checks u) (Typed t) = refl
+by-as p n (checks u) (Faulty q k) = refl
+
+plain-as : (p : Program) (Γ : List Slot) (e : Expr) (a : Aim) → isNull (lastOf e) ≡ false → answer p Γ e a ≡ aimed p (pointOf (lastOf e)) a (inferred p Γ e)
+plain-as p Γ e infers h = refl
+plain-as p Γ e (checks t) h = checked-as p Γ e t h
 
 -- The same answer, where the table is as it was.
-pub same-env : (s facts : List ℕ) {env env′ : List ℕ} (e : Expr) {r : Answer} → env′ ≡ env → Inferred s facts env′ e r → Inferred s facts env e r
+pub same-env : (s facts : List ℕ) {env env′ : List ℕ} (e : Expr) {r : Given} → env′ ≡ env → GivenAs s facts env′ e r → GivenAs s facts env e r
 same-env s facts e k h Γ g = h Γ (rw k g)
 
 module _ {s starts facts env : List ℕ} {n : Point} (a : At s starts facts env n) where
@@ -311,10 +329,15 @@ module _ {s starts facts env : List ℕ} {n : Point} (a : At s starts facts env 
   pub at-null :
       (k : ℕ) → k ≡ nodeWord s n 0
       → (k ≡ 1 → ⊥) → (k ≡ 2 → ⊥) → (k ≡ 3 → ⊥) → (k ≡ 4 → ⊥) → (k ≡ 5 → ⊥) → (k ≡ 6 → ⊥) → (k ≡ 7 → ⊥) → (k ≡ 8 → ⊥) → (k ≡ 9 → ⊥)
-      → Inferred s facts env (exprAt s n) (Faulty Nulls n)
-  unfolding answer
-  at-null k e h1 h2 h3 h4 h5 h6 h7 h8 h9 Γ g =
-      rw (expr-by k (sym e), only-null k (nodeWord s n 1) (nodeWord s n 2) (nodeWord s n 3) h1 h2 h3 h4 h5 h6 h7 h8 h9)
+      → GivenAs s facts env (exprAt s n) (null-at n)
+  at-null k e h1 h2 h3 h4 h5 h6 h7 h8 h9 Γ g o =
+      rw (expr-by k (sym e), only-null k (nodeWord s n 1) (nodeWord s n 2) (nodeWord s n 3) h1 h2 h3 h4 h5 h6 h7 h8 h9) (null-as (programOf s) Γ n o)
+
+  -- A node of a kind without a last part.
+  pub at-plain : (k : ℕ) {r : Answer} → nodeWord s n 0 ≡ k → isNull (lastOf (build n (exprAt s) (nodeBy s n k))) ≡ false → pointOf (lastOf (build n (exprAt s) (nodeBy s n k))) ≡ n
+      → Inferred s facts env (exprAt s n) r → GivenAs s facts env (exprAt s n) (givenBy n r)
+  at-plain k {r} e h l er Γ g o =
+      by-as (programOf s) n o r ∙ rw (er Γ g, expr-by k e, plain-as (programOf s) Γ (build n (exprAt s) (nodeBy s n k)) o h, l)
 
   -- A write: its field, and its value.
   module _ (e : nodeWord s n 0 ≡ 3) (v : Answer) (ev : Inferred s facts env (select n (nodeWord s n 1) (nodeWord s n 2)) v) where
@@ -360,20 +383,23 @@ module _ {s starts facts env : List ℕ} {n : Point} (a : At s starts facts env 
         call-done u y Γ g = rw (called Γ g, y)
 
   -- A let: its value, whose type fits a word with 1 more, and its body, under one more variable.
-  module _ (b : ℕ) (r : Answer) (e : nodeWord s n 0 ≡ 5) (eb : b ≡ nodeWord s n 2) (er : Inferred s facts env (exprAt s b) r) where
-    pub let-first : (q : Question) (m : Point) → r ≡ Faulty q m → Inferred s facts env (exprAt s n) r
+  module _ (b : ℕ) (r f : Given) (e : nodeWord s n 0 ≡ 5) (eb : b ≡ nodeWord s n 2) (er : GivenAs s facts env (exprAt s b) r) (ef : f ≡ noNull r) where
+    pub let-first : OneOf (1 ∷ 2 ∷ []) (tagOf the-type f) → GivenAs s facts env (exprAt s n) f
     unfolding kindOf answer
-    let-first q m k Γ g = rw (expr-by 5 e, ← eb, ← er Γ g, k)
+    let-first h Γ g o = rw (expr-by 5 e, ← eb, ← er Γ g infers, ef) (no-null-no (programOf s) o r _ (rw ef at h))
 
-    module _ (t : ℕ) (k : r ≡ Typed t) where
-      pub let-body : (Γ : List Slot) → EnvIs s facts env Γ
-          → inferred (programOf s) Γ (exprAt s n) ≡ inferred (programOf s) (record { name = nodeWord s n 1; type = t } ∷ Γ) (exprAt s (nodeWord s n 3))
+    module _ (t : ℕ) (m : Point) (k : f ≡ typed-at t m) where
+      value-typed : inferredAs r ≡ Typed t
+      value-typed = no-null-typed r t m (sym ef ∙ k)
+
+      let-body : (Γ : List Slot) → EnvIs s facts env Γ → (o : Aim)
+          → answer (programOf s) Γ (exprAt s n) o ≡ answer (programOf s) (record { name = nodeWord s n 1; type = t } ∷ Γ) (exprAt s (nodeWord s n 3)) o
       unfolding kindOf answer
-      let-body Γ g = rw (expr-by 5 e, ← eb, ← er Γ g, k)
+      let-body Γ g o = rw (expr-by 5 e, ← eb, ← er Γ g infers, value-typed)
 
       value-type : (Γ : List Slot) → EnvIs s facts env Γ → IsType (programOf s) t
       unfolding kindOf
-      value-type Γ g = inferred-type (a .within) b (part 5 b (nodeWord s n 2) e eb first .there) facts env Γ g t (sym (er Γ g) ∙ k)
+      value-type Γ g = inferred-type (a .within) b (part 5 b (nodeWord s n 2) e eb first .there) facts env Γ g t (sym (er Γ g infers) ∙ value-typed)
 
       pub let-small : t ≤ INTERFACES + CLASSES
       let-small = type-small (a .within) t (value-type (a .variables) (a .environment))
@@ -394,8 +420,8 @@ module _ {s starts facts env : List ℕ} {n : Point} (a : At s starts facts env 
               environment = rw e₁ (bound-let (a .variables) (a .environment));
             }
 
-        pub let-last : (c : Point) (o : Answer) → c ≡ nodeWord s n 3 → Inferred s facts (set env₁ (getD facts n 0) (t + 1)) (exprAt s c) o → Inferred s facts env (exprAt s n) o
-        let-last c o ec eo Γ g = rw (let-body Γ g, ← ec) (eo (record { name = nodeWord s n 1; type = t } ∷ Γ) (rw e₁ (bound-let Γ g)))
+        pub let-last : (c : Point) (v : Given) → c ≡ nodeWord s n 3 → GivenAs s facts (set env₁ (getD facts n 0) (t + 1)) (exprAt s c) v → GivenAs s facts env (exprAt s n) v
+        let-last c v ec ev Γ g o = rw (let-body Γ g o, ← ec) (ev (record { name = nodeWord s n 1; type = t } ∷ Γ) (rw e₁ (bound-let Γ g)) o)
 
   -- A cast is its operand, checked.
   pub at-cast : (t b : ℕ) (r : Answer) → nodeWord s n 0 ≡ 7 → t ≡ nodeWord s n 1 → b ≡ nodeWord s n 2 → Checked s facts env (exprAt s b) t r → Inferred s facts env (exprAt s n) r
@@ -408,52 +434,43 @@ module _ {s starts facts env : List ℕ} {n : Point} (a : At s starts facts env 
     unfolding kindOf
     flag = a .known .forks .flags n (nodeWord s n 1) (nodeWord s n 2) (nodeWord s n 3) (a .there) (view-kind (a .within) n (a .there) 8 e)
 
-    pub fork-shared : getD facts n 0 ≡ 1 → Inferred s facts env (exprAt s n) (Faulty Sharing n)
+    pub fork-shared : getD facts n 0 ≡ 1 → GivenAs s facts env (exprAt s n) (faulty-at Sharing n)
     unfolding kindOf answer
-    fork-shared k Γ g = rw (expr-by 8 e) (shared-is n (shares (fv (exprAt s (nodeWord s n 1))) (fv (exprAt s (nodeWord s n 2)))) _ (sym flag ∙ k))
+    fork-shared k Γ g o =
+        rw (expr-by 8 e) (fault-as (programOf s) o Sharing n ∙ shared-is n (shares (fv (exprAt s (nodeWord s n 1))) (fv (exprAt s (nodeWord s n 2)))) _ (sym flag ∙ k))
 
-    module _ (k : getD facts n 0 ≡ 1 → ⊥) (b : ℕ) (r : Answer) (eb : b ≡ nodeWord s n 1) (er : Inferred s facts env (exprAt s b) r) where
-      forked : (Γ : List Slot) → EnvIs s facts env Γ → inferred (programOf s) Γ (exprAt s n) ≡ andThen r (λ t. andThen (inferred (programOf s) Γ (exprAt s (nodeWord s n 2))) (λ u. inferred (programOf s) Γ (exprAt s (nodeWord s n 3))))
+    module _ (k : getD facts n 0 ≡ 1 → ⊥) (b : ℕ) (r : Given) (eb : b ≡ nodeWord s n 1) (er : GivenAs s facts env (exprAt s b) r) where
+      forked : (Γ : List Slot) → EnvIs s facts env Γ → (o : Aim)
+          → answer (programOf s) Γ (exprAt s n) o ≡ andThen (inferredAs r) (λ t. andThen (inferred (programOf s) Γ (exprAt s (nodeWord s n 2))) (λ u. answer (programOf s) Γ (exprAt s (nodeWord s n 3)) o))
       unfolding kindOf answer
-      forked Γ g = rw (expr-by 8 e, er Γ g, eb) (apart-is n (shares (fv (exprAt s (nodeWord s n 1))) (fv (exprAt s (nodeWord s n 2)))) _ (λ z. k (flag ∙ z)))
+      forked Γ g o = rw (expr-by 8 e, er Γ g infers, eb) (apart-is n (shares (fv (exprAt s (nodeWord s n 1))) (fv (exprAt s (nodeWord s n 2)))) _ (λ z. k (flag ∙ z)))
 
-      pub fork-left : (q : Question) (m : Point) → r ≡ Faulty q m → Inferred s facts env (exprAt s n) r
-      fork-left q m f Γ g = rw (forked Γ g, f)
+      module _ (f : Given) (ef : f ≡ noNull r) where
+        pub fork-left : OneOf (1 ∷ 2 ∷ []) (tagOf the-type f) → GivenAs s facts env (exprAt s n) f
+        fork-left h Γ g o = rw (forked Γ g o, ef) (no-null-no (programOf s) o r _ (rw ef at h))
 
-      module _ (t : ℕ) (f : r ≡ Typed t) (c : ℕ) (o : Answer) (ec : c ≡ nodeWord s n 2) (eo : Inferred s facts env (exprAt s c) o) where
-        pub fork-right : (q : Question) (m : Point) → o ≡ Faulty q m → Inferred s facts env (exprAt s n) o
-        fork-right q m y Γ g = rw (forked Γ g, f, ← ec, ← eo Γ g, y)
+        module _ (t : ℕ) (m : Point) (ft : f ≡ typed-at t m) (c : ℕ) (v h : Given) (ec : c ≡ nodeWord s n 2) (ev : GivenAs s facts env (exprAt s c) v) (eh : h ≡ noNull v) where
+          pub fork-right : OneOf (1 ∷ 2 ∷ []) (tagOf the-type h) → GivenAs s facts env (exprAt s n) h
+          fork-right z Γ g o = rw (forked Γ g o, no-null-typed r t m (sym ef ∙ ft), ← ec, ← ev Γ g infers, eh) (no-null-no (programOf s) o v _ (rw eh at z))
 
-        pub fork-last : (u d : ℕ) (l : Answer) → o ≡ Typed u → d ≡ nodeWord s n 3 → Inferred s facts env (exprAt s d) l → Inferred s facts env (exprAt s n) l
-        fork-last u d l y ed el Γ g = rw (forked Γ g, f, ← ec, ← eo Γ g, y, ← ed) (el Γ g)
+          pub fork-last : (u : ℕ) (l : Point) (d : ℕ) (w : Given) → h ≡ typed-at u l → d ≡ nodeWord s n 3 → GivenAs s facts env (exprAt s d) w → GivenAs s facts env (exprAt s n) w
+          fork-last u l d w ht ed ew Γ g o = rw (forked Γ g o, no-null-typed r t m (sym ef ∙ ft), ← ec, ← ev Γ g infers, no-null-typed v u l (sym eh ∙ ht), ← ed) (ew Γ g o)
 
   -- A lock: its target, and its part.
   module _ (e : nodeWord s n 0 ≡ 9) (v : Answer) (ev : Inferred s facts env (var n (nodeWord s n 1)) v) where
-    pub lock-unbound : (q : Question) (m : Point) → v ≡ Faulty q m → Inferred s facts env (exprAt s n) v
+    pub lock-unbound : (q : Question) (m : Point) → v ≡ Faulty q m → GivenAs s facts env (exprAt s n) (givenBy n v)
     unfolding kindOf
-    lock-unbound q m k Γ g = rw (expr-by 9 e, lock-is (programOf s) Γ n (nodeWord s n 1) (exprAt s (nodeWord s n 2)), ← ev Γ g, k)
+    lock-unbound q m k Γ g o =
+        rw (expr-by 9 e, lock-is (programOf s) Γ n (nodeWord s n 1) (exprAt s (nodeWord s n 2)) o, ← ev Γ g, k) (fault-as (programOf s) o q m)
 
-    pub lock-part : (t b : ℕ) (r : Answer) → v ≡ Typed t → b ≡ nodeWord s n 2 → Inferred s facts env (exprAt s b) r → Inferred s facts env (exprAt s n) r
+    pub lock-part : (t b : ℕ) (r : Given) → v ≡ Typed t → b ≡ nodeWord s n 2 → GivenAs s facts env (exprAt s b) r → GivenAs s facts env (exprAt s n) r
     unfolding kindOf
-    lock-part t b r k eb er Γ g = rw (expr-by 9 e, lock-is (programOf s) Γ n (nodeWord s n 1) (exprAt s (nodeWord s n 2)), ← ev Γ g, k, ← eb) (er Γ g)
+    lock-part t b r k eb er Γ g o = rw (expr-by 9 e, lock-is (programOf s) Γ n (nodeWord s n 1) (exprAt s (nodeWord s n 2)) o, ← ev Γ g, k, ← eb) (er Γ g o)
 
-  -- A check: of a null, and of what is inferred.
-  pub check-null : (t : ℕ) → nodeWord s n 0 ≡ 0 → Checked s facts env (exprAt s n) t (Typed t)
-  unfolding kindOf answer
-  check-null t e Γ g = rw (expr-by 0 e)
+-- What is answered by what a node gives, where it is inferred and where it is checked.
+module _ {s facts env : List ℕ} (e : Expr) (r : Given) (er : GivenAs s facts env e r) where
+  pub given-inferred : Inferred s facts env e (inferredAs r)
+  given-inferred Γ g = er Γ g infers
 
-  module _ (k t : ℕ) (r : Answer) (e : k ≡ nodeWord s n 0) (z : k ≡ 0 → ⊥) (er : Inferred s facts env (exprAt s n) r) where
-    solid : isNull (exprAt s n) ≡ false
-    solid = rw (expr-by k (sym e)) (not-null n (exprAt s) k (nodeWord s n 1) (nodeWord s n 2) (nodeWord s n 3) z (rw e (known s (a .within) n (a .there))))
-
-    place : pointOf (exprAt s n) ≡ n
-    place = rw (expr-by k (sym e)) (point-of n (exprAt s) (nodeBy s n k))
-
-    pub check-fault : (q : Question) (m : Point) → r ≡ Faulty q m → Checked s facts env (exprAt s n) t r
-    check-fault q m f Γ g = rw (checked-as (programOf s) Γ (exprAt s n) t solid, ← er Γ g, f)
-
-    pub check-no : (u : ℕ) → r ≡ Typed u → below (programOf s) u t ≡ false → Checked s facts env (exprAt s n) t (Faulty Fits n)
-    check-no u f y Γ g = rw (checked-as (programOf s) Γ (exprAt s n) t solid, place, ← er Γ g, f, y)
-
-    pub check-yes : (u : ℕ) → r ≡ Typed u → below (programOf s) u t ≡ true → Checked s facts env (exprAt s n) t (Typed t)
-    check-yes u f y Γ g = rw (checked-as (programOf s) Γ (exprAt s n) t solid, ← er Γ g, f, y)
+  pub given-checked : (t : ℕ) {a : Answer} → a ≡ answerAs (programOf s) (checks t) r → Checked s facts env e t a
+  given-checked t f Γ g = f ∙ er Γ g (checks t)

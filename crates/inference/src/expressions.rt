@@ -1,4 +1,5 @@
 // The walk over an expression: its type, or the question that gets a no and the node.
+use crate::Given;
 use members::Member;
 use members::field_type;
 use members::is_below;
@@ -10,9 +11,44 @@ use typing::Answer;
 ghost use mathlib.Core.Path.{_≡_};
 ghost use Rattle.script.specs.Section.{nodeWord};
 ghost use Rattle.script.specs.Syntax.{var, select};
-ghost use Rattle.script.specs.Reading.{exprAt};
+ghost use Rattle.script.specs.Reading.{programOf, exprAt};
+ghost use Rattle.script.specs.Statements.{WithinLayout};
+ghost use Rattle.typing.specs.declared.Aim.the-variants.{Checks as checks};
 ghost use Rattle.members.specs.Tables.{Starts};
 ghost use Rattle.inference.specs.At.{Target, At, Inferred, Checked};
+ghost use Rattle.inference.specs.Given.{inferredAs, answerAs, noNull, givenBy, GivenAs};
+
+// What is inferred for an expression that gives this: a null is inferred never.
+pub fn answer_of(g: Given) -> Answer
+    ensures { λ r. ⌜ r ≡ inferredAs g ⌝ }
+{
+    match g {
+        Given::Typed(t, _) => Answer::Typed(t),
+        Given::Null(n) => Answer::Faulty(Question::Nulls, n),
+        Given::Faulty(q, n) => Answer::Faulty(q, n),
+    }
+}
+
+// 12. "Is no null inferred?": what a part gives that is inferred.
+fn no_null(g: Given) -> Given
+    ensures { λ r. ⌜ r ≡ noNull g ⌝ }
+{
+    match g {
+        Given::Typed(t, n) => Given::Typed(t, n),
+        Given::Null(n) => Given::Faulty(Question::Nulls, n),
+        Given::Faulty(q, n) => Given::Faulty(q, n),
+    }
+}
+
+// What node n gives by what is inferred for it, where it has no last part or gets a no before that.
+fn given_by(n: u16, r: Answer) -> Given
+    ensures { λ g. ⌜ g ≡ givenBy n r ⌝ }
+{
+    match r {
+        Answer::Typed(t) => Given::Typed(t, n),
+        Answer::Faulty(q, k) => Given::Faulty(q, k),
+    }
+}
 
 // The type of the variable that node n names first.
 fn infer_var(s: &[u8], facts: &[u16], env: &[u16], n: u16) -> Answer
@@ -56,7 +92,7 @@ fn infer_update(s: &[u8], starts: &[u16], facts: &[u16], env: &mut [u16], n: u16
         return field;
     };
     let value = node_word(s, n, 3);
-    let r = check(s, starts, facts, env, value, t);
+    let r = check_part(s, starts, facts, env, value, t);
     let Answer::Typed(_) = r else {
         return r;
     };
@@ -78,22 +114,22 @@ fn infer_call(s: &[u8], starts: &[u16], facts: &[u16], env: &mut [u16], n: u16) 
         return Answer::Faulty(Question::Members, n);
     };
     let argument = node_word(s, n, 3);
-    let r = check(s, starts, facts, env, argument, param);
+    let r = check_part(s, starts, facts, env, argument, param);
     let Answer::Typed(_) = r else {
         return r;
     };
     Answer::Typed(result)
 }
 
-// A let has the type of its last part, in which its variable has the type of the first; the variable's old word is put back.
-fn infer_let(s: &[u8], starts: &[u16], facts: &[u16], env: &mut [u16], n: u16) -> Answer
+// A let gives what its last part does, in which its variable has the type of the first; the variable's old word is put back.
+fn infer_let(s: &[u8], starts: &[u16], facts: &[u16], env: &mut [u16], n: u16) -> Given
     requires { ⌜ At (now s) (now starts) (now facts) (now env) n × (nodeWord (now s) n 0 ≡ 5) ⌝ }
-    ensures { λ r. ⌜ Inferred (now (s .entry)) (now (facts .entry)) (now (env .entry)) (exprAt (now (s .entry)) n) r ⌝ }
+    ensures { λ r. ⌜ GivenAs (now (s .entry)) (now (facts .entry)) (now (env .entry)) (exprAt (now (s .entry)) n) r ⌝ }
     ensures { λ r. ⌜ now (env .exit) ≡ now (env .entry) ⌝ }
 {
     let value = node_word(s, n, 2);
-    let first = infer(s, starts, facts, env, value);
-    let Answer::Typed(t) = first else {
+    let first = no_null(infer(s, starts, facts, env, value));
+    let Given::Typed(t, _) = first else {
         return first;
     };
     let rank = facts[n as usize] as usize;
@@ -113,83 +149,105 @@ fn infer_cast(s: &[u8], starts: &[u16], facts: &[u16], env: &mut [u16], n: u16) 
 {
     let t = node_word(s, n, 1);
     let operand = node_word(s, n, 2);
-    check(s, starts, facts, env, operand, t)
+    check_part(s, starts, facts, env, operand, t)
 }
 
-// A fork has the type of its last part, where its asyncs share no variable and have types.
-fn infer_fork(s: &[u8], starts: &[u16], facts: &[u16], env: &mut [u16], n: u16) -> Answer
+// A fork gives what its last part does, where its asyncs share no variable and have types.
+fn infer_fork(s: &[u8], starts: &[u16], facts: &[u16], env: &mut [u16], n: u16) -> Given
     requires { ⌜ At (now s) (now starts) (now facts) (now env) n × (nodeWord (now s) n 0 ≡ 8) ⌝ }
-    ensures { λ r. ⌜ Inferred (now (s .entry)) (now (facts .entry)) (now (env .entry)) (exprAt (now (s .entry)) n) r ⌝ }
+    ensures { λ r. ⌜ GivenAs (now (s .entry)) (now (facts .entry)) (now (env .entry)) (exprAt (now (s .entry)) n) r ⌝ }
     ensures { λ r. ⌜ now (env .exit) ≡ now (env .entry) ⌝ }
 {
     if facts[n as usize] == 1 {
-        return Answer::Faulty(Question::Sharing, n);
+        return Given::Faulty(Question::Sharing, n);
     }
     let a = node_word(s, n, 1);
-    let left = infer(s, starts, facts, env, a);
-    let Answer::Typed(_) = left else {
+    let left = no_null(infer(s, starts, facts, env, a));
+    let Given::Typed(_, _) = left else {
         return left;
     };
     let b = node_word(s, n, 2);
-    let right = infer(s, starts, facts, env, b);
-    let Answer::Typed(_) = right else {
+    let right = no_null(infer(s, starts, facts, env, b));
+    let Given::Typed(_, _) = right else {
         return right;
     };
     let c = node_word(s, n, 3);
     infer(s, starts, facts, env, c)
 }
 
-// A lock has the type of its part, where its variable has a type.
-fn infer_lock(s: &[u8], starts: &[u16], facts: &[u16], env: &mut [u16], n: u16) -> Answer
+// A lock gives what its part does, where its variable has a type.
+fn infer_lock(s: &[u8], starts: &[u16], facts: &[u16], env: &mut [u16], n: u16) -> Given
     requires { ⌜ At (now s) (now starts) (now facts) (now env) n × (nodeWord (now s) n 0 ≡ 9) ⌝ }
-    ensures { λ r. ⌜ Inferred (now (s .entry)) (now (facts .entry)) (now (env .entry)) (exprAt (now (s .entry)) n) r ⌝ }
+    ensures { λ r. ⌜ GivenAs (now (s .entry)) (now (facts .entry)) (now (env .entry)) (exprAt (now (s .entry)) n) r ⌝ }
     ensures { λ r. ⌜ now (env .exit) ≡ now (env .entry) ⌝ }
 {
     let target = infer_var(s, facts, env, n);
     let Answer::Typed(_) = target else {
-        return target;
+        return given_by(n, target);
     };
     let part = node_word(s, n, 2);
     infer(s, starts, facts, env, part)
 }
 
-// The type of node n. A null is inferred never.
-pub fn infer(s: &[u8], starts: &[u16], facts: &[u16], env: &mut [u16], n: u16) -> Answer
+// What node n gives.
+pub fn infer(s: &[u8], starts: &[u16], facts: &[u16], env: &mut [u16], n: u16) -> Given
     requires { ⌜ At (now s) (now starts) (now facts) (now env) n ⌝ }
-    ensures { λ r. ⌜ Inferred (now (s .entry)) (now (facts .entry)) (now (env .entry)) (exprAt (now (s .entry)) n) r ⌝ }
+    ensures { λ r. ⌜ GivenAs (now (s .entry)) (now (facts .entry)) (now (env .entry)) (exprAt (now (s .entry)) n) r ⌝ }
     ensures { λ r. ⌜ now (env .exit) ≡ now (env .entry) ⌝ }
 {
     let kind = node_word(s, n, 0);
     match kind {
-        1 => infer_var(s, facts, env, n),
-        2 => infer_select(s, starts, facts, env, n),
-        3 => infer_update(s, starts, facts, env, n),
-        4 => infer_call(s, starts, facts, env, n),
+        1 => given_by(n, infer_var(s, facts, env, n)),
+        2 => given_by(n, infer_select(s, starts, facts, env, n)),
+        3 => given_by(n, infer_update(s, starts, facts, env, n)),
+        4 => given_by(n, infer_call(s, starts, facts, env, n)),
         5 => infer_let(s, starts, facts, env, n),
-        6 => Answer::Typed(node_word(s, n, 1)),
-        7 => infer_cast(s, starts, facts, env, n),
+        6 => Given::Typed(node_word(s, n, 1), n),
+        7 => given_by(n, infer_cast(s, starts, facts, env, n)),
         8 => infer_fork(s, starts, facts, env, n),
         9 => infer_lock(s, starts, facts, env, n),
-        _ => Answer::Faulty(Question::Nulls, n),
+        _ => Given::Null(n),
     }
 }
 
-// Has node n the type t? A null has every type, and any other node the types that its own is below.
+// What an expression that gives this comes to where it is checked against t: a null has every type, and so has what ends in one; any other has the types that
+// its own is below, which is asked of its innermost last part.
+fn given_fits(s: &[u8], starts: &[u16], g: Given, t: u16) -> Answer
+    requires { ⌜ WithinLayout (now s) × Starts (now s) (now starts) ⌝ }
+    ensures { λ r. ⌜ r ≡ answerAs (programOf (now (s .entry))) (checks t) g ⌝ }
+{
+    match g {
+        Given::Typed(u, last) => {
+            if !is_below(s, starts, u, t) {
+                return Answer::Faulty(Question::Fits, last);
+            }
+            Answer::Typed(t)
+        }
+        Given::Null(_) => Answer::Typed(t),
+        Given::Faulty(q, k) => Answer::Faulty(q, k),
+    }
+}
+
+// Has node n the type t?
 pub fn check(s: &[u8], starts: &[u16], facts: &[u16], env: &mut [u16], n: u16, t: u16) -> Answer
     requires { ⌜ At (now s) (now starts) (now facts) (now env) n ⌝ }
     ensures { λ r. ⌜ Checked (now (s .entry)) (now (facts .entry)) (now (env .entry)) (exprAt (now (s .entry)) n) t r ⌝ }
     ensures { λ r. ⌜ now (env .exit) ≡ now (env .entry) ⌝ }
 {
+    let g = infer(s, starts, facts, env, n);
+    given_fits(s, starts, g, t)
+}
+
+// The same of a node's part, which is most often a variable: its type is at hand, and no call is made for it.
+fn check_part(s: &[u8], starts: &[u16], facts: &[u16], env: &mut [u16], n: u16, t: u16) -> Answer
+    requires { ⌜ At (now s) (now starts) (now facts) (now env) n ⌝ }
+    ensures { λ r. ⌜ Checked (now (s .entry)) (now (facts .entry)) (now (env .entry)) (exprAt (now (s .entry)) n) t r ⌝ }
+    ensures { λ r. ⌜ now (env .exit) ≡ now (env .entry) ⌝ }
+{
     let kind = node_word(s, n, 0);
-    if kind == 0 {
-        return Answer::Typed(t);
+    if kind != 1 {
+        return check(s, starts, facts, env, n, t);
     }
-    let r = infer(s, starts, facts, env, n);
-    let Answer::Typed(u) = r else {
-        return r;
-    };
-    if !is_below(s, starts, u, t) {
-        return Answer::Faulty(Question::Fits, n);
-    }
-    Answer::Typed(t)
+    let g = given_by(n, infer_var(s, facts, env, n));
+    given_fits(s, starts, g, t)
 }

@@ -1,4 +1,5 @@
 // The walk over a whole script: every body in method order, then the start.
+use crate::expressions::answer_of;
 use crate::expressions::check;
 use crate::expressions::infer;
 use limits::Limits;
@@ -74,5 +75,5 @@ pub fn walk_script(s: &[u8], starts: &[u16], facts: &[u16], env: &mut [u16]) -> 
         };
         c += 1;
     }
-    infer(s, starts, facts, env, 0)
+    answer_of(infer(s, starts, facts, env, 0))
 }

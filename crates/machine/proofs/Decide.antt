@@ -13,22 +13,24 @@ use borrow.Author.Tests.{leb-true, le-leb, ltb-true, lt-ltb}
 use Rattle.script.specs.Lists.{_∈_}
 use Rattle.script.specs.Asking.{Decides, holds, fails}
 use Rattle.script.specs.Questions.{allOf}
-use Rattle.script.specs.Syntax.{Point, Node, n-null, n-var, n-select, n-update, n-call, n-bind, n-new, n-cast, n-fork, n-lock, Expr, null, var, select, update, call, bind, new, cast, fork, lock, isNull, parts, Slot, Signature}
+use Rattle.script.specs.Syntax.{Point, Node, n-null, n-var, n-select, n-update, n-call, n-bind, n-new, n-cast, n-fork, n-lock, Expr, cast, isNull, parts, Slot, Signature}
 use Rattle.script.specs.Regular.{IsType, IsClass, Formed}
 use Rattle.script.proofs.Tests.{says-yes, yes-said, decides-as, decides-and, decides-or, decides-not, decides-eq, decides-le, decides-lt, decides-all}
 use Rattle.script.proofs.Reading.{first, second}
-use Rattle.typing.specs.declared.Aim.the-variants.{Infers as infers}
+use Rattle.typing.specs.declared.Aim.the-variants.{Infers as infers, Checks as checks}
 use Rattle.typing.specs.declared.Answer.{Answer}
 use Rattle.typing.specs.declared.Answer.the-variants.{Typed, Faulty}
 use Rattle.typing.specs.Environments.{TypeOf}
 use Rattle.typing.specs.Members.{typeIn, fieldIn, methodIn, fieldsOf}
-use Rattle.typing.specs.Typing.{inferred}
-use Rattle.typing.specs.Published.{WfType, Sub, WfEnv, WF-ENV, MsigIn}
+use Rattle.typing.specs.Typing.{inferred, checked}
+use Rattle.typing.specs.Published.{WfType, T-WF-UNIT, Sub, WfEnv, WF-ENV, MsigIn, Infer, Check}
+use Rattle.typing.specs.Refusals.{lastOf}
 use Rattle.typing.proofs.Environments.{type-in, typed-exactly}
 use Rattle.typing.proofs.Types.{type-wf}
 use Rattle.typing.proofs.Subtype.{decides-below}
-use Rattle.typing.proofs.Members.{field-in, method-in, method-only, signature-types}
-use Rattle.typing.proofs.Rules.{infer-type, Judged, types, refuses, env-more, judged, inferred-typed}
+use Rattle.typing.proofs.Members.{field-in, field-type, method-in, method-only, signature-types}
+use Rattle.typing.proofs.NullEnds.{plain-infers, null-ends}
+use Rattle.typing.proofs.Rules.{infer-type, Judged, types, passes, refuses, judged, inferred-typed}
 use Rattle.machine.specs.declared.Value.{Value}
 use Rattle.machine.specs.declared.Value.the-variants.{Null as nil, Ref as ref}
 use Rattle.machine.specs.declared.Frame.{Frame}
@@ -37,10 +39,10 @@ use Rattle.machine.specs.Config.{Code, Object, Binding, Stores, Tree, ru
 use Rattle.machine.specs.Machine.{scope, slot, context, object, Places}
 use Rattle.machine.specs.declared.Want.{Want}
 use Rattle.machine.specs.declared.Want.the-variants.{Any as any, Upto as upto}
-use Rattle.machine.specs.WellFormed.{Meets, meets-any, meets-type, ValueFits, fits-nil, fits-ref, Gives, gives-null, gives-type, NodeGives, BindingOk, BindingsOk, no-bindings, a-binding, FieldsOk, no-fields, a-field, StoresOk, Awaits, a-let, a-write, a-call, FramesOk, no-frames, a-node, a-cast, a-lock, TreeOk, running-ok, returning-ok, failed-ok, join-ok, lockCount, failures, shutAt, Within, WellFormed}
+use Rattle.machine.specs.WellFormed.{Meets, meets-any, meets-type, ValueFits, fits-nil, fits-ref, Gives, gives-type, NodeGives, BindingOk, BindingsOk, no-bindings, a-binding, FieldsOk, no-fields, a-field, StoresOk, Awaits, a-let, a-write, a-call, FramesOk, no-frames, a-node, a-cast, a-lock, TreeOk, running-ok, returning-ok, failed-ok, join-ok, lockCount, failures, shutAt, Within, WellFormed}
 use Rattle.machine.specs.Accepted.{LaterPart, AcceptedCode}
-use Rattle.machine.specs.Decide.{given, ifTyped, only, meetsTest, objectTest, valueFitsTest, answerTest, givesTest, atTest, isClassTest, fieldsTest, bindingTest, bindingsTest, storesTest, awaited, castType, expects, wantTest, treeTest, lockList, distinctTest, numbersBelow, coveredTest, withinLimitsTest, wellFormedTest}
-use Rattle.machine.proofs.Types.{null-meets, infer-computes, rules-function}
+use Rattle.machine.specs.Decide.{given, ifTyped, only, meetsTest, objectTest, valueFitsTest, isTyped, givesTest, atTest, isClassTest, fieldsTest, bindingTest, bindingsTest, storesTest, awaited, castType, expects, wantTest, treeTest, lockList, distinctTest, numbersBelow, coveredTest, withinLimitsTest, wellFormedTest}
+use Rattle.machine.proofs.Types.{null-meets, check-gives, infer-computes, check-computes, env-next, gives-checks, gives-some, rules-function, start-type}
 use Rattle.machine.proofs.Locks.{lock-listed}
 
 -- a second test that decides where the first passes
@@ -101,18 +103,6 @@ cond-types {s} (a-binding {b = c} {bs = bs} h ok) e b m = go (eqb e (suc (length
 pub context-wf : {s : Code} {xs : List Object} {bs : List Binding} → BindingsOk s xs bs → (e : ℕ) → WfEnv (s .program) (context bs e)
 context-wf ok e = WF-ENV (cond-types ok e)
 
-null-gives : {s : Code} {Γ : List Slot} {w : Want} (e : Expr) → isNull e ≡ true → Gives s Γ e w
-null-gives {w = w} (null n) h = gives-null (null-meets w)
-null-gives (var n x) h = absurd (let z : _≡_ {A = ℕ} 0 1 = cc in omega arith)
-null-gives (select n x f) h = absurd (let z : _≡_ {A = ℕ} 0 1 = cc in omega arith)
-null-gives (update n x f a) h = absurd (let z : _≡_ {A = ℕ} 0 1 = cc in omega arith)
-null-gives (call n x m a) h = absurd (let z : _≡_ {A = ℕ} 0 1 = cc in omega arith)
-null-gives (bind n x a b) h = absurd (let z : _≡_ {A = ℕ} 0 1 = cc in omega arith)
-null-gives (new n c) h = absurd (let z : _≡_ {A = ℕ} 0 1 = cc in omega arith)
-null-gives (cast n t a) h = absurd (let z : _≡_ {A = ℕ} 0 1 = cc in omega arith)
-null-gives (fork n a b c) h = absurd (let z : _≡_ {A = ℕ} 0 1 = cc in omega arith)
-null-gives (lock n x a) h = absurd (let z : _≡_ {A = ℕ} 0 1 = cc in omega arith)
-
 meets-sub : {s : Code} {t u : ℕ} → Meets s t (upto u) → Sub (s .program) t u
 meets-sub (meets-type b) = b
 
@@ -135,10 +125,6 @@ call-awaits :
     {s : Code} {Γ : List Slot} {x m c : ℕ} {a : Point} {v : Want} (g : Signature) → TypeOf Γ x c → MsigIn (s .program) c g → g .name ≡ m → Meets s (g .result) v
     → Awaits s Γ (n-call x m a) (g .param) v
 call-awaits g h i n k = rw (← n) (a-call h i k)
-
-answer-typed : (s : Code) (v : Want) (r : Answer) → answerTest s r v ≡ true → (u : ℕ) × (r ≡ Typed u) × (meetsTest s u v ≡ true)
-answer-typed s v (Typed u) h = (u, refl, h)
-answer-typed s v (Faulty q n) h = absurd (let z : _≡_ {A = ℕ} 0 1 = cc in omega arith)
 
 cast-view : (n : Node) (t : ℕ) → castType n ≡ some t → (a : Point) × (n ≡ n-cast t a)
 cast-view n-null t h = absurd (Option·none-ne-some _ h)
@@ -194,38 +180,56 @@ module _ {s : Code} {start : ℕ} (acc : AcceptedCode s start) where
       (λ classes.
       decides-and (decides-every _ _ (st .objects) (λ x. decides-fields (st .objects) classes (fieldsOf (s .program) (x .class)) (x .fields))) (decides-bindings (st .objects) classes (st .bindings))))
 
-  -- an expression
-  gives-back : {Γ : List Slot} {e : Expr} {t : ℕ} {w : Want} → Gives s Γ e w → isNull e ≡ false → inferred (s .program) Γ e ≡ Typed t → Meets s t w
-  gives-back (gives-null m) n i = absurd (let z : _≡_ {A = ℕ} 0 1 = cc in omega arith)
-  gives-back {t = t} (gives-type {t = u} h m) n i = let k = infer-computes acc h in let q : u ≡ t = cc in rw q at m
+  -- an expression; what is wanted is a type
+  WantType : Want → Type 0
+  WantType any = Unit {0}
+  WantType (upto t) = IsType (s .program) t
 
-  gives-never : {Γ : List Slot} {e : Expr} {w : Want} → Gives s Γ e w → isNull e ≡ false → ((t : ℕ) → inferred (s .program) Γ e ≡ Typed t → ⊥) → ⊥
-  gives-never (gives-null m) n i = let z : _≡_ {A = ℕ} 0 1 = cc in omega arith
-  gives-never (gives-type h m) n i = i _ (infer-computes acc h)
+  gives-upto : {Γ : List Slot} {e : Expr} {t : ℕ} {r : Answer} → WfEnv (s .program) Γ → IsType (s .program) t → Judged (s .program) Γ e (checks t) r → checked (s .program) Γ e t ≡ r
+      → Decides (Gives s Γ e (upto t)) (isTyped r)
+  gives-upto env i (passes c) e = holds (check-gives c)
+  gives-upto {t = t} env i (refuses n) e =
+      fails (λ g. let c = check-computes acc (gives-checks acc env (type-wf (s .program) t .0 i) .0 g) in let z : _≡_ {A = ℕ} 0 1 = cc in omega arith)
 
-  gives-judged : {Γ : List Slot} {e : Expr} {r : Answer} → Judged (s .program) Γ e infers r → inferred (s .program) Γ e ≡ r → (w : Want) → isNull e ≡ false → Decides (Gives s Γ e w) (answerTest s r w)
-  gives-judged (types {t = t} h) e w n = decides-as (gives-type h) (λ g. gives-back g n e) (decides-meets t w (infer-type (s .program) (acc .regular) h))
-  gives-judged (refuses h) e w n = fails (λ g. gives-never g n (λ t k. let z : _≡_ {A = ℕ} 0 1 = cc in omega arith))
-
-  decides-gives : (Γ : List Slot) (e : Expr) (w : Want) → WfEnv (s .program) Γ → Formed (s .program) e → Decides (Gives s Γ e w) (givesTest s Γ e w)
-  decides-gives Γ e w env f = go (isNull e) refl
+  -- what is checked against some type is inferred, or checked against Unit
+  some-type : {Γ : List Slot} {e : Expr} {t : ℕ} → Check (s .program) Γ e t → ((u : ℕ) × Infer (s .program) Γ e u) ⊎ Check (s .program) Γ e 0
+  some-type {Γ} {e} {t} c = go (isNull (lastOf e)) refl
     where
-      go : (q : Bool) → isNull e ≡ q → Decides (Gives s Γ e w) (q || answerTest s (inferred (s .program) Γ e) w)
-      go true n = holds (null-gives e n)
-      go false n = gives-judged (judged (s .program) (acc .regular) Γ e infers env tt f) refl w n
+      go : (b : Bool) → isNull (lastOf e) ≡ b → ((u : ℕ) × Infer (s .program) Γ e u) ⊎ Check (s .program) Γ e 0
+      go true h = inr (null-ends h T-WF-UNIT c)
+      go false h = let r = plain-infers (s .program) Γ e t h .0 c in inl (r .0, r .1)
 
-  decides-at : (Γ : List Slot) (a : Point) (w : Want) → WfEnv (s .program) Γ → Decides (NodeGives s Γ a w) (atTest s Γ a w)
-  decides-at Γ a w env =
+  gives-any : {Γ : List Slot} {e : Expr} {r o : Answer} → WfEnv (s .program) Γ → Judged (s .program) Γ e infers r → inferred (s .program) Γ e ≡ r → Judged (s .program) Γ e (checks 0) o
+      → checked (s .program) Γ e 0 ≡ o → Decides (Gives s Γ e any) (isTyped r || isTyped o)
+  gives-any env (types h) e j k = holds (gives-type h meets-any)
+  gives-any env (refuses n) e (passes c) k = holds (gives-some acc env .1 (0, c))
+  gives-any env (refuses n) e (refuses m) k =
+      fails
+      (λ g.
+      ⊎-elim
+      (λ h. let i = infer-computes acc (h .1) in let z : _≡_ {A = ℕ} 0 1 = cc in omega arith)
+      (λ c. let i = check-computes acc c in let z : _≡_ {A = ℕ} 0 1 = cc in omega arith)
+      (some-type (gives-some acc env .0 g .1)))
+
+  decides-gives : (Γ : List Slot) (e : Expr) (w : Want) → WfEnv (s .program) Γ → WantType w → Formed (s .program) e → Decides (Gives s Γ e w) (givesTest s Γ e w)
+  unfolding WantType
+  decides-gives Γ e any env i f =
+      let j = judged (s .program) (acc .regular) Γ e in
+      gives-any env (j infers env tt f) refl (j (checks 0) env (omega arith) f) refl
+  decides-gives Γ e (upto t) env i f = gives-upto env i (judged (s .program) (acc .regular) Γ e (checks t) env i f) refl
+
+  decides-at : (Γ : List Slot) (a : Point) (w : Want) → WfEnv (s .program) Γ → WantType w → Decides (NodeGives s Γ a w) (atTest s Γ a w)
+  decides-at Γ a w env i =
       decides-as (λ h. record { node = h .0; gives = h .1 }) (λ h. (h .node, h .gives))
-      (decides-then (decides-lt a (s .size)) (λ l. decides-gives Γ (s .expr a) w env (acc .formed a l)))
+      (decides-then (decides-lt a (s .size)) (λ l. decides-gives Γ (s .expr a) w env i (acc .formed a l)))
 
   -- a node that waits
-  awaited-sound : (Γ : List Slot) (i : Point) (n : Node) (v : Want) → WfEnv (s .program) Γ → ((q : Point) → q ∈ parts n → LaterPart s i q) → (w : Want) → awaited s Γ n v ≡ some w
+  awaited-sound : (Γ : List Slot) (i : Point) (n : Node) (v : Want) → WfEnv (s .program) Γ → WantType v → ((q : Point) → q ∈ parts n → LaterPart s i q) → (w : Want) → awaited s Γ n v ≡ some w
       → (t : ℕ) × (w ≡ upto t) × Awaits s Γ n t v
-  awaited-sound Γ i n-null v env y w h = absurd (Option·none-ne-some _ h)
-  awaited-sound Γ i (n-var x) v env y w h = absurd (Option·none-ne-some _ h)
-  awaited-sound Γ i (n-select x f) v env y w h = absurd (Option·none-ne-some _ h)
-  awaited-sound Γ i (n-update x f a) v env y w h =
+  awaited-sound Γ i n-null v env wt y w h = absurd (Option·none-ne-some _ h)
+  awaited-sound Γ i (n-var x) v env wt y w h = absurd (Option·none-ne-some _ h)
+  awaited-sound Γ i (n-select x f) v env wt y w h = absurd (Option·none-ne-some _ h)
+  awaited-sound Γ i (n-update x f a) v env wt y w h =
       let p = given-some (typeIn Γ x) _ w h in
       let q = given-some (fieldIn (s .program) (p .0) f) _ w (p .2) in
       let k = only-some (meetsTest s 0 v) (some (upto (q .0))) w (q .2) in (
@@ -233,7 +237,7 @@ module _ {s : Code} {start : ℕ} (acc : AcceptedCode s start) where
         sym (some-same (upto (q .0)) w (k .1)),
         a-write (typed-exactly Γ x (p .0) .0 (p .1)) (field-in (s .program) (acc .regular) (p .0) f (q .0) .0 (q .1)) (says-yes (decides-meets 0 v (omega arith)) (k .0)),
       )
-  awaited-sound Γ i (n-call x m a) v env y w h =
+  awaited-sound Γ i (n-call x m a) v env wt y w h =
       let p = given-some (typeIn Γ x) _ w h in
       let q = given-some (methodIn (s .program) (p .0) m) _ w (p .2) in
       let k = only-some (meetsTest s (q .0 .result) v) (some (upto (q .0 .param))) w (q .2) in
@@ -243,43 +247,54 @@ module _ {s : Code} {start : ℕ} (acc : AcceptedCode s start) where
         sym (some-same (upto (q .0 .param)) w (k .1)),
         call-awaits (q .0) (typed-exactly Γ x (p .0) .0 (p .1)) (j .0) (j .1) (says-yes (decides-meets (q .0 .result) v r) (k .0)),
       )
-  awaited-sound Γ i (n-bind x a b) v env y w h =
+  awaited-sound Γ i (n-bind x a b) v env wt y w h =
       let p = typed-some (inferred (s .program) Γ (s .expr a)) _ w h in
-      let k = only-some (answerTest s (inferred (s .program) (record { name = x; type = p .0 } ∷ Γ) (s .expr b)) v) (some (upto (p .0))) w (p .2) in
-      let q = answer-typed s v (inferred (s .program) (record { name = x; type = p .0 } ∷ Γ) (s .expr b)) (k .0) in
-      let z = inferred-typed (s .program) (acc .regular) in
-      let u = z Γ (s .expr a) (p .0) env (acc .formed a (y a first .there)) (p .1) in
-      let o = env-more (s .program) Γ x (p .0) env (infer-type (s .program) (acc .regular) u) in
-      let j = z (record { name = x; type = p .0 } ∷ Γ) (s .expr b) (q .0) o (acc .formed b (y b second .there)) (q .1) in
-      (p .0, sym (some-same (upto (p .0)) w (k .1)), a-let u j (says-yes (decides-meets (q .0) v (infer-type (s .program) (acc .regular) j)) (q .2)))
-  awaited-sound Γ i (n-new c) v env y w h = absurd (Option·none-ne-some _ h)
-  awaited-sound Γ i (n-cast u a) v env y w h = absurd (Option·none-ne-some _ h)
-  awaited-sound Γ i (n-fork a b c) v env y w h = absurd (Option·none-ne-some _ h)
-  awaited-sound Γ i (n-lock x a) v env y w h = absurd (Option·none-ne-some _ h)
+      let k = only-some (givesTest s (record { name = x; type = p .0 } ∷ Γ) (s .expr b) v) (some (upto (p .0))) w (p .2) in
+      let u = inferred-typed (s .program) (acc .regular) Γ (s .expr a) (p .0) env (acc .formed a (y a first .there)) (p .1) in
+      let o = env-next acc x env u in
+      (p .0, sym (some-same (upto (p .0)) w (k .1)), a-let u (says-yes (decides-gives _ (s .expr b) v o wt (acc .formed b (y b second .there))) (k .0)))
+  awaited-sound Γ i (n-new c) v env wt y w h = absurd (Option·none-ne-some _ h)
+  awaited-sound Γ i (n-cast u a) v env wt y w h = absurd (Option·none-ne-some _ h)
+  awaited-sound Γ i (n-fork a b c) v env wt y w h = absurd (Option·none-ne-some _ h)
+  awaited-sound Γ i (n-lock x a) v env wt y w h = absurd (Option·none-ne-some _ h)
 
-  awaited-complete : {Γ : List Slot} {t : ℕ} {v : Want} (n : Node) → Awaits s Γ n t v → awaited s Γ n v ≡ some (upto t)
-  awaited-complete {v = v} (n-bind x a b) (a-let {u = u} p q m) =
-      rw (infer-computes acc p, infer-computes acc q, yes-said (decides-meets u v (infer-type (s .program) (acc .regular) q)) m)
-  awaited-complete {v = v} (n-update x f a) (a-write {c = c} {t = t} h d m) =
+  awaited-complete : {Γ : List Slot} {t : ℕ} {v : Want} (i : Point) (n : Node) → WfEnv (s .program) Γ → WantType v → ((q : Point) → q ∈ parts n → LaterPart s i q) → Awaits s Γ n t v
+      → awaited s Γ n v ≡ some (upto t)
+  awaited-complete {v = v} i (n-bind x a b) env wt y (a-let p g) =
+      rw (infer-computes acc p, yes-said (decides-gives _ (s .expr b) v (env-next acc x env p) wt (acc .formed b (y b second .there))) g)
+  awaited-complete {v = v} i (n-update x f a) env wt y (a-write {c = c} {t = t} h d m) =
       rw (type-in h, field-in (s .program) (acc .regular) c f t .1 d, yes-said (decides-meets 0 v (omega arith)) m)
-  awaited-complete {v = v} (n-call x o a) (a-call {c = c} {u = u} h d m) =
+  awaited-complete {v = v} i (n-call x o a) env wt y (a-call {c = c} {u = u} h d m) =
       rw (type-in h, method-only (s .program) (acc .regular) (rules-function (acc .typed)) c _ d, yes-said (decides-meets u v (signature-types (s .program) (acc .regular) d .result)) m)
 
   -- frames
   cast-type : (n a : Point) (t : ℕ) → n < s .size → s .view n ≡ n-cast t a → IsType (s .program) t
   cast-type n a t l e = let f : Formed (s .program) (cast n t (s .expr a)) = rw (acc .built n l, e) at (acc .formed n l) in f .0
 
+  awaits-type : {Γ : List Slot} {t : ℕ} {v : Want} (n : Node) → Awaits s Γ n t v → IsType (s .program) t
+  awaits-type (n-bind x a b) (a-let h g) = infer-type (s .program) (acc .regular) h
+  awaits-type (n-update x f a) (a-write h d m) = field-type (s .program) (acc .regular) d
+  awaits-type (n-call x o a) (a-call h d m) = signature-types (s .program) (acc .regular) d .param
+
   module _ (bs : List Binding) (env : (e : ℕ) → WfEnv (s .program) (context bs e)) where
-    expects-sound : (w u : Want) (fs : List Frame) → expects s bs w fs ≡ some u → FramesOk s bs w fs u
-    expects-sound w u [] h = rw (some-same w u h) no-frames
-    expects-sound w u (awaits n e ∷ fs) h =
+    frames-type : {w u : Want} {fs : List Frame} → WantType w → FramesOk s bs w fs u → WantType u
+    unfolding WantType
+    frames-type wt no-frames = wt
+    frames-type wt (a-node {n = n} l h p r) = awaits-type (s .view n) p
+    frames-type wt (a-cast {n = n} {a = a} {t = t} l h m r) = cast-type n a t l h
+    frames-type wt (a-lock r) = frames-type wt r
+
+    expects-sound : (w u : Want) (fs : List Frame) → WantType w → expects s bs w fs ≡ some u → FramesOk s bs w fs u
+    expects-sound w u [] wt h = rw (some-same w u h) no-frames
+    expects-sound w u (awaits n e ∷ fs) wt h =
         let p = given-some (expects s bs w fs) _ u h in
         let j = only-some (ltb n (s .size)) _ u (p .2) in
         let q = only-some (leb e (length bs)) _ u (j .1) in
         let l = ltb-true n (s .size) (j .0) in
-        let a = awaited-sound (context bs e) n (s .view n) (p .0) (env e) (acc .in-order n l) u (q .1) in
-        rw (a .1) (a-node l (leb-true e (length bs) (q .0)) (a .2) (expects-sound w (p .0) fs (p .1)))
-    expects-sound w u (casts n ∷ fs) h =
+        let r = expects-sound w (p .0) fs wt (p .1) in
+        let a = awaited-sound (context bs e) n (s .view n) (p .0) (env e) (frames-type wt r) (acc .in-order n l) u (q .1) in
+        rw (a .1) (a-node l (leb-true e (length bs) (q .0)) (a .2) r)
+    expects-sound w u (casts n ∷ fs) wt h =
         let p = given-some (expects s bs w fs) _ u h in
         let j = only-some (ltb n (s .size)) _ u (p .2) in
         let i = given-some (castType (s .view n)) _ u (j .1) in
@@ -287,25 +302,27 @@ module _ {s : Code} {start : ℕ} (acc : AcceptedCode s start) where
         let l = ltb-true n (s .size) (j .0) in
         let v = cast-view (s .view n) (i .0) (i .1) in
         rw (← some-same (upto (i .0)) u (k .1))
-        (a-cast l (v .1) (says-yes (decides-meets (i .0) (p .0) (cast-type n (v .0) (i .0) l (v .1))) (k .0)) (expects-sound w (p .0) fs (p .1)))
-    expects-sound w u (locks o ∷ fs) h = a-lock (expects-sound w u fs h)
+        (a-cast l (v .1) (says-yes (decides-meets (i .0) (p .0) (cast-type n (v .0) (i .0) l (v .1))) (k .0)) (expects-sound w (p .0) fs wt (p .1)))
+    expects-sound w u (locks o ∷ fs) wt h = a-lock (expects-sound w u fs wt h)
 
-    expects-complete : {w u : Want} {fs : List Frame} → FramesOk s bs w fs u → expects s bs w fs ≡ some u
-    expects-complete no-frames = refl
-    expects-complete (a-node {n = n} {e = e} l h p r) = rw (expects-complete r, lt-ltb n (s .size) l, le-leb e (length bs) h, awaited-complete (s .view n) p)
-    expects-complete (a-cast {n = n} {a = a} {t = t} {v = v} l h m r) =
-        rw (expects-complete r, lt-ltb n (s .size) l, h, yes-said (decides-meets t v (cast-type n a t l h)) m)
-    expects-complete (a-lock r) = expects-complete r
+    expects-complete : {w u : Want} {fs : List Frame} → WantType w → FramesOk s bs w fs u → expects s bs w fs ≡ some u
+    expects-complete wt no-frames = refl
+    expects-complete wt (a-node {n = n} {e = e} l h p r) =
+        rw (expects-complete wt r, lt-ltb n (s .size) l, le-leb e (length bs) h, awaited-complete n (s .view n) (env e) (frames-type wt r) (acc .in-order n l) p)
+    expects-complete wt (a-cast {n = n} {a = a} {t = t} {v = v} l h m r) =
+        rw (expects-complete wt r, lt-ltb n (s .size) l, h, yes-said (decides-meets t v (cast-type n a t l h)) m)
+    expects-complete wt (a-lock r) = expects-complete wt r
 
     -- something of what the frames wait for
-    decides-want : (P : Want → Type 0) (test : Want → Bool) (w : Want) (fs : List Frame) → ((v : Want) → Decides (P v) (test v))
+    decides-want : (P : Want → Type 0) (test : Want → Bool) (w : Want) (fs : List Frame) → WantType w → ((v : Want) → WantType v → Decides (P v) (test v))
         → Decides ((v : Want) × FramesOk s bs w fs v × P v) (wantTest (expects s bs w fs) test)
-    decides-want P test w fs d = go (expects s bs w fs) refl
+    decides-want P test w fs wt d = go (expects s bs w fs) refl
       where
         go : (o : Option Want) → expects s bs w fs ≡ o → Decides ((v : Want) × FramesOk s bs w fs v × P v) (wantTest o test)
-        go none e = fails (λ h. let q = expects-complete (h .1) in let z : _≡_ {A = ℕ} 0 1 = cc in omega arith)
+        go none e = fails (λ h. let q = expects-complete wt (h .1) in let z : _≡_ {A = ℕ} 0 1 = cc in omega arith)
         go (some v) e =
-            decides-as (λ x. (v, expects-sound w v fs e, x)) (λ h. let q = expects-complete (h .1) in let i : h .0 ≡ v = cc in rw i at (h .2)) (d v)
+            let r = expects-sound w v fs wt e in
+            decides-as (λ x. (v, r, x)) (λ h. let q = expects-complete wt (h .1) in let i : h .0 ≡ v = cc in rw i at (h .2)) (d v (frames-type wt r))
 
   -- trees
   module _ (st : Stores) (ok : StoresOk s st) where
@@ -326,16 +343,17 @@ module _ {s : Code} {start : ℕ} (acc : AcceptedCode s start) where
         → (e ≤ length (st .bindings)) × (((v : Want) × FramesOk s (st .bindings) w fs v × NodeGives s (context (st .bindings) e) a v) × (TreeOk s st any l × TreeOk s st any r))
     join-parts (join-ok {v = v} le g r x y) = (le, ((v, r, g), (x, y)))
 
-    decides-tree : (w : Want) (t : Tree) → Decides (TreeOk s st w t) (treeTest s st w t)
-    decides-tree w (running a e fs) =
+    decides-tree : (w : Want) (t : Tree) → WantType w → Decides (TreeOk s st w t) (treeTest s st w t)
+    unfolding WantType
+    decides-tree w (running a e fs) wt =
         decides-as (λ h. running-ok (h .0) (h .1 .2) (h .1 .1)) running-parts
-        (decides-and (decides-le e (length (st .bindings))) (decides-want (st .bindings) env-at _ _ w fs (λ v. decides-at (context (st .bindings) e) a v (env-at e))))
-    decides-tree w (returning x fs) = decides-as (λ h. returning-ok (h .2) (h .1)) returning-parts (decides-want (st .bindings) env-at _ _ w fs (λ v. fits-at x v))
-    decides-tree w failed = holds failed-ok
-    decides-tree w (join fs a e l r) =
+        (decides-and (decides-le e (length (st .bindings))) (decides-want (st .bindings) env-at _ _ w fs wt (λ v. decides-at (context (st .bindings) e) a v (env-at e))))
+    decides-tree w (returning x fs) wt = decides-as (λ h. returning-ok (h .2) (h .1)) returning-parts (decides-want (st .bindings) env-at _ _ w fs wt (λ v i. fits-at x v))
+    decides-tree w failed wt = holds failed-ok
+    decides-tree w (join fs a e l r) wt =
         decides-as (λ h. join-ok (h .0) (h .1 .0 .2) (h .1 .0 .1) (h .1 .1 .0) (h .1 .1 .1)) join-parts
         (decides-and (decides-le e (length (st .bindings)))
-        (decides-and (decides-want (st .bindings) env-at _ _ w fs (λ v. decides-at (context (st .bindings) e) a v (env-at e))) (decides-and (decides-tree any l) (decides-tree any r))))
+        (decides-and (decides-want (st .bindings) env-at _ _ w fs wt (λ v. decides-at (context (st .bindings) e) a v (env-at e))) (decides-and (decides-tree any l tt) (decides-tree any r tt))))
 
 -- locks
 decides-distinct : (xs : List Object) (t : Tree) → Decides ((o : ℕ) → lockCount o t ≤ shutAt xs o) (distinctTest xs t)
@@ -393,12 +411,12 @@ decides-within lim c =
 
 -- Question 21: the test says whether the configuration is well formed for this script.
 pub decides-well-formed : {s : Code} {start : ℕ} → AcceptedCode s start → (lim : Places) (c : Config) → Decides (WellFormed s lim start c) (wellFormedTest s lim start c)
-unfolding wellFormedTest
+unfolding wellFormedTest WantType
 decides-well-formed {s} {start} acc lim c =
     decides-as
     (λ h. record { formed = record { stores = h .0; tree = h .1 .0; distinct = h .1 .1 .0; covered = h .1 .1 .1 .0 }; within = h .1 .1 .1 .1 })
     (λ h. (h .formed .stores, (h .formed .tree, (h .formed .distinct, (h .formed .covered, h .within)))))
     (decides-then (decides-stores acc (c .stores))
     (λ ok.
-    decides-and (decides-tree acc (c .stores) ok (upto start) (c .tree))
+    decides-and (decides-tree acc (c .stores) ok (upto start) (c .tree) (type-wf (s .program) start .1 (start-type acc)))
     (decides-and (decides-distinct (c .stores .objects) (c .tree)) (decides-and (decides-covered (c .stores .objects) (c .tree)) (decides-within lim c)))))

@@ -1,26 +1,27 @@
 -- Facts of typing that the machine uses: nothing but itself is below a class, methods are handed down, and what is inferred is what the walk computes.
 use Prim.Native.Nat.{ℕ, _<_}
 use mathlib.Core.Path.{_≡_, refl, sym, _∙_, ap, subst}
-use mathlib.Core.List.{List, [], _∷_, List·Memᴰ·head}
+use mathlib.Core.List.{List, [], _∷_}
+use mathlib.Core.Logic.{_↔_}
 use mathlib.Core.Option.{some}
 use native.Mathlib.Omega.{arith}
 use Rattle.script.specs.Lists.{_∈_}
-use Rattle.script.specs.Syntax.{Point, Expr, Node, n-null, n-var, n-select, n-update, n-call, n-bind, n-new, n-cast, n-fork, n-lock, build, pointOf, Slot, Signature, Method, Class, Program, declarationAt, a-class}
+use Rattle.script.specs.Syntax.{Point, Expr, bind, fork, lock, Node, n-null, n-var, n-select, n-update, n-call, n-bind, n-new, n-cast, n-fork, n-lock, build, pointOf, Slot, Signature, Method, Class, Program, declarationAt, a-class}
 use Rattle.script.specs.Regular.{IsType, IsClass}
 use Rattle.script.proofs.Lists.{named-unique}
 use Rattle.script.proofs.Declarations.{is-class, a-class-at}
 use Rattle.typing.specs.declared.Answer.the-variants.{Typed}
 use Rattle.typing.specs.Members.{typeIn, fieldIn, fieldsOf, definedIn}
-use Rattle.typing.specs.Environments.{bodyEnv}
-use Rattle.typing.specs.Typing.{inferred}
-use Rattle.typing.specs.Published.{WfType, Sub, T-SUB-CLASS, T-SUB-INTERFACE-LEFT, T-SUB-INTERFACE-RIGHT, T-SUB-TRANS, T-SUB-EQ, WfEnv, WF-ENV, MsigIn, msigs-left, msigs-right, msigs-class, FieldIn, fields-class, any-type, Infer, BD-INFER-VAR, BD-INFER-LET, BD-INFER-CALL, BD-INFER-CAST, BD-INFER-SELECT, BD-INFER-UPDATE, BD-INFER-NEW, BD-INFER-LOCK, BD-INFER-FJ, Check, BD-CHECK-NULL, BD-CHECK-SUB, WfMethod, WF-METHOD, DefIn, WfClass, WF-CLASS, MsigsFunction, WfProgram, WF-PROGRAM}
+use Rattle.typing.specs.Environments.{TypeOf, bodyEnv}
+use Rattle.typing.specs.Typing.{inferred, checked}
+use Rattle.typing.specs.Published.{WfType, T-WF-UNIT, Sub, T-SUB-CLASS, T-SUB-INTERFACE-LEFT, T-SUB-INTERFACE-RIGHT, T-SUB-TRANS, T-SUB-EQ, WfEnv, MsigIn, msigs-left, msigs-right, msigs-class, FieldIn, fields-class, any-type, Infer, BD-INFER-VAR, BD-INFER-LET, BD-INFER-LOCK, BD-INFER-FJ, Check, BD-CHECK-NULL, BD-CHECK-SUB, BD-CHECK-LET, BD-CHECK-LOCK, BD-CHECK-FJ, WfMethod, WF-METHOD, DefIn, WfClass, WF-CLASS, MsigsFunction, WfProgram, WF-PROGRAM}
 use Rattle.typing.proofs.Types.{type-wf, parent-types}
 use Rattle.typing.proofs.Members.{field-in, msig-from}
-use Rattle.typing.proofs.Rules.{infer-type, infer-complete}
+use Rattle.typing.proofs.Rules.{env-more, infer-null, infer-type, infer-complete, check-complete}
 use Rattle.machine.specs.Config.{Code}
 use Rattle.machine.specs.declared.Want.{Want}
 use Rattle.machine.specs.declared.Want.the-variants.{Any as any, Upto as upto}
-use Rattle.machine.specs.WellFormed.{Meets, meets-any, meets-type, NullMeets, null-any, null-type, Gives, gives-null, gives-type}
+use Rattle.machine.specs.WellFormed.{Meets, meets-any, meets-type, NullMeets, null-any, null-type, Gives, gives-null, gives-type, gives-let, gives-lock, gives-fork}
 use Rattle.machine.specs.Accepted.{AcceptedCode}
 
 pub meets-below : {s : Code} {t u : ℕ} {w : Want} → Sub (s .program) t u → Meets s u w → Meets s t w
@@ -35,35 +36,30 @@ null-meets (upto t) = null-type any-type
 pub check-gives : {s : Code} {Γ : List Slot} {a : Expr} {t : ℕ} → Check (s .program) Γ a t → Gives s Γ a (upto t)
 check-gives (BD-CHECK-NULL w i o) = gives-null (null-type o)
 check-gives (BD-CHECK-SUB h b n) = gives-type h (meets-type b)
+check-gives (BD-CHECK-LET h c) = gives-let h (check-gives c)
+check-gives (BD-CHECK-LOCK h o c) = gives-lock h o (check-gives c)
+check-gives (BD-CHECK-FJ d h k c) = gives-fork d h k (check-gives c)
 
 pub gives-meets : {s : Code} {Γ : List Slot} {a : Expr} {t : ℕ} {w : Want} → Gives s Γ a (upto t) → Meets s t w → Gives s Γ a w
 gives-meets {w = w} (gives-null n) m = gives-null (null-meets w)
 gives-meets (gives-type h (meets-type b)) m = gives-type h (meets-below b m)
+gives-meets (gives-let h g) m = gives-let h (gives-meets g m)
+gives-meets (gives-lock h o g) m = gives-lock h o (gives-meets g m)
+gives-meets (gives-fork d h k g) m = gives-fork d h k (gives-meets g m)
 
-module _ {p : Program} where
-  -- What is inferred, or checked, is so under a well-formed environment.
-  mutual
-    infer-env : {Γ : List Slot} {e : Expr} {t : ℕ} → Infer p Γ e t → WfEnv p Γ
-    infer-env (BD-INFER-VAR w h) = w
-    infer-env (BD-INFER-LET h k) = infer-env h
-    infer-env (BD-INFER-CALL h c m o) = infer-env h
-    infer-env (BD-INFER-CAST c) = check-env c
-    infer-env (BD-INFER-SELECT h f o) = infer-env h
-    infer-env (BD-INFER-UPDATE h c f o) = infer-env h
-    infer-env (BD-INFER-NEW w d) = w
-    infer-env (BD-INFER-LOCK h o k) = infer-env h
-    infer-env (BD-INFER-FJ d h k l) = infer-env h
+-- What a let, a lock and a fork that give what is wanted are put together of.
+pub let-parts : {s : Code} {Γ : List Slot} {n x : ℕ} {a b : Expr} {w : Want} → Gives s Γ (bind n x a b) w
+    → (t : ℕ) × Infer (s .program) Γ a t × Gives s (record { name = x; type = t } ∷ Γ) b w
+let-parts (gives-type (BD-INFER-LET {t₁ = t} h k) m) = (t, h, gives-type k m)
+let-parts (gives-let {t = t} h g) = (t, h, g)
 
-    check-env : {Γ : List Slot} {e : Expr} {t : ℕ} → Check p Γ e t → WfEnv p Γ
-    check-env (BD-CHECK-NULL w i o) = w
-    check-env (BD-CHECK-SUB h b n) = infer-env h
+pub lock-parts : {s : Code} {Γ : List Slot} {n x : ℕ} {a : Expr} {w : Want} → Gives s Γ (lock n x a) w → (t : ℕ) × TypeOf Γ x t × Gives s Γ a w
+lock-parts (gives-type (BD-INFER-LOCK {t₂ = t} (BD-INFER-VAR z h) o k) m) = (t, h, gives-type k m)
+lock-parts (gives-lock {t = t} (BD-INFER-VAR z h) o g) = (t, h, g)
 
-  env-first : {Γ : List Slot} {b : Slot} → WfEnv p (b ∷ Γ) → WfType p (b .type)
-  env-first {b = b} (WF-ENV f) = f b (List·Memᴰ·head refl)
-
-  -- So the type of a let's variable is a type.
-  pub let-type : {Γ : List Slot} {x t u : ℕ} {e : Expr} → Infer p (record { name = x; type = t } ∷ Γ) e u → WfType p t
-  let-type h = env-first (infer-env h)
+pub fork-parts : {s : Code} {Γ : List Slot} {n : ℕ} {a b c : Expr} {w : Want} → Gives s Γ (fork n a b c) w → Gives s Γ a any × Gives s Γ b any × Gives s Γ c w
+fork-parts (gives-type (BD-INFER-FJ d h k l) m) = (gives-type h meets-any, gives-type k meets-any, gives-type l m)
+fork-parts (gives-fork d h k g) = (gives-type h meets-any, gives-type k meets-any, g)
 
 -- What the program's rule says.
 pub rules-function : {p : Program} {t : ℕ} → WfProgram p t → MsigsFunction p
@@ -129,12 +125,46 @@ module _ {s : Code} {start : ℕ} (acc : AcceptedCode s start) where
   pub infer-computes : {Γ : List Slot} {e : Expr} {t : ℕ} → Infer (s .program) Γ e t → inferred (s .program) Γ e ≡ Typed t
   infer-computes = infer-complete (s .program) (acc .regular) (rules-function (acc .typed))
 
+  pub check-computes : {Γ : List Slot} {e : Expr} {t : ℕ} → Check (s .program) Γ e t → checked (s .program) Γ e t ≡ Typed t
+  check-computes = check-complete (s .program) (acc .regular) (rules-function (acc .typed))
+
+  -- It is a type.
+  pub infer-wf : {Γ : List Slot} {e : Expr} {t : ℕ} → Infer (s .program) Γ e t → WfType (s .program) t
+  infer-wf {t = t} h = type-wf (s .program) t .0 (infer-type (s .program) (acc .regular) h)
+
+  pub infer-gives : {Γ : List Slot} {e : Expr} {t : ℕ} → Infer (s .program) Γ e t → Gives s Γ e (upto t)
+  infer-gives h = gives-type h (meets-type (T-SUB-EQ (infer-wf h)))
+
+  pub env-next : {Γ : List Slot} {e : Expr} {t : ℕ} (x : ℕ) → WfEnv (s .program) Γ → Infer (s .program) Γ e t → WfEnv (s .program) (record { name = x; type = t } ∷ Γ)
+  env-next {Γ} {t = t} x w h = env-more (s .program) Γ x t w (infer-type (s .program) (acc .regular) h)
+
+  -- An expression gives what is wanted exactly if Figure 11 checks it against that type, or where any type will do against some type.
+  pub gives-checks : {Γ : List Slot} {e : Expr} {t : ℕ} → WfEnv (s .program) Γ → WfType (s .program) t → Gives s Γ e (upto t) ↔ Check (s .program) Γ e t
+  gives-checks {t = t} w i = (to w, check-gives)
+    where
+      to : {Γ : List Slot} {e : Expr} → WfEnv (s .program) Γ → Gives s Γ e (upto t) → Check (s .program) Γ e t
+      to w (gives-null (null-type o)) = BD-CHECK-NULL w i o
+      to w (gives-type h (meets-type b)) = BD-CHECK-SUB h b (infer-null h)
+      to w (gives-let {x = x} h g) = BD-CHECK-LET h (to (env-next x w h) g)
+      to w (gives-lock h o g) = BD-CHECK-LOCK h o (to w g)
+      to w (gives-fork d h k g) = BD-CHECK-FJ d h k (to w g)
+
+  pub gives-some : {Γ : List Slot} {e : Expr} → WfEnv (s .program) Γ → Gives s Γ e any ↔ ((t : ℕ) × Check (s .program) Γ e t)
+  gives-some w = (to w, λ c. gives-meets (check-gives (c .1)) meets-any)
+    where
+      to : {Γ : List Slot} {e : Expr} → WfEnv (s .program) Γ → Gives s Γ e any → (t : ℕ) × Check (s .program) Γ e t
+      to w (gives-null m) = (0, BD-CHECK-NULL w T-WF-UNIT any-type)
+      to w (gives-type {t = t} h m) = (t, BD-CHECK-SUB h (T-SUB-EQ (infer-wf h)) (infer-null h))
+      to w (gives-let {x = x} h g) = let r = to (env-next x w h) g in (r .0, BD-CHECK-LET h (r .1))
+      to w (gives-lock h o g) = let r = to w g in (r .0, BD-CHECK-LOCK h o (r .1))
+      to w (gives-fork d h k g) = let r = to w g in (r .0, BD-CHECK-FJ d h k (r .1))
+
   -- The start is typed, and its type is a type.
   pub start-typed : Infer (s .program) [] (s .expr 0) start
   start-typed = subst (λ (e : Expr). Infer (s .program) [] e start) (acc .start) (rules-start (acc .typed))
 
   pub start-type : WfType (s .program) start
-  start-type = type-wf (s .program) start .0 (infer-type (s .program) (acc .regular) (rules-start (acc .typed)))
+  start-type = infer-wf (rules-start (acc .typed))
 
   -- A field that the rules give is found among those of the class.
   pub field-declared : {c f u : ℕ} → FieldIn (s .program) c f u → IsClass (s .program) c × (typeIn (fieldsOf (s .program) c) f ≡ some u)

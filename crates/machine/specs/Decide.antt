@@ -8,11 +8,11 @@ use lib.Dec.{eqb, leb, ltb}
 use lib.ListN.{length}
 use Rattle.words.specs.Word.{WORD}
 use Rattle.script.specs.Questions.{allOf}
-use Rattle.script.specs.Syntax.{Point, Node, n-null, n-var, n-select, n-update, n-call, n-bind, n-new, n-cast, n-fork, n-lock, Expr, isNull, Slot}
+use Rattle.script.specs.Syntax.{Point, Node, n-null, n-var, n-select, n-update, n-call, n-bind, n-new, n-cast, n-fork, n-lock, Expr, Slot}
 use Rattle.typing.specs.declared.Answer.{Answer}
 use Rattle.typing.specs.declared.Answer.the-variants.{Typed, Faulty}
 use Rattle.typing.specs.Members.{below, typeIn, fieldIn, methodIn, fieldsOf}
-use Rattle.typing.specs.Typing.{inferred}
+use Rattle.typing.specs.Typing.{inferred, checked}
 use Rattle.machine.specs.declared.Value.{Value}
 use Rattle.machine.specs.declared.Value.the-variants.{Null as nil, Ref as ref}
 use Rattle.machine.specs.declared.Frame.{Frame}
@@ -49,12 +49,14 @@ abbrev pub valueFitsTest : Code → List Object → Value → Want → Bool
 valueFitsTest s xs nil w = true
 valueFitsTest s xs (ref o) w = objectTest s w (object xs o)
 
-abbrev pub answerTest : Code → Answer → Want → Bool
-answerTest s (Typed t) w = meetsTest s t w
-answerTest s (Faulty q n) w = false
+abbrev pub isTyped : Answer → Bool
+isTyped (Typed t) = true
+isTyped (Faulty q n) = false
 
+-- Where any type will do, an expression that has none may yet end in null: then Unit will do.
 abbrev pub givesTest : Code → List Slot → Expr → Want → Bool
-givesTest s Γ e w = isNull e || answerTest s (inferred (s .program) Γ e) w
+givesTest s Γ e any = isTyped (inferred (s .program) Γ e) || isTyped (checked (s .program) Γ e 0)
+givesTest s Γ e (upto t) = isTyped (checked (s .program) Γ e t)
 
 abbrev pub atTest : Code → List Slot → Point → Want → Bool
 atTest s Γ a w = ltb a (s .size) && givesTest s Γ (s .expr a) w
@@ -97,7 +99,7 @@ awaited s Γ (n-update x f a) v = given (typeIn Γ x) (λ c. given (fieldIn (s .
 awaited s Γ (n-call x m a) v = given (typeIn Γ x) (λ c. given (methodIn (s .program) c m) (λ g. wants s (g .result) v (g .param)))
 awaited s Γ (n-bind x a b) v =
     ifTyped (inferred (s .program) Γ (s .expr a))
-    (λ t. only (answerTest s (inferred (s .program) (record { name = x; type = t } ∷ Γ) (s .expr b)) v) (some (upto t)))
+    (λ t. only (givesTest s (record { name = x; type = t } ∷ Γ) (s .expr b) v) (some (upto t)))
 awaited s Γ (n-new c) v = none
 awaited s Γ (n-cast t a) v = none
 awaited s Γ (n-fork a b c) v = none

@@ -6,11 +6,11 @@ use mathlib.Core.List.{List, [], _∷_}
 use mathlib.Core.Option.{some}
 use lib.ListN.{length}
 use Rattle.words.specs.Word.{WORD}
-use Rattle.script.specs.Syntax.{Point, Node, n-bind, n-cast, n-update, n-call, Expr, null, Slot}
+use Rattle.script.specs.Syntax.{Point, Node, n-bind, n-cast, n-update, n-call, Expr, null, var, bind, fork, lock, Slot}
 use Rattle.script.specs.Regular.{IsType, IsClass}
-use Rattle.typing.specs.Environments.{TypeOf}
+use Rattle.typing.specs.Environments.{TypeOf, of-lock}
 use Rattle.typing.specs.Members.{fieldsOf}
-use Rattle.typing.specs.Published.{Sub, FieldIn, MsigIn, NullFits, Infer}
+use Rattle.typing.specs.Published.{Sub, FieldIn, MsigIn, Disjoint, NullFits, UseOk, Infer}
 use Rattle.machine.specs.declared.Value.{Value}
 use Rattle.machine.specs.declared.Want.{Want}
 use Rattle.machine.specs.declared.Want.the-variants.{Any as any, Upto as upto}
@@ -37,12 +37,21 @@ pub data ValueFits (s : Code) (xs : List Object) : Value → Want → Type 0 whe
   -- WF-LOC: Γ(ι) is the object's class
   fits-ref : {o : ℕ} {x : Object} {w : Want} → object xs o ≡ some x → Meets s (x .class) w → ValueFits s xs (ref o) w
 
--- Γ ⊢ e ⇐ t of Figure 11, and where any type will do the same with some t.
-pub data Gives (s : Code) (Γ : List Slot) : Expr → Want → Type 0 where
+-- Γ ⊢ e ⇐ t of Figure 11, and where any type will do the same with some t: `gives-checks`, `gives-some`.
+pub data Gives (s : Code) : List Slot → Expr → Want → Type 0 where
   -- BD-CHECK-NULL: "A null is checked against any type and inferred never."
-  gives-null : {n : Point} {w : Want} → NullMeets s w → Gives s Γ (null n) w
+  gives-null : {Γ : List Slot} {n : Point} {w : Want} → NullMeets s w → Gives s Γ (null n) w
   -- BD-CHECK-SUB
-  gives-type : {a : Expr} {t : ℕ} {w : Want} → Infer (s .program) Γ a t → Meets s t w → Gives s Γ a w
+  gives-type : {Γ : List Slot} {a : Expr} {t : ℕ} {w : Want} → Infer (s .program) Γ a t → Meets s t w → Gives s Γ a w
+  -- BD-CHECK-LET
+  gives-let : {Γ : List Slot} {n x t : ℕ} {a b : Expr} {w : Want} → Infer (s .program) Γ a t → Gives s (record { name = x; type = t } ∷ Γ) b w
+      → Gives s Γ (bind n x a b) w
+  -- BD-CHECK-LOCK
+  gives-lock : {Γ : List Slot} {n x t : ℕ} {a : Expr} {w : Want} → Infer (s .program) Γ (var n x) t → UseOk (s .program) n (of-lock t) → Gives s Γ a w
+      → Gives s Γ (lock n x a) w
+  -- BD-CHECK-FJ
+  gives-fork : {Γ : List Slot} {n t u : ℕ} {a b c : Expr} {w : Want} → Disjoint a b → Infer (s .program) Γ a t → Infer (s .program) Γ b u → Gives s Γ c w
+      → Gives s Γ (fork n a b c) w
 
 -- The same of a program point: it is a node of the script.
 pub record NodeGives (s : Code) (Γ : List Slot) (a : Point) (w : Want) : Type 0 where
@@ -83,12 +92,12 @@ pub record StoresOk (s : Code) (st : Stores) : Type 0 where
   pub heap : (o : ℕ) (x : Object) → object (st .objects) o ≡ some x → TypedObject s (st .objects) x
 
 -- `Awaits s Γ n t v`: the node waits for a value of type t, or below, and then gives one that fits v, what is expected beneath its frame. Each is the rule of
--- Figure 11 for the whole node, less the premise about the part that the value has come from; then BD-CHECK-SUB.
+-- Figure 11 for the whole node, less the premise about the part that the value has come from; after BD-INFER-UPDATE and BD-INFER-CALL BD-CHECK-SUB.
 pub data Awaits (s : Code) (Γ : List Slot) : Node → ℕ → Want → Type 0 where
-  -- BD-INFER-LET; its premise Γ ⊢ e₁ ⇒ t₁ stays: "what a let frame waits for fits the type inferred for the let's first part under the frame's bindings (there
-  -- must be one)"
-  a-let : {x t u : ℕ} {a b : Point} {v : Want} → Infer (s .program) Γ (s .expr a) t → Infer (s .program) (record { name = x; type = t } ∷ Γ) (s .expr b) u
-      → Meets s u v → Awaits s Γ (n-bind x a b) t v
+  -- BD-CHECK-LET; its premise Γ ⊢ e₁ ⇒ t₁ stays: "what a let frame waits for fits the type inferred for the let's first part under the frame's bindings (there
+  -- must be one)". The last part is checked against what is expected beneath.
+  a-let : {x t : ℕ} {a b : Point} {v : Want} → Infer (s .program) Γ (s .expr a) t → Gives s (record { name = x; type = t } ∷ Γ) (s .expr b) v
+      → Awaits s Γ (n-bind x a b) t v
   -- BD-INFER-UPDATE, less Γ ⊢ e ⇐ t
   a-write : {x f c t : ℕ} {a : Point} {v : Want} → TypeOf Γ x c → FieldIn (s .program) c f t → Meets s 0 v → Awaits s Γ (n-update x f a) t v
   -- BD-INFER-CALL, less Γ ⊢ e ⇐ t₂

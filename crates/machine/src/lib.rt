@@ -1,7 +1,4 @@
 // The machine: definitions and theorems, and the enums that they share with the code.
-mod numbers;
-
-pub use numbers::stop_number;
 
 // v ::= null | ι
 pub enum Value {

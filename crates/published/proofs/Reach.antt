@@ -10,7 +10,7 @@ use lib.ListN.{length}
 use Rattle.script.specs.Lists.{_∈_}
 use Rattle.script.specs.Syntax.{Point, Node, n-null, n-var, n-select, n-update, n-call, n-bind, n-new, n-cast, n-fork, n-lock, build, parts, Program, Expr}
 use Rattle.script.proofs.Reading.{first}
-use Rattle.typing.specs.Published.{T-SUB-EQ, BD-INFER-VAR, BD-INFER-LET, BD-INFER-CALL, BD-INFER-CAST, BD-INFER-SELECT, BD-INFER-UPDATE, BD-INFER-LOCK}
+use Rattle.typing.specs.Published.{BD-INFER-VAR, BD-INFER-CALL, BD-INFER-CAST, BD-INFER-SELECT, BD-INFER-UPDATE}
 use Rattle.typing.proofs.Environments.{type-in}
 use Rattle.machine.specs.declared.Store.{Store}
 use Rattle.machine.specs.declared.Store.the-variants.{Frames}
@@ -22,14 +22,14 @@ use Rattle.machine.specs.Config.{Code, Binding, Stores, Tree, running, returnin
 use Rattle.machine.specs.Machine.{context, oneIf, lockFrames, Places, spare, frameCount, threadCount, descend, runNode, Outcome, still, full, moved, phase, inLeft, inRight, Path, here, left, right, moveAt, held, part}
 use Rattle.machine.specs.declared.Want.{Want}
 use Rattle.machine.specs.declared.Want.the-variants.{Any as any, Upto as upto}
-use Rattle.machine.specs.WellFormed.{meets-type, ValueFits, fits-nil, Gives, gives-type, NodeGives, StoresOk, a-let, a-write, a-call, FramesOk, a-node, a-cast, TreeOk, running-ok, returning-ok, join-ok, lockCount, shutAt}
+use Rattle.machine.specs.WellFormed.{ValueFits, fits-nil, Gives, gives-type, NodeGives, StoresOk, a-let, a-write, a-call, FramesOk, a-node, a-cast, TreeOk, running-ok, returning-ok, join-ok, lockCount, shutAt}
 use Rattle.machine.specs.Accepted.{LaterPart, AcceptedCode}
 use Rattle.machine.specs.Ends.{Waits, waits}
 use Rattle.published.specs.Steps.{PVar, fresh, PExpr, p-value, p-lock, close, fill, PTree, p-thread, p-join, p-failed, World, entryValue, Reduce, DYN-EVAL-LOCK, DYN-EVAL-LOCK-REENTRANT, DYN-NPE-LOCK, Step, reduces, DYN-EVAL-CONTEXT, DYN-EVAL-SPAWN-CONTEXT, DYN-EXCEPTION-CONTEXT, DYN-EVAL-ASYNC-LEFT, DYN-EVAL-ASYNC-RIGHT, DYN-EVAL-ASYNC-JOIN, DYN-EXCEPTION-ASYNC-LEFT, DYN-EXCEPTION-ASYNC-RIGHT}
 use Rattle.published.specs.ReadAs.{names, hole, plug, world, said, read}
 use Rattle.machine.specs.Silent.{quiet, quietIn}
 use Rattle.published.specs.Reach.{site, Near, itself, left-side, right-side, in-left, in-right}
-use Rattle.machine.proofs.Types.{null-meets, check-gives, let-type}
+use Rattle.machine.proofs.Types.{null-meets, check-gives, let-parts, lock-parts, infer-gives}
 use Rattle.soundness.proofs.Stores.{shutAt-object}
 use Rattle.soundness.proofs.Grow.{Grows, grows-same}
 use Rattle.soundness.proofs.Move.{Judged, no-move, a-move, run-good, resume-good}
@@ -187,9 +187,10 @@ module _ {s : Code} {start : ℕ} {st : Stores} (ok : StoresOk s st) (acc : Acce
     node-reach k (n-call x c b) i t (gives-type (BD-INFER-CALL {t₂ = u} (BD-INFER-VAR z j) q p o) m) d rec h =
         descend-reach k b (awaits a e) (n-call x c b) i refl refl (rw i) refl
         (rec b (awaits a e) (upto u) (t b first) (a-node {t = u} y le (rw i (a-call j p m)) r) (record { node = t b first .there; gives = check-gives q }) (λ o. refl)) h
-    node-reach k (n-bind x b c) i t (gives-type (BD-INFER-LET {t₁ = n} p q) m) d rec h =
+    node-reach k (n-bind x b c) i t g d rec h =
+        let p = let-parts g in
         descend-reach k b (awaits a e) (n-bind x b c) i refl refl (rw i) refl
-        (rec b (awaits a e) (upto n) (t b first) (a-node {t = n} y le (rw i (a-let p q m)) r) (record { node = t b first .there; gives = gives-type p (meets-type (T-SUB-EQ (let-type q))) }) (λ o. refl)) h
+        (rec b (awaits a e) (upto (p .0)) (t b first) (a-node {t = p .0} y le (rw i (a-let (p .1) (p .2))) r) (record { node = t b first .there; gives = infer-gives acc (p .1) }) (λ o. refl)) h
     node-reach k (n-new c) i t g d rec h =
         at-most (suc k) (omega arith)
         (redex-reach (n-new c) i t g r-new refl (make-step ok acc (spare lim st (running a e fs)) above fs v r e a c (node-expr acc a y (n-new c) i) (spare lim st (running a e fs) .objects)) h)
@@ -199,9 +200,9 @@ module _ {s : Code} {start : ℕ} {st : Stores} (ok : StoresOk s st) (acc : Acce
     node-reach k (n-fork p q c) i t g d rec h =
         at-most (suc k) (omega arith)
         (redex-reach (n-fork p q c) i t g r-fork refl (spawn-step ok acc (spare lim st (running a e fs)) above fs v r e a p q c (node-expr acc a y (n-fork p q c) i) (spare lim st (running a e fs) .threads)) h)
-    node-reach k (n-lock x b) i t (gives-type (BD-INFER-LOCK (BD-INFER-VAR z j) o p) m) d rec h =
+    node-reach k (n-lock x b) i t g d rec h =
         at-most (suc k) (omega arith)
-        (redex-reach (n-lock x b) i t (gives-type (BD-INFER-LOCK (BD-INFER-VAR {n = a} z j) o p) m) r-lock refl (lock-step ok acc (spare lim st (running a e fs)) above fs v r e a x _ b (node-expr acc a y (n-lock x b) i) (type-in j) d) h)
+        (redex-reach (n-lock x b) i t g r-lock refl (lock-step ok acc (spare lim st (running a e fs)) above fs v r e a x _ b (node-expr acc a y (n-lock x b) i) (type-in (lock-parts g .1)) d) h)
 
   run-reach : {w : Want} (k : ℕ) (a : Point) (fs : List Frame) (e : ℕ) (v : Want) → s .size ≤ a + k → FramesOk s (st .bindings) w fs v → e ≤ length (st .bindings)
       → NodeGives s (context (st .bindings) e) a v → ((o : ℕ) → lockFrames o above + lockFrames o fs ≤ shutAt (st .objects) o)

@@ -11,7 +11,7 @@ use borrow.Author.Tests.{eq-eqb}
 use Rattle.script.specs.Syntax.{Point, Node, n-null, n-var, n-select, n-update, n-call, n-bind, n-new, n-cast, n-fork, n-lock, build, pointOf, var, select, new, fork, lock, Program}
 use Rattle.typing.specs.declared.Answer.the-variants.{Typed}
 use Rattle.typing.specs.Members.{typeIn, fieldsOf}
-use Rattle.typing.specs.Published.{Sub, FieldIn, MsigIn, BD-INFER-VAR, BD-INFER-SELECT, BD-INFER-LOCK}
+use Rattle.typing.specs.Published.{Sub, FieldIn, MsigIn, BD-INFER-VAR, BD-INFER-SELECT}
 use Rattle.typing.proofs.Environments.{type-in}
 use Rattle.machine.specs.declared.Store.{Store}
 use Rattle.machine.specs.declared.Value.{Value}
@@ -30,7 +30,7 @@ use Rattle.machine.specs.Silent.{quiet, quietIn, SilentAt}
 use Rattle.published.specs.Means.{Means, silently, publicly}
 use Rattle.published.specs.Reach.{site}
 use Rattle.published.specs.Traces.{Transition, published-step, silent-move}
-use Rattle.machine.proofs.Types.{below-class, below-method, infer-computes, field-declared, Defined, defined}
+use Rattle.machine.proofs.Types.{lock-parts, below-class, below-method, infer-computes, field-declared, Defined, defined}
 use Rattle.soundness.proofs.Stores.{fit-binding, fit-field, shutAt-le, shutAt-object}
 use Rattle.soundness.proofs.Grow.{Grows, grows-binding, grows-call}
 use Rattle.soundness.proofs.Move.{Judged, a-move}
@@ -199,7 +199,7 @@ module _ {s : Code} {w : Want} {st : Stores} (ok : StoresOk s st) {start : ℕ} 
     run-step (n-new c) i b g d = of-thread refl (make-step c b (room .objects))
     run-step (n-cast t a) i b g d = descend-step a (casts p) (rw (i, b)) refl (room .frames)
     run-step (n-fork a b c) i j g d = of-thread refl (spawn-step a b c j (room .threads))
-    run-step (n-lock x a) i b (gives-type (BD-INFER-LOCK (BD-INFER-VAR w h) o k) m) d = of-thread refl (lock-step x _ a b (type-in h) d)
+    run-step (n-lock x a) i b g d = of-thread refl (lock-step x _ a b (type-in (lock-parts g .1)) d)
 
   module _ (p : Point) (e : ℕ) (v : Want) (x : Value) (r : FramesOk s (st .bindings) w fs v) where
     bind-step : (n t : ℕ) (a b : Point) → s .view p ≡ n-bind n a b → (k : ℕ)
@@ -252,7 +252,7 @@ module _ {s : Code} {w : Want} {st : Stores} (ok : StoresOk s st) {start : ℕ} 
         (λ i o y g j l b. let q = defined acc (ok .heap o y l .class) (below-method acc b d) in rw (q .there) (call-method-step n m i o t u a y z g j l q k))
 
     wake-step : (t : ℕ) (n : Node) → s .view p ≡ n → Awaits s (context (st .bindings) e) n t v → Exact s st above (returning x (awaits p e ∷ fs)) (wake s room st x fs e n)
-    wake-step t (n-bind y a b) i (a-let h k m) = rw (infer-computes acc h) (bind-step y t a b i (room .bindings))
+    wake-step t (n-bind y a b) i (a-let h k) = rw (infer-computes acc h) (bind-step y t a b i (room .bindings))
     wake-step t (n-update y f a) i (a-write {c = c} h d m) = update-step y f c t a i (type-in h) d
     wake-step t (n-call y m a) i (a-call {c = c} {u = u} h d o) = call-step y m c t u a i (type-in h) d (room .bindings)
 

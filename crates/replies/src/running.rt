@@ -34,7 +34,7 @@ fn run_formed(
 {
     let ran = runs::run_choices(s, starts, facts, table, block, choices);
     let stop = ran.stop;
-    let number = machine::stop_number(stop);
+    let number = numbers::stop_number(stop);
     RunResult {
         formed: true,
         stop: number,

@@ -1,7 +1,4 @@
-// The script file on paper: its sections and questions, and the numbers of the questions.
-mod numbers;
-
-pub use numbers::number_of;
+// The script file on paper: its sections and questions.
 
 // The questions of document 01 that a script can get a no to, in the order of their numbers.
 pub enum Question {

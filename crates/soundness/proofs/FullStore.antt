@@ -49,7 +49,7 @@ module _ {s : Code} {start : ℕ} (acc : AcceptedCode s start) (room : Places) (
   descend-stops above fs e p (n-lock x a) d z = absurd (let z : _≡_ {A = ℕ} 0 1 = cc in omega arith)
 
   let-typed : (e : ℕ) {x t : ℕ} {a b : Point} {v : Want} → Awaits s (context (st .bindings) e) (n-bind x a b) t v → inferred (s .program) (context (st .bindings) e) (s .expr a) ≡ Typed t
-  let-typed e (a-let h k m) = infer-computes acc h
+  let-typed e (a-let h k) = infer-computes acc h
 
   call-defined : {e x m t : ℕ} {a : Point} {v : Want} {y : Object} → Awaits s (context (st .bindings) e) (n-call x m a) t v → TargetObject st e x y → (u : ℕ) × Defined s (y .class) (record { name = m; param = t; result = u })
   call-defined {e} {x} {y = y} (a-call {c = c} h i m) g = (_, defined acc (ok .heap (g .number) y (g .object) .class) (below-method acc (target-below acc ok e x c (type-in h) g) i))

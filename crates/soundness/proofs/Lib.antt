@@ -17,3 +17,4 @@ pub mod Asks
 pub mod FullStore
 pub mod Promise
 pub mod Between
+pub mod Ladder

@@ -14,7 +14,7 @@ use Rattle.script.proofs.Declarations.{is-class}
 use Rattle.script.proofs.Reading.{first, second, third}
 use Rattle.typing.specs.declared.Answer.the-variants.{Typed}
 use Rattle.typing.specs.Members.{typeIn, fieldsOf}
-use Rattle.typing.specs.Published.{Sub, T-SUB-EQ, FieldIn, MsigIn, Infer, BD-INFER-VAR, BD-INFER-LET, BD-INFER-CALL, BD-INFER-CAST, BD-INFER-SELECT, BD-INFER-UPDATE, BD-INFER-NEW, BD-INFER-LOCK, BD-INFER-FJ}
+use Rattle.typing.specs.Published.{WfType, Sub, FieldIn, MsigIn, BD-INFER-VAR, BD-INFER-CALL, BD-INFER-CAST, BD-INFER-SELECT, BD-INFER-UPDATE, BD-INFER-NEW}
 use Rattle.typing.proofs.Types.{type-wf}
 use Rattle.typing.proofs.Environments.{type-in}
 use Rattle.machine.specs.declared.Store.{Store}
@@ -26,10 +26,10 @@ use Rattle.machine.specs.Config.{Code, Object, Binding, Stores, Tree, running, 
 use Rattle.machine.specs.Machine.{scope, slot, context, find, ValueOf, object, setShut, setFields, setField, initials, oneIf, lockFrames, Places, Outcome, still, full, moved, give, descend, make, spawn, enter, shutAndEnter, onValue, onTarget, lockObject, extend, selectObject, updateObject, callMethod, callObject, runNode, wake, resume}
 use Rattle.machine.specs.declared.Want.{Want}
 use Rattle.machine.specs.declared.Want.the-variants.{Any as any, Upto as upto}
-use Rattle.machine.specs.WellFormed.{Meets, meets-any, meets-type, ValueFits, fits-nil, fits-ref, Gives, gives-type, NodeGives, a-binding, FieldsOk, StoresOk, Awaits, a-let, a-write, a-call, FramesOk, no-frames, a-node, a-cast, a-lock, TreeOk, running-ok, returning-ok, failed-ok, join-ok, lockCount, failures, shutAt}
+use Rattle.machine.specs.WellFormed.{Meets, meets-type, ValueFits, fits-nil, fits-ref, Gives, gives-type, NodeGives, a-binding, FieldsOk, StoresOk, Awaits, a-let, a-write, a-call, FramesOk, no-frames, a-node, a-cast, a-lock, TreeOk, running-ok, returning-ok, failed-ok, join-ok, lockCount, failures, shutAt}
 use Rattle.machine.specs.Accepted.{LaterPart, AcceptedCode}
 use Rattle.machine.specs.Ends.{Waits, waits}
-use Rattle.machine.proofs.Types.{meets-below, null-meets, check-gives, gives-meets, let-type, below-class, below-method, infer-computes, field-declared, class-below, Defined, defined}
+use Rattle.machine.proofs.Types.{meets-below, null-meets, check-gives, gives-meets, let-parts, lock-parts, fork-parts, below-class, below-method, infer-computes, infer-wf, infer-gives, field-declared, class-below, Defined, defined}
 use Rattle.soundness.proofs.Stores.{keeps-append, keeps-shut, keeps-fields, scope-newest, scope-empty, shutAt-fields, fit-field, set-field, initials-ok, fit-binding, object-last, shutAt-new, shutAt-le, shutAt-object, opens, shuts}
 use Rattle.soundness.proofs.Grow.{Grows, grows-same, grows-objects, grows-binding, grows-call, heap-grows, heap-append, heap-shut, heap-fields, fields-grow, fits-grows, bindings-grow, frames-grow}
 
@@ -170,24 +170,26 @@ module _ {s : Code} {w : Want} {st : Stores} (ok : StoresOk s st) where
         descend-good a (awaits p e) (record { node = y a first .there; gives = check-gives c }) (a-node {t = t} q le (rw i (a-write h d m)) r) (λ o. refl) (room .frames)
     run-good (n-call x n a) q i y (gives-type (BD-INFER-CALL {t₂ = t} (BD-INFER-VAR z h) c d o) m) =
         descend-good a (awaits p e) (record { node = y a first .there; gives = check-gives c }) (a-node {t = t} q le (rw i (a-call h d m)) r) (λ o. refl) (room .frames)
-    run-good (n-bind x a b) q i y (gives-type (BD-INFER-LET {t₁ = t} h k) m) =
-        descend-good a (awaits p e) (record { node = y a first .there; gives = gives-type h (meets-type (T-SUB-EQ (let-type k))) }) (a-node {t = t} q le (rw i (a-let h k m)) r) (λ o. refl) (room .frames)
+    run-good (n-bind x a b) q i y g =
+        let k = let-parts g in
+        descend-good a (awaits p e) (record { node = y a first .there; gives = infer-gives acc (k .1) }) (a-node {t = k .0} q le (rw i (a-let (k .1) (k .2))) r) (λ o. refl) (room .frames)
     run-good (n-new c) q i y (gives-type (BD-INFER-NEW {c = k} z h) m) = make-good c (is-class (s .program) c k h) m (room .objects)
     run-good (n-cast t a) q i y (gives-type (BD-INFER-CAST c) m) =
         descend-good a (casts p) (record { node = y a first .there; gives = check-gives c }) (a-cast q i m r) (λ o. refl) (room .frames)
-    run-good (n-fork a b c) q i y (gives-type (BD-INFER-FJ d h j k) m) =
-        spawn-good a b c (record { node = y a first .there; gives = gives-type h meets-any }) (record { node = y b second .there; gives = gives-type j meets-any })
-        (record { node = y c third .there; gives = gives-type k m }) (room .threads)
-    run-good (n-lock x a) q i y (gives-type (BD-INFER-LOCK (BD-INFER-VAR z h) u k) m) =
-        target-good e x _ (lockObject st above fs a e (room .frames)) (type-in h) (λ o z j l b. lock-object x o a z i j l (record { node = y a first .there; gives = gives-type k m }) (z .shut) refl)
+    run-good (n-fork a b c) q i y g =
+        let k = fork-parts g in
+        spawn-good a b c (record { node = y a first .there; gives = k .0 }) (record { node = y b second .there; gives = k .1 }) (record { node = y c third .there; gives = k .2 }) (room .threads)
+    run-good (n-lock x a) q i y g =
+        let k = lock-parts g in
+        target-good e x _ (lockObject st above fs a e (room .frames)) (type-in (k .1)) (λ o z j l b. lock-object x o a z i j l (record { node = y a first .there; gives = k .2 }) (z .shut) refl)
 
   module _ {start : ℕ} (acc : AcceptedCode s start) (room : Places) (x : Value) (i : Point) where
-    bind-good : {Q : Type 0} (n e t u : ℕ) (b : Point) (fs : List Frame) (v : Want) → n < 65536 → b < s .size → e ≤ length (st .bindings)
-        → Infer (s .program) (record { name = n; type = t } ∷ context (st .bindings) e) (s .expr b) u → Meets s u v → FramesOk s (st .bindings) w fs v
+    bind-good : {Q : Type 0} (n e t : ℕ) (b : Point) (fs : List Frame) (v : Want) → n < 65536 → b < s .size → e ≤ length (st .bindings) → WfType (s .program) t
+        → Gives s (record { name = n; type = t } ∷ context (st .bindings) e) (s .expr b) v → FramesOk s (st .bindings) w fs v
         → ValueFits s (st .objects) x (upto t) → (k : ℕ)
         → Judged s w st (returning x (awaits i e ∷ fs)) Q (extend st fs n x b e (Typed t) k)
-    bind-good n e t u b fs v a y le q m r f zero = no-room
-    bind-good n e t u b fs v a y le q m r f (suc k) =
+    bind-good n e t b fs v a y le d q r f zero = no-room
+    bind-good n e t b fs v a y le d q r f (suc k) =
         let z : Binding = record { name = n; type = t; value = x; link = e } in
         let g = grows-binding st z in
         let c : context (z ∷ st .bindings) (suc (length (st .bindings))) ≡ record { name = n; type = t } ∷ context (st .bindings) e =
@@ -197,10 +199,10 @@ module _ {s : Code} {w : Want} {st : Stores} (ok : StoresOk s st) where
           grows = g;
           stores =
               record {
-                bindings = a-binding (record { name = a; type = type-wf (s .program) t .1 (let-type q); link = le; value = f }) (ok .bindings);
+                bindings = a-binding (record { name = a; type = type-wf (s .program) t .1 d; link = le; value = f }) (ok .bindings);
                 heap = ok .heap;
               };
-          tree = running-ok {e = suc (length (st .bindings))} (omega arith) (record { node = y; gives = rw (← c) at (gives-type q m) }) (frames-grow g r);
+          tree = running-ok {e = suc (length (st .bindings))} (omega arith) (record { node = y; gives = rw (← c) at q }) (frames-grow g r);
           fewer = λ o. omega arith;
           whole = λ j. (refl, λ o. omega arith);
         })
@@ -272,8 +274,8 @@ module _ {s : Code} {w : Want} {st : Stores} (ok : StoresOk s st) where
 
     wake-good : {Q : Type 0} (e t : ℕ) (fs : List Frame) (v : Want) → e ≤ length (st .bindings) → (n : Node) → s .view i ≡ n → ((q : Point) → q ∈ parts n → LaterPart s i q) → Awaits s (context (st .bindings) e) n t v
         → FramesOk s (st .bindings) w fs v → ValueFits s (st .objects) x (upto t) → Judged s w st (returning x (awaits i e ∷ fs)) Q (wake s room st x fs e n)
-    wake-good e t fs v le (n-bind y a b) j k (a-let {u = u} p q m) r f =
-        rw (infer-computes acc p) (bind-good y e t u b fs v (acc .words i y a b j) (k b second .there) le q m r f (room .bindings))
+    wake-good e t fs v le (n-bind y a b) j k (a-let p q) r f =
+        rw (infer-computes acc p) (bind-good y e t b fs v (acc .words i y a b j) (k b second .there) le (infer-wf acc p) q r f (room .bindings))
     wake-good e t fs v le (n-update y f a) j k (a-write {c = c} h d m) r l =
         target-good e y c (updateObject s st fs f x) (type-in h) (λ o z g i b. update-there f e c t fs v d r l o z i b)
     wake-good e t fs v le (n-call y n a) j k (a-call {c = c} {u = u} h d m) r l =

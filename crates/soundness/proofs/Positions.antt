@@ -7,16 +7,15 @@ use mathlib.Core.Bool.{false}
 use mathlib.Core.List.{List, [], _++_}
 use mathlib.Core.Option.{some, Option·none-ne-some}
 use borrow.Author.Tests.{lt-ltb, le-ltb}
-use Rattle.typing.specs.Published.{T-SUB-EQ}
 use Rattle.machine.specs.declared.Frame.{Frame}
 use Rattle.machine.specs.Config.{Code, Stores, Tree, running, returning, failed, join, Config}
 use Rattle.machine.specs.Machine.{phase, lockFrames, Places, limits, spare, still, Path, here, left, right, inLeft, inRight, moveAt, move, size, locate, chosen, choice, initial, threadCount, At, at-root, at-left, at-right}
 use Rattle.machine.specs.declared.Want.{Want}
 use Rattle.machine.specs.declared.Want.the-variants.{Upto as upto}
-use Rattle.machine.specs.WellFormed.{meets-type, gives-type, no-bindings, no-frames, running-ok, lockCount, WfConfig, WellFormed}
+use Rattle.machine.specs.WellFormed.{no-bindings, no-frames, running-ok, lockCount, WfConfig, WellFormed}
 use Rattle.machine.specs.Accepted.{AcceptedCode}
 use Rattle.machine.specs.Ends.{heldBy, ending}
-use Rattle.machine.proofs.Types.{start-typed, start-type}
+use Rattle.machine.proofs.Types.{infer-gives, start-typed}
 use Rattle.soundness.proofs.Stores.{shutAt-le}
 use Rattle.soundness.proofs.Ends.{SeenEnd, classified}
 
@@ -121,7 +120,7 @@ initial-formed : {s : Code} {start : ℕ} → AcceptedCode s start → WfConfig 
 initial-formed acc =
     record {
       stores = record { bindings = no-bindings; heap = λ o x e. absurd (Option·none-ne-some _ e) };
-      tree = running-ok {e = 0} (omega arith) (record { node = acc .a-node; gives = gives-type (start-typed acc) (meets-type (T-SUB-EQ (start-type acc))) }) no-frames;
+      tree = running-ok {e = 0} (omega arith) (record { node = acc .a-node; gives = infer-gives acc (start-typed acc) }) no-frames;
       distinct = λ o. omega arith;
       covered = λ z o. omega arith;
     }

@@ -118,7 +118,7 @@ no-walk (let-last h c) = no-walk c
 no-walk (fork-left d c) = no-walk c
 no-walk (fork-right d h c) = no-walk c
 no-walk (fork-last d h k c) = no-walk c
-no-walk (not-below n h s e) = λ s. refl
+no-walk (not-below h s e) = λ s. refl
 
 pub walk-no-walk : {p : Program} {l : List Body} {q : Question} {k : Point} → ListNo p l q k → (s : List ℕ) → statementOf s q ≡ of-walk
 walk-no-walk (after-all c) = no-walk c

@@ -7,10 +7,10 @@ pub mod Joins
 pub mod Free
 pub mod Sharing
 pub mod Rules
+pub mod NullEnds
 pub mod Bodies
 pub mod Walk
 pub mod MethodOrder
 pub mod First
 pub mod Exact
 pub mod Points
-pub mod Ladder

@@ -18,7 +18,7 @@ use Rattle.typing.specs.declared.Aim.{Aim}
 use Rattle.typing.specs.declared.Answer.{Answer}
 use Rattle.typing.specs.declared.Answer.the-variants.{Faulty}
 use Rattle.typing.specs.Typing.{Body, bodiesOf, walk}
-use Rattle.typing.specs.Refusals.{ExprNo, null-inferred, var-unbound, select-unbound, update-unbound, call-unbound, lock-unbound, select-missing, update-missing, call-missing, fork-shares, update-part, call-part, cast-part, lock-part, let-first, let-last, fork-left, fork-right, fork-last, not-below}
+use Rattle.typing.specs.Refusals.{lastOf, ExprNo, null-inferred, var-unbound, select-unbound, update-unbound, call-unbound, lock-unbound, select-missing, update-missing, call-missing, fork-shares, update-part, call-part, cast-part, lock-part, let-first, let-last, fork-left, fork-right, fork-last, not-below}
 use Rattle.typing.proofs.Bodies.{body-in}
 use Rattle.typing.proofs.Walk.{ListNo, after-all, in-body, after-body, Walked, walks, halts, walked-by}
 
@@ -53,17 +53,17 @@ below-at s w =
     every-node s (λ n. Below (countOf s nodes) (exprAt s n)) (in-order s w)
     (λ n h e. rw (expr-at s n h (in-order s w n h)) (below-build (countOf s nodes) n (exprAt s) (viewAt s n) h e))
 
-own-node : (m : ℕ) (e : Expr) → Below m e → pointOf e < m
-own-node m (null n) b = b
-own-node m (var n x) b = b
-own-node m (select n x f) b = b
-own-node m (update n x f e) b = b .0
-own-node m (call n x f e) b = b .0
-own-node m (bind n x e₁ e₂) b = b .0
-own-node m (new n c) b = b
-own-node m (cast n t e) b = b .0
-own-node m (fork n e₁ e₂ e₃) b = b .0
-own-node m (lock n x e) b = b .0
+last-node : (m : ℕ) (e : Expr) → Below m e → pointOf (lastOf e) < m
+last-node m (null n) b = b
+last-node m (var n x) b = b
+last-node m (select n x f) b = b
+last-node m (update n x f e) b = b .0
+last-node m (call n x f e) b = b .0
+last-node m (bind n x e₁ e₂) b = last-node m e₂ (b .2)
+last-node m (new n c) b = b
+last-node m (cast n t e) b = b .0
+last-node m (fork n e₁ e₂ e₃) b = last-node m e₃ (b .3)
+last-node m (lock n x e) b = last-node m e (b .1)
 
 no-below : {p : Program} {Γ : List Slot} {e : Expr} {a : Aim} {q : Question} {k : Point} → ExprNo p Γ e a q k → (m : ℕ) → Below m e → k < m
 no-below null-inferred m b = b
@@ -85,7 +85,7 @@ no-below (let-last h c) m b = no-below c m (b .2)
 no-below (fork-left d c) m b = no-below c m (b .1)
 no-below (fork-right d h c) m b = no-below c m (b .2)
 no-below (fork-last d h g c) m b = no-below c m (b .3)
-no-below (not-below {e = e} n h s at) m b = rw (← at) (own-node m e b)
+no-below (not-below {e = e} h s at) m b = rw (← at) (last-node m e b)
 
 -- So is that of the walk's refusal, where bodies and start are such expressions.
 pub walk-below : {p : Program} {l : List Body} {q : Question} {k : Point} → ListNo p l q k → (m : ℕ) → ((b : Body) → b ∈ l → Below m (b .method .body)) → Below m (p .start) → k < m

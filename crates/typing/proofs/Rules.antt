@@ -20,8 +20,8 @@ use Rattle.typing.specs.declared.Answer.the-variants.{Typed, Faulty}
 use Rattle.typing.specs.Environments.{TypeOf}
 use Rattle.typing.specs.Members.{below, typeIn, fieldIn, methodIn}
 use Rattle.typing.specs.Typing.{fv, shares, andThen, orFaulty, unlessShared, fits, aimed, answer, inferred, checked}
-use Rattle.typing.specs.Published.{T-WF-CLASS, Sub, WfEnv, WF-ENV, MsigsFunction, Disjoint, any-type, any-use, Infer, BD-INFER-VAR, BD-INFER-LET, BD-INFER-CALL, BD-INFER-CAST, BD-INFER-SELECT, BD-INFER-UPDATE, BD-INFER-NEW, BD-INFER-LOCK, BD-INFER-FJ, Check, BD-CHECK-NULL, BD-CHECK-SUB}
-use Rattle.typing.specs.Refusals.{ExprNo, null-inferred, var-unbound, select-unbound, update-unbound, call-unbound, lock-unbound, select-missing, update-missing, call-missing, fork-shares, update-part, call-part, cast-part, lock-part, let-first, let-last, fork-left, fork-right, fork-last, not-below}
+use Rattle.typing.specs.Published.{T-WF-CLASS, Sub, WfEnv, WF-ENV, MsigsFunction, Disjoint, any-type, any-use, Infer, BD-INFER-VAR, BD-INFER-LET, BD-INFER-CALL, BD-INFER-CAST, BD-INFER-SELECT, BD-INFER-UPDATE, BD-INFER-NEW, BD-INFER-LOCK, BD-INFER-FJ, Check, BD-CHECK-NULL, BD-CHECK-SUB, BD-CHECK-LET, BD-CHECK-LOCK, BD-CHECK-FJ}
+use Rattle.typing.specs.Refusals.{lastOf, ExprNo, null-inferred, var-unbound, select-unbound, update-unbound, call-unbound, lock-unbound, select-missing, update-missing, call-missing, fork-shares, update-part, call-part, cast-part, lock-part, let-first, let-last, fork-left, fork-right, fork-last, not-below}
 use Rattle.typing.proofs.Environments.{type-in, typed-exactly, untyped-exactly}
 use Rattle.typing.proofs.Sharing.{SharedVariable, decides-sharing}
 use Rattle.typing.proofs.Types.{type-wf}
@@ -83,20 +83,6 @@ by-sharing P n r e₁ e₂ (holds h) f g = f h
 by-sharing P n r e₁ e₂ (fails h) f g = g (λ x l m. absurd (h (record { variable = x; left = l; right = m })))
 
 module _ (p : Program) where
-  -- A node that is no null is checked as it is inferred.
-  pub checked-as : (Γ : List Slot) (e : Expr) (t : ℕ) → isNull e ≡ false → checked p Γ e t ≡ aimed p (pointOf e) (checks t) (inferred p Γ e)
-  unfolding answer
-  checked-as Γ (null n) t h = absurd (let z : _≡_ {A = ℕ} 0 1 = cc in omega arith)
-  checked-as Γ (var n x) t h = refl
-  checked-as Γ (select n x f) t h = refl
-  checked-as Γ (update n x f e) t h = refl
-  checked-as Γ (call n x m e) t h = refl
-  checked-as Γ (bind n x e₁ e₂) t h = refl
-  checked-as Γ (new n c) t h = refl
-  checked-as Γ (cast n u e) t h = refl
-  checked-as Γ (fork n e₁ e₂ e₃) t h = refl
-  checked-as Γ (lock n x e) t h = refl
-
   -- a no, whatever the aim
   still-no : {r : Answer} {k : Point} {q : Question} (n : Point) (a : Aim) → r ≡ Faulty q k → aimed p n a r ≡ Faulty q k
   still-no n infers e = e
@@ -111,14 +97,32 @@ module _ (p : Program) where
   env-more Γ x t (WF-ENV w) i =
       WF-ENV (λ b m. ⊎-elim (λ (e : b ≡ record { name = x; type = t }). rw e (type-wf p t .0 i)) (λ k. w b k) (List·Memᴰ·cases-cons m))
 
+-- What is inferred is no null.
+pub infer-null : {p : Program} {Γ : List Slot} {e : Expr} {t : ℕ} → Infer p Γ e t → isNull e ≡ false
+infer-null (BD-INFER-VAR w h) = refl
+infer-null (BD-INFER-LET h k) = refl
+infer-null (BD-INFER-CALL h c m o) = refl
+infer-null (BD-INFER-CAST c) = refl
+infer-null (BD-INFER-SELECT h g o) = refl
+infer-null (BD-INFER-UPDATE h c g o) = refl
+infer-null (BD-INFER-NEW w h) = refl
+infer-null (BD-INFER-LOCK h o k) = refl
+infer-null (BD-INFER-FJ d h k l) = refl
+
 module _ (p : Program) (ok : Regular p) where
-  -- What the rules give is a type.
+  -- What the rules check against, and what they give, is a type.
+  check-type : {Γ : List Slot} {e : Expr} {t : ℕ} → Check p Γ e t → IsType p t
+  check-type {t = t} (BD-CHECK-NULL w i o) = type-wf p t .1 i
+  check-type {t = t} (BD-CHECK-SUB h s n) = type-wf p t .1 (sub-types p ok s .1)
+  check-type (BD-CHECK-LET h c) = check-type c
+  check-type (BD-CHECK-LOCK h o c) = check-type c
+  check-type (BD-CHECK-FJ d h k c) = check-type c
+
   pub infer-type : {Γ : List Slot} {e : Expr} {t : ℕ} → Infer p Γ e t → IsType p t
   infer-type (BD-INFER-VAR {Γ = Γ} {x = x} {t = t} w h) = variable-type p Γ x t w h
   infer-type (BD-INFER-LET h k) = infer-type k
   infer-type (BD-INFER-CALL h c m o) = signature-types p ok m .result
-  infer-type (BD-INFER-CAST {t = t} (BD-CHECK-NULL w i o)) = type-wf p t .1 i
-  infer-type (BD-INFER-CAST {t = t} (BD-CHECK-SUB h s n)) = type-wf p t .1 (sub-types p ok s .1)
+  infer-type (BD-INFER-CAST c) = check-type c
   infer-type (BD-INFER-SELECT h g o) = field-type p ok g
   infer-type (BD-INFER-UPDATE h c g o) = omega arith
   infer-type (BD-INFER-NEW {t = t} w h) = type-wf p t .1 (T-WF-CLASS h)
@@ -134,14 +138,33 @@ module _ (p : Program) (ok : Regular p) where
   aim-no infers h = refuses h
   aim-no (checks t) h = refuses h
 
-  unfit : {Γ : List Slot} {e : Expr} {t t′ : ℕ} {b : Bool} → isNull e ≡ false → Infer p Γ e t′ → Decides (Sub p t′ t) b → Judged p Γ e (checks t) (fits b (pointOf e) t)
-  unfit n h (holds s) = passes (BD-CHECK-SUB h s n)
-  unfit n h (fails s) = refuses (not-below n h s refl)
+  unfit : {Γ : List Slot} {e : Expr} {t t′ : ℕ} {b : Bool} → pointOf (lastOf e) ≡ pointOf e → Infer p Γ e t′ → Decides (Sub p t′ t) b
+      → Judged p Γ e (checks t) (fits b (pointOf e) t)
+  unfit l h (holds s) = passes (BD-CHECK-SUB h s (infer-null h))
+  unfit l h (fails s) = refuses (not-below h s l)
 
-  aim-yes : {Γ : List Slot} {e : Expr} {t : ℕ} (a : Aim) → isNull e ≡ false → Infer p Γ e t → Aimed Γ e a (Typed t)
+  aim-yes : {Γ : List Slot} {e : Expr} {t : ℕ} (a : Aim) → pointOf (lastOf e) ≡ pointOf e → Infer p Γ e t → Aimed Γ e a (Typed t)
   unfolding Aimed
-  aim-yes infers n h = types h
-  aim-yes {t = t} (checks u) n h = unfit n h (decides-below p ok t u (infer-type h))
+  aim-yes infers l h = types h
+  aim-yes {t = t} (checks u) l h = unfit l h (decides-below p ok t u (infer-type h))
+
+  -- a let, a lock and a fork, by their last part
+  let-judged : {Γ : List Slot} {n x t : ℕ} {e₁ e₂ : Expr} {a : Aim} {r : Answer} → Infer p Γ e₁ t → Judged p (record { name = x; type = t } ∷ Γ) e₂ a r
+      → Judged p Γ (bind n x e₁ e₂) a r
+  let-judged h (types k) = types (BD-INFER-LET h k)
+  let-judged h (passes c) = passes (BD-CHECK-LET h c)
+  let-judged h (refuses l) = refuses (let-last h l)
+
+  fork-judged : {Γ : List Slot} {n t u : ℕ} {e₁ e₂ e : Expr} {a : Aim} {r : Answer} → Disjoint e₁ e₂ → Infer p Γ e₁ t → Infer p Γ e₂ u → Judged p Γ e a r
+      → Judged p Γ (fork n e₁ e₂ e) a r
+  fork-judged d h k (types l) = types (BD-INFER-FJ d h k l)
+  fork-judged d h k (passes c) = passes (BD-CHECK-FJ d h k c)
+  fork-judged d h k (refuses l) = refuses (fork-last d h k l)
+
+  lock-judged : {Γ : List Slot} {n x t : ℕ} {e : Expr} {a : Aim} {r : Answer} → WfEnv p Γ → TypeOf Γ x t → Judged p Γ e a r → Judged p Γ (lock n x e) a r
+  lock-judged w h (types k) = types (BD-INFER-LOCK (BD-INFER-VAR w h) any-use k)
+  lock-judged w h (passes c) = passes (BD-CHECK-LOCK (BD-INFER-VAR w h) any-use c)
+  lock-judged w h (refuses l) = refuses (lock-part h l)
 
   -- The walk answers by the rules: a type that they give, or the first no in the walk's order.
   pub judged : (Γ : List Slot) (e : Expr) (a : Aim) → WfEnv p Γ → AimType p a → Formed p e → Judged p Γ e a (answer p Γ e a)
@@ -174,31 +197,24 @@ module _ (p : Program) (ok : Regular p) where
       (λ q j c. aim-no a (call-part h (l .0) (l .1) c))
       (λ c. aim-yes a refl (rw (l .1) at (BD-INFER-CALL (BD-INFER-VAR {n = n} w h) c (l .0) any-use)))))
   judged Γ (bind n x e₁ e₂) a w i f =
-      by-inferred (λ r. Aimed Γ (bind n x e₁ e₂) a (andThen r (λ t. inferred p (record { name = x; type = t } ∷ Γ) e₂))) (judged Γ e₁ infers w tt (f .0))
-      (λ q k h. aim-no a (let-first h))
-      (λ t h. by-inferred (Aimed Γ (bind n x e₁ e₂) a) (judged (record { name = x; type = t } ∷ Γ) e₂ infers (env-more p Γ x t w (infer-type h)) tt (f .1))
-      (λ q k l. aim-no a (let-last h l))
-      (λ u l. aim-yes a refl (BD-INFER-LET h l)))
+      by-inferred (λ r. Judged p Γ (bind n x e₁ e₂) a (andThen r (λ t. answer p (record { name = x; type = t } ∷ Γ) e₂ a))) (judged Γ e₁ infers w tt (f .0))
+      (λ q k h. refuses (let-first h))
+      (λ t h. let-judged h (judged (record { name = x; type = t } ∷ Γ) e₂ a (env-more p Γ x t w (infer-type h)) i (f .1)))
   judged Γ (new n t) a w i f = aim-yes a refl (BD-INFER-NEW w (a-class-at p t f .1))
   judged Γ (cast n t e) a w i f =
       by-checked (Aimed Γ (cast n t e) a) (judged Γ e (checks t) w (f .0) (f .1))
       (λ q k c. aim-no a (cast-part c))
       (λ c. aim-yes a refl (BD-INFER-CAST c))
   judged Γ (fork n e₁ e₂ e₃) a w i f =
-      by-sharing (Aimed Γ (fork n e₁ e₂ e₃) a) n _ e₁ e₂ (decides-sharing e₁ e₂)
-      (λ h. aim-no a (fork-shares (h .left) (h .right)))
-      (λ d. by-inferred (λ r. Aimed Γ (fork n e₁ e₂ e₃) a (andThen r (λ t. andThen (inferred p Γ e₂) (λ u. inferred p Γ e₃)))) (judged Γ e₁ infers w tt (f .0))
-      (λ q k h. aim-no a (fork-left d h))
-      (λ t h. by-inferred (λ r. Aimed Γ (fork n e₁ e₂ e₃) a (andThen r (λ u. inferred p Γ e₃))) (judged Γ e₂ infers w tt (f .1))
-      (λ q k l. aim-no a (fork-right d h l))
-      (λ u l. by-inferred (Aimed Γ (fork n e₁ e₂ e₃) a) (judged Γ e₃ infers w tt (f .2))
-      (λ q k m. aim-no a (fork-last d h l m))
-      (λ v m. aim-yes a refl (BD-INFER-FJ d h l m)))))
+      by-sharing (Judged p Γ (fork n e₁ e₂ e₃) a) n _ e₁ e₂ (decides-sharing e₁ e₂)
+      (λ h. refuses (fork-shares (h .left) (h .right)))
+      (λ d. by-inferred (λ r. Judged p Γ (fork n e₁ e₂ e₃) a (andThen r (λ t. andThen (inferred p Γ e₂) (λ u. answer p Γ e₃ a)))) (judged Γ e₁ infers w tt (f .0))
+      (λ q k h. refuses (fork-left d h))
+      (λ t h. by-inferred (λ r. Judged p Γ (fork n e₁ e₂ e₃) a (andThen r (λ u. answer p Γ e₃ a))) (judged Γ e₂ infers w tt (f .1))
+      (λ q k l. refuses (fork-right d h l))
+      (λ u l. fork-judged d h l (judged Γ e₃ a w i (f .2)))))
   judged Γ (lock n x e) a w i f =
-      by-variable (Aimed Γ (lock n x e) a) n Γ x _ (λ h. aim-no a (lock-unbound h))
-      (λ t h. by-inferred (Aimed Γ (lock n x e) a) (judged Γ e infers w tt f)
-      (λ q k l. aim-no a (lock-part h l))
-      (λ u l. aim-yes a refl (BD-INFER-LOCK (BD-INFER-VAR w h) any-use l)))
+      by-variable (Judged p Γ (lock n x e) a) n Γ x _ (λ h. refuses (lock-unbound h)) (λ t h. lock-judged w h (judged Γ e a w i f))
 
   -- So a type that is inferred is one that the rules give.
   pub inferred-typed : (Γ : List Slot) (e : Expr) (t : ℕ) → WfEnv p Γ → Formed p e → inferred p Γ e ≡ Typed t → Infer p Γ e t
@@ -207,6 +223,64 @@ module _ (p : Program) (ok : Regular p) where
       go : {r : Answer} → Judged p Γ e infers r → r ≡ Typed t → Infer p Γ e t
       go (types {t = u} h) e = let q : u ≡ t = cc in rw q at h
       go (refuses h) e = absurd (let z : _≡_ {A = ℕ} 0 1 = cc in omega arith)
+
+-- So is its innermost last part.
+pub infer-ends : {p : Program} {Γ : List Slot} {e : Expr} {t : ℕ} → Infer p Γ e t → isNull (lastOf e) ≡ false
+infer-ends (BD-INFER-VAR w h) = refl
+infer-ends (BD-INFER-LET h k) = infer-ends k
+infer-ends (BD-INFER-CALL h c m o) = refl
+infer-ends (BD-INFER-CAST c) = refl
+infer-ends (BD-INFER-SELECT h g o) = refl
+infer-ends (BD-INFER-UPDATE h c g o) = refl
+infer-ends (BD-INFER-NEW w h) = refl
+infer-ends (BD-INFER-LOCK h o k) = infer-ends k
+infer-ends (BD-INFER-FJ d h k l) = infer-ends l
+
+-- Answers with two aims are related as those of the innermost last part are, if every no is related to itself.
+module _ (p : Program) (R : Answer → Answer → Type 0) (same : (q : Question) (n : Point) → R (Faulty q n) (Faulty q n)) where
+  last-after : (r : Answer) (f g : ℕ → Answer) → ((t : ℕ) → R (f t) (g t)) → R (andThen r f) (andThen r g)
+  last-after (Typed t) f g h = h t
+  last-after (Faulty q n) f g h = same q n
+
+  last-apart : (b : Bool) (n : Point) (r o : Answer) → R r o → R (unlessShared b n r) (unlessShared b n o)
+  last-apart true n r o h = same _ n
+  last-apart false n r o h = h
+
+  last-bound : (n : Point) (a : Option ℕ) (r o : Answer) → R r o → R (orFaulty Variables n a (λ t. r)) (orFaulty Variables n a (λ t. o))
+  last-bound n none r o h = same Variables n
+  last-bound n (some t) r o h = h
+
+  pub by-last : (a b : Aim) (e : Expr) → ((Γ : List Slot) → R (answer p Γ (lastOf e) a) (answer p Γ (lastOf e) b)) → (Γ : List Slot) → R (answer p Γ e a) (answer p Γ e b)
+  unfolding answer
+  by-last a b (null n) h Γ = h Γ
+  by-last a b (var n x) h Γ = h Γ
+  by-last a b (select n x f) h Γ = h Γ
+  by-last a b (update n x f e) h Γ = h Γ
+  by-last a b (call n x m e) h Γ = h Γ
+  by-last a b (bind n x e₁ e₂) h Γ = last-after (inferred p Γ e₁) _ _ (λ t. by-last a b e₂ h (record { name = x; type = t } ∷ Γ))
+  by-last a b (new n c) h Γ = h Γ
+  by-last a b (cast n t e) h Γ = h Γ
+  by-last a b (fork n e₁ e₂ e₃) h Γ = last-apart (shares (fv e₁) (fv e₂)) n _ _ (last-after (inferred p Γ e₁) _ _ (λ t. last-after (inferred p Γ e₂) _ _ (λ u. by-last a b e₃ h Γ)))
+  by-last a b (lock n x e) h Γ = last-bound n (typeIn Γ x) _ _ (by-last a b e h Γ)
+
+module _ (p : Program) where
+  last-as : (e : Expr) (t : ℕ) → isNull (lastOf e) ≡ false → (Γ : List Slot) → checked p Γ (lastOf e) t ≡ aimed p (pointOf (lastOf e)) (checks t) (inferred p Γ (lastOf e))
+  unfolding answer
+  last-as (null n) t h Γ = absurd (let z : _≡_ {A = ℕ} 0 1 = cc in omega arith)
+  last-as (var n x) t h Γ = refl
+  last-as (select n x f) t h Γ = refl
+  last-as (update n x f e) t h Γ = refl
+  last-as (call n x m e) t h Γ = refl
+  last-as (bind n x e₁ e₂) t h Γ = last-as e₂ t h Γ
+  last-as (new n c) t h Γ = refl
+  last-as (cast n u e) t h Γ = refl
+  last-as (fork n e₁ e₂ e₃) t h Γ = last-as e₃ t h Γ
+  last-as (lock n x e) t h Γ = last-as e t h Γ
+
+  -- Where the innermost last part is no null, an expression is checked as it is inferred, and that part is asked to fit: so every verdict is that of Figure 11,
+  -- and only the place of 14 is another.
+  pub checked-as : (Γ : List Slot) (e : Expr) (t : ℕ) → isNull (lastOf e) ≡ false → checked p Γ e t ≡ aimed p (pointOf (lastOf e)) (checks t) (inferred p Γ e)
+  checked-as Γ e t h = by-last p (λ r o. o ≡ aimed p (pointOf (lastOf e)) (checks t) r) (λ q n. refl) infers (checks t) e (last-as e t h) Γ
 
 module _ (p : Program) (ok : Regular p) (one : MsigsFunction p) where
   apart : (e₁ e₂ : Expr) → Disjoint e₁ e₂ → shares (fv e₁) (fv e₂) ≡ false
@@ -232,7 +306,10 @@ module _ (p : Program) (ok : Regular p) (one : MsigsFunction p) where
 
     pub check-complete : {Γ : List Slot} {e : Expr} {t : ℕ} → Check p Γ e t → checked p Γ e t ≡ Typed t
     check-complete (BD-CHECK-NULL w i o) = refl
-    check-complete (BD-CHECK-SUB {Γ = Γ} {e = e} {t = t} h s n) = rw (checked-as p Γ e t n, infer-complete h, below-true s)
+    check-complete (BD-CHECK-SUB {Γ = Γ} {e = e} {t = t} h s n) = rw (checked-as p Γ e t (infer-ends h), infer-complete h, below-true s)
+    check-complete (BD-CHECK-LET h c) = rw (infer-complete h) (check-complete c)
+    check-complete (BD-CHECK-LOCK (BD-INFER-VAR w h) o c) = rw (type-in h) (check-complete c)
+    check-complete (BD-CHECK-FJ {e₁ = e₁} {e₂ = e₂} d h k c) = rw (apart e₁ e₂ d, infer-complete h, infer-complete k) (check-complete c)
 
   -- Every first no is the walk's answer, so there is only one.
   pub no-complete : {Γ : List Slot} {e : Expr} {a : Aim} {q : Question} {k : Point} → ExprNo p Γ e a q k → answer p Γ e a ≡ Faulty q k
@@ -242,20 +319,19 @@ module _ (p : Program) (ok : Regular p) (one : MsigsFunction p) where
   no-complete (select-unbound {Γ = Γ} {x = x} {a = a} h) = still-no p _ a (rw (untyped-exactly Γ x .1 h))
   no-complete (update-unbound {Γ = Γ} {x = x} {a = a} h) = still-no p _ a (rw (untyped-exactly Γ x .1 h))
   no-complete (call-unbound {Γ = Γ} {x = x} {a = a} h) = still-no p _ a (rw (untyped-exactly Γ x .1 h))
-  no-complete (lock-unbound {Γ = Γ} {x = x} {a = a} h) = still-no p _ a (rw (untyped-exactly Γ x .1 h))
+  no-complete (lock-unbound {Γ = Γ} {x = x} h) = rw (untyped-exactly Γ x .1 h)
   no-complete (select-missing {f = f} {t = t} {a = a} h m) = still-no p _ a (rw (type-in h, found-not (field-found p ok t f) m))
   no-complete (update-missing {f = f} {t = t} {a = a} h m) = still-no p _ a (rw (type-in h, found-not (field-found p ok t f) m))
   no-complete (call-missing {m = m} {t = t} {a = a} h n) = still-no p _ a (rw (type-in h, found-not (method-found p ok t m) (λ g k. n g (k .0) (k .1))))
-  no-complete (fork-shares {e₁ = e₁} {e₂ = e₂} {a = a} l r) =
-      still-no p _ a (rw (yes-said (decides-sharing e₁ e₂) (record { variable = _; left = l; right = r })))
+  no-complete (fork-shares {e₁ = e₁} {e₂ = e₂} l r) = rw (yes-said (decides-sharing e₁ e₂) (record { variable = _; left = l; right = r }))
   no-complete (update-part {a = a} h g c) = still-no p _ a (rw (type-in h, field-in p ok _ _ _ .1 g, no-complete c))
   no-complete (call-part {a = a} h g e c) = still-no p _ a (rw (type-in h, ← e, method-only p ok one _ _ g, no-complete c))
   no-complete (cast-part {a = a} c) = still-no p _ a (no-complete c)
-  no-complete (lock-part {a = a} h k) = still-no p _ a (rw (type-in h) (no-complete k))
-  no-complete (let-first {a = a} h) = still-no p _ a (rw (no-complete h))
-  no-complete (let-last {a = a} h k) = still-no p _ a (rw (infer-complete h) (no-complete k))
-  no-complete (fork-left {e₁ = e₁} {e₂ = e₂} {a = a} d h) = still-no p _ a (rw (apart e₁ e₂ d, no-complete h))
-  no-complete (fork-right {e₁ = e₁} {e₂ = e₂} {a = a} d h k) = still-no p _ a (rw (apart e₁ e₂ d, infer-complete h, no-complete k))
-  no-complete (fork-last {e₁ = e₁} {e₂ = e₂} {a = a} d h k l) = still-no p _ a (rw (apart e₁ e₂ d, infer-complete h, infer-complete k) (no-complete l))
-  no-complete (not-below {Γ = Γ} {e = e} {t′ = t′} {t = t} n h s at) =
-      rw (checked-as p Γ e t n, at, infer-complete h, no-said (decides-below p ok t′ t (infer-type p ok h)) s)
+  no-complete (lock-part h k) = rw (type-in h) (no-complete k)
+  no-complete (let-first h) = rw (no-complete h)
+  no-complete (let-last h k) = rw (infer-complete h) (no-complete k)
+  no-complete (fork-left {e₁ = e₁} {e₂ = e₂} d h) = rw (apart e₁ e₂ d, no-complete h)
+  no-complete (fork-right {e₁ = e₁} {e₂ = e₂} d h k) = rw (apart e₁ e₂ d, infer-complete h, no-complete k)
+  no-complete (fork-last {e₁ = e₁} {e₂ = e₂} d h k l) = rw (apart e₁ e₂ d, infer-complete h, infer-complete k) (no-complete l)
+  no-complete (not-below {Γ = Γ} {e = e} {t′ = t′} {t = t} h s at) =
+      rw (checked-as p Γ e t (infer-ends h), at, infer-complete h, no-said (decides-below p ok t′ t (infer-type p ok h)) s)

@@ -71,7 +71,8 @@ pub data UseOk (p : Program) (n : Point) (u : Use) : Type 0 where
   any-use : UseOk p n u
 
 -- Γ ⊢ e ⇒ t and Γ ⊢ e ⇐ t, Figure 11. A target x is a variable, inferred by BD-INFER-VAR; it stands at the node that names it. The premise ⊢ C of BD-INFER-NEW
--- is that of T-WF-CLASS.
+-- is that of T-WF-CLASS. Not in the figure are BD-CHECK-LET, BD-CHECK-LOCK and BD-CHECK-FJ: "when a let, a lock or a fork is checked against a type, its last
+-- part is checked against that same type". Their other premises are those of BD-INFER-LET, BD-INFER-LOCK and BD-INFER-FJ.
 mutual
   pub data Infer (p : Program) : List Slot → Expr → ℕ → Type 0 where
     BD-INFER-VAR : {Γ : List Slot} {n x t : ℕ} → WfEnv p Γ → TypeOf Γ x t → Infer p Γ (var n x) t
@@ -93,6 +94,12 @@ mutual
   pub data Check (p : Program) : List Slot → Expr → ℕ → Type 0 where
     BD-CHECK-NULL : {Γ : List Slot} {n t : ℕ} → WfEnv p Γ → WfType p t → NullFits p t → Check p Γ (null n) t
     BD-CHECK-SUB : {Γ : List Slot} {e : Expr} {t′ t : ℕ} → Infer p Γ e t′ → Sub p t′ t → isNull e ≡ false → Check p Γ e t
+    BD-CHECK-LET : {Γ : List Slot} {n x t₁ t : ℕ} {e₁ e₂ : Expr} → Infer p Γ e₁ t₁ → Check p (record { name = x; type = t₁ } ∷ Γ) e₂ t
+        → Check p Γ (bind n x e₁ e₂) t
+    BD-CHECK-LOCK : {Γ : List Slot} {n x t₂ t : ℕ} {e : Expr} → Infer p Γ (var n x) t₂ → UseOk p n (of-lock t₂) → Check p Γ e t
+        → Check p Γ (lock n x e) t
+    BD-CHECK-FJ : {Γ : List Slot} {n t₁ t₂ t : ℕ} {e₁ e₂ e : Expr} → Disjoint e₁ e₂ → Infer p Γ e₁ t₁ → Infer p Γ e₂ t₂ → Check p Γ e t
+        → Check p Γ (fork n e₁ e₂ e) t
 
 -- ⊢ Id, Figure 3. That the parents of a join are interfaces is question 4.
 pub data WfInterface (p : Program) : Interface → Type 0 where

@@ -1,7 +1,6 @@
 -- Questions 9 to 15 as plain statements, and what a refusal says. As in Published, nothing here comes from the walk's files.
 use Prim.Native.Nat.{ℕ, suc, _+_, _<_, _≤_}
 use mathlib.Core.Path.{_≡_}
-use mathlib.Core.Bool.{false}
 use mathlib.Core.List.{List, [], _∷_}
 use Rattle.script.specs.declared.Question.{Question}
 use Rattle.script.specs.declared.Question.the-variants.{Length, Counts, Places, Interfaces, Owners, Types, Nodes, Names, Joins, Classes, Variables}
@@ -9,7 +8,7 @@ use Rattle.script.specs.declared.Question.the-variants.{Nulls, Members, Fits, S
 use Rattle.script.specs.declared.Section.the-variants.{Interfaces as interfaces, Classes as classes, Nodes as nodes}
 use Rattle.script.specs.Lists.{sumBelow}
 use Rattle.script.specs.Section.{countOf, recordAt}
-use Rattle.script.specs.Syntax.{Point, Expr, null, var, select, update, call, bind, cast, fork, lock, pointOf, isNull, Slot, Signature, Interface}
+use Rattle.script.specs.Syntax.{Point, Expr, null, var, select, update, call, bind, new, cast, fork, lock, pointOf, Slot, Signature, Interface}
 use Rattle.script.specs.Syntax.{lists, extends, Class, Program}
 use Rattle.script.specs.Reading.{interfaceAt, ownMethods, methodAt, classAt, programOf}
 use Rattle.script.specs.Asking.{rankOf, Asks, Each, LowestNo}
@@ -38,8 +37,21 @@ ClassesAre s = (classes, λ i. ClassIs (programOf s) (classAt s i)) ∷ []
 abbrev pub Unbound : List Slot → ℕ → Type 0
 Unbound Γ x = (t : ℕ) → TypeOf Γ x t → ⊥
 
+-- The innermost last part: that of the last part of a let, a lock or a fork. Any other expression is its own.
+abbrev pub lastOf : Expr → Expr
+lastOf (null n) = null n
+lastOf (var n x) = var n x
+lastOf (select n x f) = select n x f
+lastOf (update n x f e) = update n x f e
+lastOf (call n x m e) = call n x m e
+lastOf (bind n x e₁ e₂) = lastOf e₂
+lastOf (new n c) = new n c
+lastOf (cast n t e) = cast n t e
+lastOf (fork n e₁ e₂ e₃) = lastOf e₃
+lastOf (lock n x e) = lastOf e
+
 -- 11 to 15. The first no of the walk over an expression, with its aim: the question and the node. What comes before it in the walk got a yes: it is typed by
--- the published rules.
+-- the published rules. A last part is asked with the aim of the whole.
 pub data ExprNo (p : Program) : List Slot → Expr → Aim → Question → Point → Type 0 where
   -- 12. "Is no null inferred?"
   null-inferred : {Γ : List Slot} {n : ℕ} → ExprNo p Γ (null n) infers Nulls n
@@ -63,18 +75,18 @@ pub data ExprNo (p : Program) : List Slot → Expr → Aim → Question → Poin
   call-part : {Γ : List Slot} {n x m t k : ℕ} {g : Signature} {e : Expr} {a : Aim} {q : Question} → TypeOf Γ x t → MsigIn p t g → g .name ≡ m
       → ExprNo p Γ e (checks (g .param)) q k → ExprNo p Γ (call n x m e) a q k
   cast-part : {Γ : List Slot} {n t k : ℕ} {e : Expr} {a : Aim} {q : Question} → ExprNo p Γ e (checks t) q k → ExprNo p Γ (cast n t e) a q k
-  lock-part : {Γ : List Slot} {n x t k : ℕ} {e : Expr} {a : Aim} {q : Question} → TypeOf Γ x t → ExprNo p Γ e infers q k → ExprNo p Γ (lock n x e) a q k
+  lock-part : {Γ : List Slot} {n x t k : ℕ} {e : Expr} {a : Aim} {q : Question} → TypeOf Γ x t → ExprNo p Γ e a q k → ExprNo p Γ (lock n x e) a q k
   let-first : {Γ : List Slot} {n x k : ℕ} {e₁ e₂ : Expr} {a : Aim} {q : Question} → ExprNo p Γ e₁ infers q k → ExprNo p Γ (bind n x e₁ e₂) a q k
   let-last : {Γ : List Slot} {n x t k : ℕ} {e₁ e₂ : Expr} {a : Aim} {q : Question} → Infer p Γ e₁ t
-      → ExprNo p (record { name = x; type = t } ∷ Γ) e₂ infers q k → ExprNo p Γ (bind n x e₁ e₂) a q k
+      → ExprNo p (record { name = x; type = t } ∷ Γ) e₂ a q k → ExprNo p Γ (bind n x e₁ e₂) a q k
   fork-left : {Γ : List Slot} {n k : ℕ} {e₁ e₂ e : Expr} {a : Aim} {q : Question} → Disjoint e₁ e₂ → ExprNo p Γ e₁ infers q k
       → ExprNo p Γ (fork n e₁ e₂ e) a q k
   fork-right : {Γ : List Slot} {n t k : ℕ} {e₁ e₂ e : Expr} {a : Aim} {q : Question} → Disjoint e₁ e₂ → Infer p Γ e₁ t → ExprNo p Γ e₂ infers q k
       → ExprNo p Γ (fork n e₁ e₂ e) a q k
   fork-last : {Γ : List Slot} {n t u k : ℕ} {e₁ e₂ e : Expr} {a : Aim} {q : Question} → Disjoint e₁ e₂ → Infer p Γ e₁ t → Infer p Γ e₂ u
-      → ExprNo p Γ e infers q k → ExprNo p Γ (fork n e₁ e₂ e) a q k
-  -- 14. "Is each inferred type below the wanted one?"
-  not-below : {Γ : List Slot} {e : Expr} {t′ t k : ℕ} → isNull e ≡ false → Infer p Γ e t′ → (Sub p t′ t → ⊥) → pointOf e ≡ k → ExprNo p Γ e (checks t) Fits k
+      → ExprNo p Γ e a q k → ExprNo p Γ (fork n e₁ e₂ e) a q k
+  -- 14. "Is each inferred type below the wanted one?", asked of the innermost last part
+  not-below : {Γ : List Slot} {e : Expr} {t′ t k : ℕ} → Infer p Γ e t′ → (Sub p t′ t → ⊥) → pointOf (lastOf e) ≡ k → ExprNo p Γ e (checks t) Fits k
 
 -- Method record k is one of class record c: "Runs of signatures, fields and methods belong to their owners in order."
 pub record MethodOf (s : List ℕ) (c k : ℕ) : Type 0 where

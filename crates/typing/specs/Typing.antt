@@ -80,7 +80,7 @@ aimed p n infers r = r
 aimed p n (checks t) r = andThen r (λ u. fits (below p u t) n t)
 
 -- "A null is checked against any type and inferred never." "A write has type Unit. A cast infers its type after checking its operand. Let, lock and fork infer
--- the type of their last part."
+-- the type of their last part", and "when a let, a lock or a fork is checked against a type, its last part is checked against that same type": the aim goes on.
 unfoldable pub answer : Program → List Slot → Expr → Aim → Answer
 answer p Γ (null n) infers = Faulty Nulls n
 answer p Γ (null n) (checks t) = fits (nullTest p t) n t
@@ -97,15 +97,15 @@ answer p Γ (call n x m e) a =
     (orFaulty Variables n (typeIn Γ x)
     (λ t. orFaulty Members n (methodIn p t m)
     (λ g. unlessNo (useNo p n (of-method t m)) n (andThen (answer p Γ e (checks (g .param))) (λ v. Typed (g .result))))))
-answer p Γ (bind n x e₁ e₂) a = aimed p n a (andThen (answer p Γ e₁ infers) (λ t. answer p (record { name = x; type = t } ∷ Γ) e₂ infers))
+answer p Γ (bind n x e₁ e₂) a = andThen (answer p Γ e₁ infers) (λ t. answer p (record { name = x; type = t } ∷ Γ) e₂ a)
 answer p Γ (new n c) a = aimed p n a (Typed c)
 answer p Γ (cast n t e) a = aimed p n a (answer p Γ e (checks t))
 answer p Γ (fork n e₁ e₂ e₃) a =
-    let r = andThen (answer p Γ e₁ infers) (λ t. andThen (answer p Γ e₂ infers) (λ u. answer p Γ e₃ infers)) in
-    aimed p n a (unlessShared (shares (fv e₁) (fv e₂)) n r)
+    let r = andThen (answer p Γ e₁ infers) (λ t. andThen (answer p Γ e₂ infers) (λ u. answer p Γ e₃ a)) in
+    unlessShared (shares (fv e₁) (fv e₂)) n r
 answer p Γ (lock n x e) a =
-    let r = answer p Γ e infers in
-    aimed p n a (orFaulty Variables n (typeIn Γ x) (λ t. unlessNo (useNo p n (of-lock t)) n r))
+    let r = answer p Γ e a in
+    orFaulty Variables n (typeIn Γ x) (λ t. unlessNo (useNo p n (of-lock t)) n r)
 
 abbrev pub inferred : Program → List Slot → Expr → Answer
 inferred p Γ e = answer p Γ e infers

@@ -17,7 +17,7 @@ type Scope = Vec<(u16, Type)>;
 struct Place {
     node: u16,
     scope: Scope,
-    /// The inferred type; a null has none and fits everywhere.
+    /// The inferred type; what ends in null has none and fits everywhere.
     gives: Option<Type>,
     /// For a node that leaves a frame: what the frame waits for.
     takes: Option<Type>,
@@ -211,7 +211,7 @@ impl Maker<'_> {
 
     /// A frame that gives what is wanted, and what it takes.
     fn frame(&mut self, want: Option<Type>) -> Option<(Frame, Option<Type>)> {
-        let gives = |place: &Place| place.takes.is_some() && place.gives.is_some_and(|ty| self.below(ty, want));
+        let gives = |place: &Place| place.takes.is_some() && place.gives.is_none_or(|ty| self.below(ty, want));
         let fitting: Vec<usize> = (0..self.places.len()).filter(|&place| gives(&self.places[place])).collect();
         let place = self.rng.pick(&fitting)?;
         let (node, takes) = (self.places[place].node, self.places[place].takes);

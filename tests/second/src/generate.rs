@@ -147,6 +147,24 @@ fn lay_out(script: &mut Script, rng: &mut Rng) -> Vec<u16> {
     numbers
 }
 
+/// What an expression is made for.
+#[derive(Clone, Copy)]
+enum Goal {
+    /// To be checked against this type. The type that is told of what is made says nothing then.
+    Checked(u16),
+    /// To be inferred, with this type or below.
+    Inferred(Option<u16>),
+}
+
+impl Goal {
+    fn upper(self) -> Option<u16> {
+        match self {
+            Goal::Checked(wanted) => Some(wanted),
+            Goal::Inferred(goal) => goal,
+        }
+    }
+}
+
 #[derive(Default)]
 struct Generator {
     rng: Rng,
@@ -345,14 +363,15 @@ impl Generator {
     /// An expression that fits where `wanted` is checked, with at most `budget` (1 or more) nodes.
     fn checked(&mut self, wanted: u16, budget: usize) -> u16 {
         if let Some(node) = self.occasion(14).and_then(|_| self.unfit(wanted, budget)) {
-            return self.at_fault(node);
+            self.at_fault(self.innermost(node));
+            return node;
         }
         let null_in = if self.long_running { 40 } else { 8 };
         if self.rng.one_in(null_in) {
             return self.emit([0; 4]);
         }
         if budget >= 2 {
-            return self.not_null(Some(wanted), budget).0;
+            return self.not_null(Goal::Checked(wanted), budget).0;
         }
         let leaf = self.long_running.then(|| self.variable_or_new(Some(wanted))).flatten();
         leaf.map_or_else(|| self.emit([0; 4]), |(node, _)| node)
@@ -364,14 +383,14 @@ impl Generator {
             let null = self.emit([0; 4]);
             return (self.at_fault(null), goal.unwrap_or(0));
         }
-        self.not_null(goal, budget)
+        self.not_null(Goal::Inferred(goal), budget)
     }
 
-    /// The same, wherever it stands.
-    fn not_null(&mut self, goal: Option<u16>, budget: usize) -> (u16, u16) {
+    /// An expression for a goal that is no null itself.
+    fn not_null(&mut self, goal: Goal, budget: usize) -> (u16, u16) {
         for number in [11, 13, 15] {
             if let Some(node) = self.occasion(number).and_then(|_| self.faulty(number)) {
-                return (self.at_fault(node), goal.unwrap_or(0));
+                return (self.at_fault(node), goal.upper().unwrap_or(0));
             }
         }
         for _ in 0..6 {
@@ -386,20 +405,21 @@ impl Generator {
                 return made;
             }
         }
-        if let Some(made) = self.long_running.then(|| self.variable_or_new(goal)).flatten() {
+        if let Some(made) = self.long_running.then(|| self.variable_or_new(goal.upper())).flatten() {
             return made;
         }
-        let (ty, null) = (self.type_below(goal), self.emit([0; 4]));
+        let (ty, null) = (self.type_below(goal.upper()), self.emit([0; 4]));
         (self.emit([7, ty, null, 0]), ty)
     }
 
     /// A variable, so that an object gets a second name, or else a new object.
     fn variable_or_new(&mut self, goal: Option<u16>) -> Option<(u16, u16)> {
         let first = [1, 6][self.rng.below(2)];
-        [first, 1, 6, 6, 6].into_iter().find_map(|kind| self.attempt(kind, goal, 2))
+        [first, 1, 6, 6, 6].into_iter().find_map(|kind| self.attempt(kind, Goal::Inferred(goal), 2))
     }
 
-    fn attempt(&mut self, kind: usize, goal: Option<u16>, budget: usize) -> Option<(u16, u16)> {
+    fn attempt(&mut self, kind: usize, aim: Goal, budget: usize) -> Option<(u16, u16)> {
+        let goal = aim.upper();
         let (node, ty) = match kind {
             1 => {
                 let (variable, ty) = self.some_variable().filter(|&(_, ty)| self.fits(ty, goal))?;
@@ -417,7 +437,7 @@ impl Generator {
                 let (target, [name, parameter, result]) = self.some_member(|this| &this.methods, goal)?;
                 ([4, target, name, self.checked(parameter, budget - 1)], result)
             }
-            5 if budget >= 5 => self.binding(goal, budget),
+            5 if budget >= 5 => self.binding(aim, budget),
             6 => {
                 let class = self.type_below(goal);
                 (class as usize > self.script.interfaces.len()).then_some(([6, class, 0, 0], class))?
@@ -426,10 +446,10 @@ impl Generator {
                 let ty = self.type_below(goal);
                 ([7, ty, self.checked(ty, budget - 1), 0], ty)
             }
-            8 if budget >= 7 => self.forking(goal, budget),
+            8 if budget >= 7 => self.forking(aim, budget),
             9 if budget >= 3 => {
                 let (target, _) = self.some_variable()?;
-                let (body, ty) = self.inferred(goal, budget - 1);
+                let (body, ty) = self.last_part(aim, budget - 1);
                 ([9, target, body, 0], ty)
             }
             _ => return None,
@@ -437,8 +457,18 @@ impl Generator {
         Some((self.emit(node), ty))
     }
 
+    /// The last part of a let, a lock or a fork for a goal: a checked one is sometimes a null.
+    fn last_part(&mut self, goal: Goal, budget: usize) -> (u16, u16) {
+        let null_in = if self.long_running { 12 } else { 6 };
+        match goal {
+            Goal::Checked(_) if self.rng.one_in(null_in) => (self.emit([0; 4]), 0),
+            Goal::Checked(wanted) => (self.checked(wanted, budget), wanted),
+            Goal::Inferred(goal) => self.inferred(goal, budget),
+        }
+    }
+
     /// A let, with the type of its last part.
-    fn binding(&mut self, goal: Option<u16>, budget: usize) -> ([u16; 4], u16) {
+    fn binding(&mut self, goal: Goal, budget: usize) -> ([u16; 4], u16) {
         let [first, last] = self.split(budget - 1);
         let brief = self.long_running && self.rng.one_in(2);
         let (bound, bound_type) = match brief.then(|| self.variable_or_new(None)).flatten() {
@@ -448,7 +478,7 @@ impl Generator {
         let variable = 2 + self.rng.below(self.variables) as u16;
         let outer = self.environment.insert(variable, bound_type);
         self.bound.push(variable);
-        let (body, ty) = self.inferred(goal, last);
+        let (body, ty) = self.last_part(goal, last);
         self.bound.pop();
         match outer {
             Some(outer) => self.environment.insert(variable, outer),
@@ -458,7 +488,7 @@ impl Generator {
     }
 
     /// A fork, with the type of its last part.
-    fn forking(&mut self, goal: Option<u16>, budget: usize) -> ([u16; 4], u16) {
+    fn forking(&mut self, goal: Goal, budget: usize) -> ([u16; 4], u16) {
         let [left, right, last] = self.split(budget - 1);
         // Each variable may be free in one async only; both may bind it anew.
         let whole = self.environment.clone();
@@ -468,7 +498,7 @@ impl Generator {
         self.environment = rights;
         let (right, _) = self.inferred(None, right);
         self.environment = whole;
-        let (last, ty) = self.inferred(goal, last);
+        let (last, ty) = self.last_part(goal, last);
         ([8, left, right, last], ty)
     }
 
@@ -484,6 +514,14 @@ impl Generator {
         self.fault = None;
         self.faulty = Some(node);
         node
+    }
+
+    /// The innermost last part of an expression.
+    fn innermost(&self, node: u16) -> u16 {
+        match self.script.nodes[node as usize] {
+            [5 | 8, _, _, last] | [9, _, last, _] => self.innermost(last),
+            _ => node,
+        }
     }
 
     /// An expression that gets a no to question 11, 13 or 15, and is otherwise in order.

@@ -48,7 +48,7 @@ impl<'a> Typer<'a> {
             for &[_, parameter, result, body] in &self.script.methods[run] {
                 self.environment[THIS] = Some(self.script.class_type(index));
                 self.environment[PARAMETER] = Some(parameter);
-                self.check(body, result)?; // "Bodies are checked against the result type"
+                self.check(body, Some(result))?; // "Bodies are checked against the result type"
             }
         }
         self.environment.fill(None); // "the start is inferred with no variable"
@@ -85,27 +85,23 @@ impl<'a> Typer<'a> {
             Expr::Read { target, field } => self.field(target, field, node),
             Expr::Write { target, field, value } => {
                 let wanted = self.field(target, field, node)?;
-                self.check(value, wanted)?;
+                self.check(value, Some(wanted))?;
                 Ok(UNIT)
             }
             Expr::Call { target, method, argument } => {
                 let ty = self.bound(target, node)?;
                 let signature = self.types.method(ty, method).ok_or_else(|| self.refusal(Question::Member, node))?;
-                self.check(argument, signature.parameter)?;
+                self.check(argument, Some(signature.parameter))?;
                 Ok(signature.result)
             }
-            Expr::Let { variable, bound, body } => self.infer_let(variable, bound, body),
+            Expr::Let { variable, bound, body } => self.binding(variable, bound, |typer| typer.infer(body)),
             Expr::New { class } => Ok(class),
             Expr::Cast { ty, operand } => {
-                self.check(operand, ty)?;
+                self.check(operand, Some(ty))?;
                 Ok(ty)
             }
             Expr::Fork { left, right, last } => {
-                if self.typing.sharing[node as usize] {
-                    return Err(self.refusal(Question::Sharing, node));
-                }
-                self.infer(left)?;
-                self.infer(right)?;
+                self.asyncs(left, right, node)?;
                 self.infer(last)
             }
             Expr::Lock { target, body } => {
@@ -115,27 +111,54 @@ impl<'a> Typer<'a> {
         }
     }
 
-    /// The last part is inferred with the variable at the first part's type; then the variable
-    /// means again what it meant outside.
-    fn infer_let(&mut self, variable: u16, bound: u16, body: u16) -> Result<Type, Refusal> {
+    /// The last part is asked with the variable at the first part's type; then the variable means
+    /// again what it meant outside.
+    fn binding<T>(
+        &mut self,
+        variable: u16,
+        bound: u16,
+        last: impl FnOnce(&mut Self) -> Result<T, Refusal>,
+    ) -> Result<T, Refusal> {
         let ty = self.infer(bound)?;
         let outer = self.environment[variable as usize].replace(ty);
-        let result = self.infer(body);
+        let result = last(self);
         self.environment[variable as usize] = outer;
         result
     }
 
-    /// Γ ⊢ e ⇐ t. "A null is checked against any type", "every other node is checked by inferring
-    /// and asking whether the result is below the wanted type"; if not, that node is at fault.
-    pub fn check(&mut self, node: u16, wanted: Type) -> Result<(), Refusal> {
-        if let Expr::Null = self.typing.expressions[node as usize] {
-            return Ok(());
+    /// The asyncs share no variable, and both have types.
+    fn asyncs(&mut self, left: u16, right: u16, node: u16) -> Result<(), Refusal> {
+        if self.typing.sharing[node as usize] {
+            return Err(self.refusal(Question::Sharing, node));
         }
-        let ty = self.infer(node)?;
-        if self.types.below(ty, wanted) {
-            Ok(())
-        } else {
-            Err(self.refusal(Question::Fits, node))
+        self.infer(left)?;
+        self.infer(right)?;
+        Ok(())
+    }
+
+    /// Γ ⊢ e ⇐ t, and Γ ⊢ e ⇐ t for some t where none is wanted. "A null is checked against any
+    /// type"; "when a let, a lock or a fork is checked against a type, its last part is checked
+    /// against that same type"; "every other node is checked by inferring and asking whether the
+    /// result is below the wanted type"; if not, that node is at fault.
+    pub fn check(&mut self, node: u16, wanted: Option<Type>) -> Result<(), Refusal> {
+        match self.typing.expressions[node as usize] {
+            Expr::Null => Ok(()),
+            Expr::Let { variable, bound, body } => self.binding(variable, bound, |typer| typer.check(body, wanted)),
+            Expr::Fork { left, right, last } => {
+                self.asyncs(left, right, node)?;
+                self.check(last, wanted)
+            }
+            Expr::Lock { target, body } => {
+                self.bound(target, node)?;
+                self.check(body, wanted)
+            }
+            _ => {
+                let ty = self.infer(node)?;
+                match wanted.is_none_or(|wanted| self.types.below(ty, wanted)) {
+                    true => Ok(()),
+                    false => Err(self.refusal(Question::Fits, node)),
+                }
+            }
         }
     }
 

@@ -10,11 +10,21 @@ use std::cell::RefCell;
 use std::collections::{HashMap, HashSet};
 
 /// What the surroundings of a value ask of it.
-#[derive(Clone, Copy, Debug, PartialEq, Eq)]
+#[derive(Clone, Copy, Debug, PartialEq, Eq, Hash)]
 enum Want {
     Below(Type),
     /// "To any type at an async."
     Anything,
+}
+
+impl Want {
+    /// The type that is wanted, if one is.
+    fn upper(self) -> Option<Type> {
+        match self {
+            Want::Below(ty) => Some(ty),
+            Want::Anything => None,
+        }
+    }
 }
 
 /// Whether a state that a block was read as is well formed.
@@ -27,15 +37,15 @@ pub fn well_formed(program: &Program, state: &State) -> bool {
         && judge.locks_fit()
 }
 
-/// A node, and the types of the script's variables.
-type TypedNode = (u16, Vec<Option<Type>>);
+/// A node, the types of the script's variables, and what is wanted of the node.
+type WantedNode = (u16, Vec<Option<Type>>, Want);
 
 /// A state under judgement.
 struct Judge<'a> {
     program: &'a Program,
     state: &'a State,
     /// What was found of let frames: a method that calls itself leaves many that are alike.
-    lets: RefCell<HashMap<TypedNode, Option<(Type, Type)>>>,
+    lets: RefCell<HashMap<WantedNode, Option<Type>>>,
 }
 
 impl<'a> Judge<'a> {
@@ -86,47 +96,48 @@ impl<'a> Judge<'a> {
         }
     }
 
-    /// Γ ⊢ e ⇐ t. A null, which has no inferred type, is also fit where anything is.
+    /// Γ ⊢ e ⇐ t, for some t where anything is wanted.
     fn node_fits(&self, at: Closure, want: Want) -> bool {
-        let (Some(expr), Some(mut typer)) = (self.expression(at.node), self.typer(at.environment)) else {
+        let (Some(_), Some(mut typer)) = (self.expression(at.node), self.typer(at.environment)) else {
             return false;
         };
-        match want {
-            Want::Below(ty) => typer.check(at.node, ty).is_ok(),
-            Want::Anything => matches!(expr, Expr::Null) || typer.infer(at.node).is_ok(),
-        }
+        typer.check(at.node, want.upper()).is_ok()
     }
 
     /// What a frame waits for, if the frame is one and gives what is wanted of it.
     fn awaited(&self, frame: &Frame, want: Want) -> Option<Want> {
-        let (gives, takes) = match *frame {
+        let takes = match *frame {
             Frame::Lock { object } => return (usize::from(object) < self.state.objects.len()).then_some(want),
             Frame::Cast { node } => match self.expression(node)? {
-                Expr::Cast { ty, .. } => (ty, ty),
+                Expr::Cast { ty, .. } => self.meets(ty, want).then_some(ty)?,
                 _ => return None,
             },
-            Frame::Waiting(at) => self.gives_and_takes(at)?,
+            Frame::Waiting(at) => self.takes(at, want)?,
         };
-        self.meets(gives, want).then_some(Want::Below(takes))
+        Some(Want::Below(takes))
     }
 
-    /// The type of a write, call or let, and that of the value it waits for. The part that has
-    /// run is not asked again; a let's first part is, since its type is the variable's.
-    fn gives_and_takes(&self, at: Closure) -> Option<(Type, Type)> {
+    /// The type of the value that a write, call or let waits for, if it gives what is wanted. The
+    /// part that has run is not asked again; a let's first part is, since its type is the
+    /// variable's, and its last part is checked against what is wanted.
+    fn takes(&self, at: Closure, want: Want) -> Option<Type> {
         let mut typer = self.typer(at.environment)?;
         match self.expression(at.node)? {
             Expr::Write { target, field, .. } => {
                 let class = typer.variable(target)?;
-                Some((UNIT, self.program.types.field(class, field)?))
+                self.program.types.field(class, field).filter(|_| self.meets(UNIT, want))
             }
             Expr::Call { target, method, .. } => {
                 let ty = typer.variable(target)?;
                 let signature = self.program.types.method(ty, method)?;
-                Some((signature.result, signature.parameter))
+                self.meets(signature.result, want).then_some(signature.parameter)
             }
             Expr::Let { bound, .. } => {
-                let key = (at.node, typer.types().to_vec());
-                let infer = || Some((typer.infer(at.node).ok()?, typer.infer(bound).ok()?));
+                let key = (at.node, typer.types().to_vec(), want);
+                let infer = || {
+                    typer.check(at.node, want.upper()).ok()?;
+                    typer.infer(bound).ok()
+                };
                 *self.lets.borrow_mut().entry(key).or_insert_with(infer)
             }
             _ => None,

@@ -3,6 +3,7 @@
 use second::block::Area;
 use second::block_damage::Edit;
 use second::cases::{any_case, Origin};
+use second::expr::Expr;
 use second::generate::Rng;
 use second::state::{Focus, Frame, MOST_BINDINGS, MOST_FRAMES, MOST_OBJECTS, MOST_THREADS};
 use second::{block, offer, program::Program, run};
@@ -84,6 +85,12 @@ fn made_blocks_are_varied() {
         let frames: usize = positions.iter().map(|position| position.tree.frames.len()).sum();
         let waiting = |frame: &Frame| matches!(frame, Frame::Waiting(_));
         let holds = |position: &second::state::Position| position.tree.frames.iter().any(waiting);
+        let ends_in_null = |frame: &Frame| match *frame {
+            Frame::Waiting(at) => matches!(program.expressions[at.node as usize],
+                Expr::Let { body, .. } if matches!(program.expressions[body as usize], Expr::Null)),
+            _ => false,
+        };
+        let gives_null = |position: &second::state::Position| position.tree.frames.iter().any(ends_in_null);
         let leftmost_failed = |tree: &second::state::Tree| match &tree.focus {
             Focus::Join { sides, .. } => sides[0].is_failed() && tree.locks().count() > 0,
             _ => false,
@@ -93,6 +100,7 @@ fn made_blocks_are_varied() {
             ("shut objects beside a failed thread", failed > 0 && shut > locked),
             ("a join's lock frames that nobody holds", positions.iter().any(|position| leftmost_failed(position.tree))),
             ("a write, call or let that waits", positions.iter().any(holds)),
+            ("a let that waits and ends in null", positions.iter().any(gives_null)),
             ("objects full", state.objects.len() == MOST_OBJECTS),
             ("bindings full", state.bindings.len() == MOST_BINDINGS),
             ("room for one binding", state.bindings.len() == MOST_BINDINGS - 1),

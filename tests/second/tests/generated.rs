@@ -11,7 +11,7 @@ fn well_typed_scripts_are_accepted_and_varied() {
     let mut rng = Rng::new(1);
     let mut kinds = [0; 10];
     let mut most = [0; 6];
-    let (mut twice, mut diamonds, mut null_arguments, mut shadowing) = (0, 0, 0, 0);
+    let (mut twice, mut diamonds, mut null_arguments, mut shadowing, mut null_ends) = (0, 0, 0, 0, [0; 3]);
     for _ in 0..3_000 {
         let file = well_typed(&mut rng);
         let reply = check(&file);
@@ -31,7 +31,16 @@ fn well_typed_scripts_are_accepted_and_varied() {
         let binds = |node: u16, variable: u16| script.nodes[node as usize][..2] == [5, variable];
         shadowing +=
             script.nodes.iter().filter(|&&[kind, variable, _, body]| kind == 5 && binds(body, variable)).count();
+        for &node in &script.nodes {
+            match node {
+                [5, _, _, last] if is_null(last) => null_ends[0] += 1,
+                [8, _, _, last] if is_null(last) => null_ends[1] += 1,
+                [9, _, last, _] if is_null(last) => null_ends[2] += 1,
+                _ => {}
+            }
+        }
     }
+    assert!(null_ends.iter().all(|&count| count > 100), "{null_ends:?}");
     assert!(kinds.iter().all(|&count| count > 1_000), "{kinds:?}");
     assert_eq!(most, LIMITS);
     assert!([twice, diamonds, null_arguments, shadowing].iter().all(|&count| count > 100));

@@ -107,8 +107,26 @@ fn one_walk() {
     start(&[[5, 2, 1, 3], [7, 1, 2, 0], new_c, [2, 2, 20, 0]], 13, 3); // fields only of class types
     start(&[[5, 2, 1, 3], [7, 1, 2, 0], new_c, [4, 2, 10, 4], [0; 4]], 0, 0); // methods also of interfaces
     start(&[[5, 2, 1, 3], [7, 0, 2, 0], [0; 4], [4, 2, 10, 4], [0; 4]], 13, 3); // Unit has none
-    start(&[[7, 1, 1, 0], [5, 2, 2, 3], new_c, [0; 4]], 12, 3); // a checked let still infers its last part
-    start(&[[7, 2, 1, 0], [5, 2, 2, 3], new_c, [1, 2, 0, 0]], 14, 1); // and is itself what does not fit
+}
+
+#[test]
+fn last_parts() {
+    let (null, new_c, x) = ([0; 4], [6, 3, 0, 0], [1, 2, 0, 0]);
+    start(&[[5, 2, 1, 2], new_c, null], 12, 2); // a start that ends in null
+    start(&[[7, 1, 1, 0], [5, 2, 2, 3], new_c, null], 0, 0); // a checked let checks its last part
+    start(&[[7, 2, 1, 0], [5, 2, 2, 3], new_c, x], 14, 3); // which is what does not fit
+    start(&[[7, 2, 1, 0], [8, 2, 3, 4], new_c, new_c, [5, 2, 5, 6], new_c, x], 14, 6); // the innermost
+    start(&[[7, 1, 1, 0], [8, 2, 3, 4], new_c, new_c, null], 0, 0); // so does a fork
+    start(&[[7, 1, 1, 0], [8, 2, 3, 4], null, new_c, null], 12, 2); // whose asyncs are inferred
+    start(&[[7, 1, 1, 0], [8, 2, 3, 4], new_c, [5, 2, 5, 6], null, new_c, null], 12, 6);
+    start(&[[5, 2, 1, 2], new_c, [7, 1, 3, 0], [9, 2, 4, 0], null], 0, 0); // and a lock
+    start(&[[7, 1, 1, 0], [9, 2, 2, 0], null], 11, 1); // whose target comes first
+    start(&[[7, 1, 1, 0], [5, 2, 2, 3], [5, 3, 4, 5], x, new_c, null], 12, 5); // a let's first part is inferred
+    start(&[[5, 2, 1, 2], new_c, [3, 2, 20, 3], [5, 3, 4, 5], new_c, null], 0, 0); // a written value
+    start(&[[5, 2, 1, 2], new_c, [4, 2, 10, 3], [9, 2, 4, 0], null], 0, 0); // an argument
+    let body = |nodes: Vec<[u16; 4]>| move |script: &mut Script| script.nodes.splice(2.., nodes.clone()).for_each(drop);
+    answers(body(vec![[5, 2, 3, 4], new_c, null]), 0, None); // a body
+    answers(body(vec![[5, 2, 3, 4], new_c, [9, 2, 5, 0], [6, 4, 0, 0]]), 14, Some((Nodes, 5)));
 }
 
 #[test]

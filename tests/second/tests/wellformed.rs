@@ -17,6 +17,10 @@ const WRITE: u16 = 8;
 const LET: u16 = 10;
 const CALL: u16 = 13;
 const CAST_TO_I: u16 = 15;
+const LET_TO_NULL: u16 = 17;
+const LOCK_TO_NULL: u16 = 19;
+/// As many as there are.
+const NODES: u16 = 21;
 
 /// I = 1 with m from C to I; C = 2 of I with m and a field 7: D; D = 3 of I with m and no field.
 /// The start is let x = new C in lock x in fork{(Unit)null}{lock x in x}; x.f = let y = new D in y.
@@ -33,16 +37,17 @@ fn script() -> Script {
         [3, X, 7, 9],
         [5, 3, 11, 12],
     ];
-    // C's m is let y = new D in this.m(null), with the let at node 10; D's is (I)null.
-    let (let_in_c, cast_in_d) = ([5, 3, 16, CALL], [7, I, 17, 0]);
-    let rest = [let_in_c, [6, D, 0, 0], [1, 3, 0, 0], [4, 0, 10, 14], [0; 4], cast_in_d, [6, D, 0, 0], [0; 4]];
+    // C's m is let y = new D in this.m(null), with the let at node 10; D's is (I)let z = new D in lock z in null.
+    let (let_in_c, cast_in_d) = ([5, 3, 16, CALL], [7, I, LET_TO_NULL, 0]);
+    let to_null = [[5, 4, 18, LOCK_TO_NULL], [6, D, 0, 0], [9, 4, 20, 0], [0; 4]];
+    let rest = [let_in_c, [6, D, 0, 0], [1, 3, 0, 0], [4, 0, 10, 14], [0; 4], cast_in_d, [6, D, 0, 0]];
     Script {
         interfaces: vec![[0, 1, 0]],
         signatures: vec![[10, C, I]],
         classes: vec![[I, 1, 1], [I, 0, 1]],
         fields: vec![[7, D]],
         methods: vec![[10, C, I, LET], [10, C, I, CAST_TO_I]],
-        nodes: [&start[..], &rest].concat(),
+        nodes: [&start[..], &rest, &to_null].concat(),
     }
 }
 
@@ -156,7 +161,9 @@ fn wanted_types() {
     assert_eq!(both(Focus::Node(at(NULL, None))), (true, true));
     assert_eq!(both(Focus::Node(at(CAST_TO_I, None))), (false, true));
     assert_eq!(both(Focus::Node(at(CAST_TO_UNIT, None))), (true, true));
-    assert_eq!(both(Focus::Node(at(18, None))), (false, false));
+    assert_eq!(both(Focus::Node(at(LET_TO_NULL, None))), (true, true));
+    assert_eq!(both(Focus::Node(at(LOCK_TO_NULL, None))), (false, false)); // it needs z
+    assert_eq!(both(Focus::Node(at(NODES, None))), (false, false));
     let last = |node| {
         is_accepted(|state| match &mut state.tree.focus {
             Focus::Join { last, .. } => *last = at(node, Some(0)),
@@ -164,6 +171,7 @@ fn wanted_types() {
         })
     };
     assert!(last(WRITE) && last(NULL) && last(CAST_TO_UNIT) && !last(LOCK) && !last(CAST_TO_I));
+    assert!(last(LET_TO_NULL) && !last(LOCK_TO_NULL));
 }
 
 #[test]
@@ -185,6 +193,9 @@ fn frames() {
     assert_eq!(both(waiting(WRITE, Some(0)), c), (false, false));
     assert_eq!(both(waiting(WRITE, None), null), (false, false));
     assert_eq!(both(waiting(WRITE, Some(1)), null), (false, false));
+    // What ends in null gives whatever is wanted; it waits for a D.
+    assert_eq!(both(waiting(LET_TO_NULL, None), d), (true, true));
+    assert_eq!(both(waiting(LET_TO_NULL, None), c), (false, false));
     // The let's first part is a D whatever the bindings; its body needs `this`.
     assert_eq!(both(waiting(LET, Some(0)), d), (false, false));
     let under_this = |ty: u16, node: u16, value: Value| {

@@ -6,14 +6,13 @@ use Rattle.engine.proofs.start.oolong_start.Tie as tie
 
 returns : tie.Need-returns
 returns c =
-    let s = c .before .before .before .before .before in
-    let check = c .before .before .oolong-check in
-    (refl, script-refused (s .args .script .now) (s .args .block .now) _ _ (check .ensures .1 .0) (check .ensures .1 .1 .0) (c .if1 .taken))
+    let s = c .before .before .before .before .before .before in
+    (refl, script-refused (s .args .script .now) (s .args .block .now) _ _ _ (c .start-refusal .ensures) (c .before .before .before .oolong-check .ensures .1 .0) (c .before .before .before .oolong-check .ensures .1 .1 .0) (c .before .if1 .taken))
 
 returns-2 : tie.Need-returns-2
 returns-2 c =
-    let s = c .before .before .before .before .before .before .before in
-    (refl, block-refused (s .args .script .now) (s .args .block .now) _ _ (c .before .before .before .before .oolong-check .ensures .1 .0) (c .before .before .if1 .left) (c .before .if2 .taken) (c .lent-number .ensures))
+    let s = c .before .before .before .before .before .before .before .before in
+    (refl, block-refused (s .args .script .now) (s .args .block .now) _ _ _ (c .start-refusal2 .ensures) (c .before .before .before .before .before .oolong-check .ensures .1 .0) (c .before .before .before .if1 .left) (c .before .before .if2 .taken) (c .before .lent-number .ensures))
 
 returns-3 : tie.Need-returns-3
 returns-3 c =
@@ -25,7 +24,9 @@ oolong-start-spec =
     tie.close
     (tie.spec
     (λ c κs. search needs)
+    (λ c κs. search needs)
     returns
+    (λ c κs. search needs)
     (λ c κs. search needs)
     returns-2
     (λ c κs. search needs)

@@ -1,12 +1,16 @@
-use mathlib.Core.Path.{refl, sym}
+use mathlib.Core.Path.{refl, sym, _∙_}
 use native.Mathlib.Omega.{arith}
 use borrow.Author.Needs.{needs}
+use Rattle.typing.specs.declared.Aim.the-variants.{Infers as infers}
 use Rattle.environments.proofs.KnownLaws as laws
 use Rattle.environments.proofs.known.first_type.Statement.{statement}
 use Rattle.environments.proofs.known.first_type.Tie as tie
 
-cast-t12 : tie.Need-cast-t12
-cast-t12 c = omega (arith, laws.told-small (laws.scoped (c .before .before .before .before .before .before .before .before .before .pre .0 .0) (c .before .before .before .before .before .before .before .before .before .pre .0 .1) (c .before .before .before .before .before .before .before .before .before .pre .1 .0 .0) (c .before .before .before .before .before .before .before .before .before .pre .1 .0 .2)) _ (c .before .before .before .known-type .ensures) _ (c .before .t .given .1))
+cast-t13 : tie.Need-cast-t13
+cast-t13 c = omega (arith, laws.told-small (laws.scoped (c .before .before .before .before .before .before .before .before .before .pre .0 .0) (c .before .before .before .before .before .before .before .before .before .pre .0 .1) (c .before .before .before .before .before .before .before .before .before .pre .1 .0 .0) (c .before .before .before .before .before .before .before .before .before .pre .1 .0 .2)) _ (c .before .before .before .known-type .ensures) _ (c .before .t .given .1))
+
+returns : tie.Need-returns
+returns c = (c .answer-of .ensures ∙ c .before .before .before .infer-under .ensures .0 infers, c .before .before .before .infer-under .ensures .1)
 
 returns-2 : tie.Need-returns-2
 returns-2 c = (sym (c .before .before .before .known-type .ensures _ (c .before .t .given .1)), refl)
@@ -19,7 +23,8 @@ first-type-spec =
     (λ c. search needs)
     (λ c. search needs)
     (λ c κs. search needs)
+    (λ c κs. search needs)
     (λ c. search needs)
-    (λ c. search needs)
-    cast-t12
+    returns
+    cast-t13
     returns-2)

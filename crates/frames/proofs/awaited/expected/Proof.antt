@@ -5,13 +5,13 @@ use Rattle.frames.proofs.awaited.expected.Statement.{statement}
 use Rattle.frames.proofs.awaited.expected.Tie as tie
 
 returns : tie.Need-returns
-returns c = laws.expected-never (c .before .before .before .before .args .s .now) _ (c .before .before .before .before .args .want) (c .enum-told .given .1)
-
-returns-2 : tie.Need-returns-2
-returns-2 c = laws.expected-not (c .before .before .before .before .before .before .before .args .s .now) _ (c .before .before .before .before .before .before .before .args .want) _ _ (c .before .before .before .w .given .1) _ (c .before .meets .ensures) (not-true _ (c .if1 .taken))
+returns c = laws.expected-not (c .before .before .before .before .before .before .before .args .s .now) _ (c .before .before .before .before .before .before .before .args .want) _ _ (c .before .before .before .w .given .1) _ (c .before .meets .ensures) (not-true _ (c .if1 .taken))
 
 returns-3 : tie.Need-returns-3
 returns-3 c = laws.expected-so (c .before .before .before .before .before .before .before .args .s .now) _ (c .before .before .before .before .before .before .before .args .want) _ _ (c .before .before .before .w .given .1) _ (c .before .meets .ensures) (not-false _ (c .if1 .left))
+
+returns-4 : tie.Need-returns-4
+returns-4 c = laws.expected-null (c .before .before .before .before .before .args .s .now) _ (c .before .before .before .before .before .args .want) _ (c .before .w2 .given .1)
 
 pub expected-spec : {M : Type 1} → statement M
 expected-spec =
@@ -19,7 +19,9 @@ expected-spec =
     (tie.spec
     (λ c. search needs)
     (λ c. search needs)
-    returns
     (λ c κs. search needs)
-    returns-2
-    returns-3)
+    returns
+    (λ c. search needs)
+    (λ c. search needs)
+    returns-3
+    returns-4)

@@ -14,7 +14,10 @@ returns-2 : tie.Need-returns-2
 returns-2 c = laws.recalls-nothing _ _ _ _
 
 returns-3 : tie.Need-returns-3
-returns-3 c = laws.recalls-entry (c .before .before .before .before .before .before .before .before .args .block .now) (c .before .before .before .before .before .before .before .before .args .memo .now) (c .before .before .before .before .before .before .before .before .args .n) (c .before .before .before .before .before .before .before .before .args .e) (c .before .before .before .before .if1 .left) (c .before .before .before .same-scope .ensures (not-false _ (c .before .before .if2 .left)))
+returns-3 c = laws.recalls-null (c .before .before .before .before .before .before .before .before .before .args .block .now) (c .before .before .before .before .before .before .before .before .before .args .memo .now) (c .before .before .before .before .before .before .before .before .before .args .n) (c .before .before .before .before .before .before .before .before .before .args .e) (c .before .before .before .before .before .if1 .left) (c .before .before .before .before .same-scope .ensures (not-false _ (c .before .before .before .if2 .left))) (c .if3 .taken)
+
+returns-4 : tie.Need-returns-4
+returns-4 c = laws.recalls-entry (c .before .before .before .before .before .before .before .before .before .args .block .now) (c .before .before .before .before .before .before .before .before .before .args .memo .now) (c .before .before .before .before .before .before .before .before .before .args .n) (c .before .before .before .before .before .before .before .before .before .args .e) (c .before .before .before .before .before .if1 .left) (c .before .before .before .before .same-scope .ensures (not-false _ (c .before .before .before .if2 .left))) (c .if3 .left)
 
 pub recall-spec : {M : Type 1} → statement M
 recall-spec =
@@ -33,4 +36,6 @@ recall-spec =
     (λ c. search needs)
     (λ c. search needs)
     (λ c. search needs)
-    returns-3)
+    returns-3
+    (λ c. search needs)
+    returns-4)

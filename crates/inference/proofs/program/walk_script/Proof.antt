@@ -1,6 +1,7 @@
 use Prim.Native.Nat.{_-_}
 use native.Mathlib.Omega.{arith}
 use borrow.Author.Needs.{needs}
+use Rattle.inference.proofs.InferLaws.{given-inferred}
 use Rattle.inference.proofs.WalkLaws.{ClassesLeft}
 use Rattle.inference.proofs.WalkLaws as laws
 use Rattle.inference.proofs.program.walk_script.Statement.{statement}
@@ -28,7 +29,7 @@ infer-requires : tie.Need-infer-requires Inv-loop μ-loop
 infer-requires c κs = laws.start-at (c .before .before .before .before .before .before .before .before .pre) (c .before .before .loop .inv .same)
 
 returns-2 : tie.Need-returns-2 Inv-loop μ-loop
-returns-2 c = laws.classes-all (c .before .before .before .before .before .loop .inv) _ (c .before .before .before .before .before .before .before .before .before .before .before .pre) (omega (arith, c .before .before .before .before .before .before .count-of .ensures .0)) (c .before .before .infer .ensures .0)
+returns-2 c = laws.classes-all (c .before .before .before .before .before .before .loop .inv) _ (c .before .before .before .before .before .before .before .before .before .before .before .before .pre) (omega (arith, c .before .before .before .before .before .before .before .count-of .ensures .0)) (rw (← c .answer-of .ensures) at (given-inferred _ _ (c .before .before .before .infer .ensures .0)))
 
 pub walk-script-spec : {M : Type 1} → statement M
 walk-script-spec =
@@ -47,5 +48,6 @@ walk-script-spec =
     (λ c. search needs)
     loop-again
     infer-requires
+    (λ c κs. search needs)
     (λ c. search needs)
     returns-2)

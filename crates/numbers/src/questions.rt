@@ -1,7 +1,9 @@
 // The numbers of the questions.
-use crate::Question;
+use calls::LentQuestion;
+use script::Question;
 ghost use mathlib.Core.Path.{_≡_};
 ghost use Rattle.script.specs.Asking.{numberOf};
+ghost use Rattle.calls.specs.Calls.{lentNumber};
 
 // A no gives the question's number.
 pub fn number_of(q: Question) -> u16
@@ -23,5 +25,16 @@ pub fn number_of(q: Question) -> u16
         Question::Members => 13,
         Question::Fits => 14,
         Question::Sharing => 15,
+    }
+}
+
+// The same of a question about what is lent beside the script.
+pub fn lent_number(question: LentQuestion) -> u16
+    ensures { λ r. ⌜ r ≡ lentNumber question ⌝ }
+{
+    match question {
+        LentQuestion::BlockLength => 20,
+        LentQuestion::BufferLength => 22,
+        LentQuestion::BlockForm => 21,
     }
 }

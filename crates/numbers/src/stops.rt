@@ -1,9 +1,9 @@
 // The numbers of the stops.
-use crate::Ending;
-use crate::Stop;
-use crate::Store;
+use machine::Ending;
+use machine::Stop;
+use machine::Store;
 ghost use mathlib.Core.Path.{_≡_};
 ghost use Rattle.machine.specs.Stops.{endingNumber, stopNumber, storeNumber};
 
 fn store_number(store: Store) -> u16
     ensures { λ r. ⌜ r ≡ storeNumber store ⌝ }

@@ -1,0 +1,15 @@
+// The replies as C gets them.
+mod check;
+mod offer;
+mod run;
+mod start;
+
+pub use check::CheckReply;
+pub use check::check_reply;
+pub use offer::OfferReply;
+pub use offer::offer_refusal;
+pub use run::RunReply;
+pub use run::run_refusal;
+pub use run::run_reply;
+pub use start::StartReply;
+pub use start::start_refusal;

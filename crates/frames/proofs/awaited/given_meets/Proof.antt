@@ -1,0 +1,18 @@
+use borrow.Author.Needs.{needs}
+use Rattle.frames.proofs.awaited.given_meets.Statement.{statement}
+use Rattle.frames.proofs.awaited.given_meets.Tie as tie
+
+returns : tie.Need-returns
+returns c = rw (c .before .before .g .given .1) (c .meets .ensures)
+
+pub given-meets-spec : {M : Type 1} → statement M
+given-meets-spec =
+    tie.close
+    (tie.spec
+    (λ c. search needs)
+    (λ c κs. search needs)
+    (λ c. search needs)
+    (λ c. search needs)
+    returns
+    (λ c. search needs)
+    (λ c. search needs))
