@@ -215,9 +215,6 @@ pub never-small : GivesSmall Never
 never-small t u f = absurd (let z : _≡_ {A = ℕ} 0 1 = cc in omega arith)
 
 -- what is expected, by whether what is given meets
-pub expected-never : (s : List ℕ) (w : Waits) (v : Want) → w ≡ Never → No ≡ expectsOf (wantsOf (codeOf s) v w)
-expected-never s w v f = rw f
-
 pub expected-null : (s : List ℕ) (w : Waits) (v : Want) (t : ℕ) → w ≡ ForNull t → Wants (upto t) ≡ expectsOf (wantsOf (codeOf s) v w)
 expected-null s w v t f = rw f
 
