@@ -20,10 +20,11 @@
  * the byte offset in the script of the lowest record at fault, or 0 where the question is about the script as a whole or about another buffer. A refusal leaves every other number of
  * the reply 0, and EVERY LENT BYTE AS IT WAS.
  *
- * The block. A run's whole state is in the 49,152 bytes of the block, which is yours; docs/BLOCK.md says what each byte means. A state has exactly one block: two runs of a script are in the
+ * The block. A run's whole state is in the 65,536 bytes of the block, which is yours; docs/BLOCK.md says what each byte means. A state has exactly one block: two runs of a script are in the
  * same state just where memcmp of their blocks is 0. All numbers in it stand low byte first on every machine. Between calls you may keep a block as long as you like, move it, save it to a
  * file and load it again, copy it to come back to that state later, and run the copies on in different ways. Lend it with the script that it was started with. You may also lend a block
  * that was changed, damaged or made by hand: if it is no well-formed state of the script the call is refused with OOLONG_NO_BLOCK_FORM, and if it is one, the run goes on from there.
+ * A block that was written by a library of major version 1 (layout 1, 49,152 bytes) is refused with OOLONG_NO_BLOCK_LENGTH: let the old library end its runs, or start them anew.
  *
  * Stack. See OOLONG_STACK_FOR: the calls go as deep as the script's expressions are nested.
  *
@@ -41,13 +42,13 @@ extern "C" {
 #endif
 
 /* The major version changes where a call, a reply, a number's meaning or the block's layout does; the minor where something is added; the patch where neither does. */
-#define OOLONG_VERSION_MAJOR 1
-#define OOLONG_VERSION_MINOR 1
+#define OOLONG_VERSION_MAJOR 2
+#define OOLONG_VERSION_MINOR 0
 #define OOLONG_VERSION_PATCH 0
 #define OOLONG_VERSION (OOLONG_VERSION_MAJOR * 10000 + OOLONG_VERSION_MINOR * 100 + OOLONG_VERSION_PATCH)
 
 /* The number of the block's layout: it changes where a byte of the block changes its meaning. A block that you keep in a file is best kept with this number. */
-#define OOLONG_LAYOUT 1
+#define OOLONG_LAYOUT 2
 
 /* The linker's name of a call: its own, and the major version. */
 #define OOLONG_TEXT_OF(number) #number
@@ -66,7 +67,7 @@ extern "C" {
 #define OOLONG_CLASS_FIELDS_MOST 8u  /* fields of one class */
 
 /* The other buffers. */
-#define OOLONG_BLOCK 49152u          /* bytes of a state block, exactly */
+#define OOLONG_BLOCK 65536u          /* bytes of a state block, exactly */
 #define OOLONG_FLAGS 63u             /* bytes of the flags, exactly: one for each tree position that there can be */
 #define OOLONG_CHOICES_MOST 4096u    /* bytes of the longest choice list; none is fine */
 
@@ -91,10 +92,11 @@ enum oolong_number {
     OOLONG_NO_CLASS = 10,      /* a class lacks a method of its interface, or has it with other types */
     OOLONG_NO_VARIABLE = 11,   /* a variable is not bound */
     OOLONG_NO_NULL = 12,       /* the type of a null is to be inferred */
-    OOLONG_NO_MEMBER = 13,     /* the target's type lacks the field or method */
-    OOLONG_NO_FIT = 14,        /* an inferred type is not below the wanted one (place: the node that does not fit: an operand, an argument, a value to write or a method's body; of a let, a lock or a fork the innermost last part) */
+    OOLONG_NO_MEMBER = 13,     /* the target's type lacks the field or method, or the target of a lock is of type Int */
+    OOLONG_NO_FIT = 14,        /* an inferred type is not below the wanted one (place: the node that does not fit: an operand, an argument, a value to write or a method's body; of a let, a lock or a fork the innermost last part),
+                                  a null stands where Int is wanted (place: the null), or a variable of a sum is not of type Int (place: the sum) */
     OOLONG_NO_SHARING = 15,    /* the two asyncs of a fork share a variable (place: the fork) */
-    OOLONG_NO_BLOCK_LENGTH = 20,  /* the block is not 49,152 bytes; place 0 */
+    OOLONG_NO_BLOCK_LENGTH = 20,  /* the block is not 65,536 bytes, as one of layout 1 is not; place 0 */
     OOLONG_NO_BUFFER_LENGTH = 22, /* there are more than 4,096 choices (oolong_run), or the flags are not 63 bytes (oolong_offer); place 0. Asked before 21 */
     OOLONG_NO_BLOCK_FORM = 21     /* the block is no well-formed state of this script; place 0 */
 };
@@ -103,7 +105,7 @@ enum oolong_number {
 enum oolong_stop {
     OOLONG_SPENT = 0,         /* every choice is read and the run can go on: lend more */
     OOLONG_FINISHED = 1,      /* the script has ended with a value */
-    OOLONG_FAILED = 2,        /* the script has ended with a failure: a field, a method or a lock of null was asked for */
+    OOLONG_FAILED = 2,        /* the script has ended with a failure: a field, a method or a lock of null was asked for, or a sum was below -2,147,483,648 or above 2,147,483,647 */
     OOLONG_DEADLOCK = 3,      /* no thread can move: each that is left waits for a lock that is never opened */
     OOLONG_FULL_OBJECTS = 4,  /* the move that was chosen last needs a place that the block no longer has, and was not made. Objects and bindings stay full; */
     OOLONG_FULL_BINDINGS = 5, /* frames and threads may become free when other threads move. */
@@ -113,14 +115,14 @@ enum oolong_stop {
 
 /* Stack that is enough for any call, in bytes, by measurement on x86-64, where the script's expressions are nested so deep: a node that is no part of another is nested 1 deep, and a part one
  * deeper than its node. OOLONG_STACK is enough for any script, OOLONG_STACK_USUAL for one that is nested at most 100 deep. */
-#define OOLONG_STACK_FOR(nesting) (16384u + 410u * (nesting))
+#define OOLONG_STACK_FOR(nesting) (22528u + 410u * (nesting))
 #define OOLONG_STACK_USUAL OOLONG_STACK_FOR(100u)
 #define OOLONG_STACK OOLONG_STACK_FOR(OOLONG_NODES_MOST)
 
 struct oolong_check_reply {
     uint16_t number; /* OOLONG_OK or OOLONG_NO_.. */
     uint16_t place;  /* where the fault is; 0 with OOLONG_OK */
-    uint16_t type;   /* the start's type: 0 Unit, then the interfaces from 1, then the classes; 0 with a refusal */
+    uint16_t type;   /* the start's type: 0 Unit, then the interfaces from 1, then the classes, and last Int, the signed 32-bit numbers; 0 with a refusal */
 };
 
 /*
@@ -185,10 +187,10 @@ static __inline__ const char *oolong_number_text(unsigned number) {
     case OOLONG_NO_CLASS: return "a class lacks a method of its interface, or has it with other types";
     case OOLONG_NO_VARIABLE: return "a variable is not bound";
     case OOLONG_NO_NULL: return "a null stands where its type would have to be inferred";
-    case OOLONG_NO_MEMBER: return "the target's type lacks the field or method";
-    case OOLONG_NO_FIT: return "a type does not fit the wanted one";
+    case OOLONG_NO_MEMBER: return "the target's type lacks the field or method, or a number is locked";
+    case OOLONG_NO_FIT: return "a type does not fit the wanted one, or a null stands where a number is wanted";
     case OOLONG_NO_SHARING: return "the two asyncs of a fork share a variable";
-    case OOLONG_NO_BLOCK_LENGTH: return "the block is not 49,152 bytes long";
+    case OOLONG_NO_BLOCK_LENGTH: return "the block is not 65,536 bytes long";
     case OOLONG_NO_BLOCK_FORM: return "the block is no well-formed state of this script";
     case OOLONG_NO_BUFFER_LENGTH: return "there are more than 4,096 choices, or the flags are not 63 bytes long";
     default: return "no reply has this number";
@@ -200,7 +202,7 @@ static __inline__ const char *oolong_stop_text(unsigned stop) {
     switch (stop) {
     case OOLONG_SPENT: return "the choices are spent and the run can go on";
     case OOLONG_FINISHED: return "the run has finished with a value";
-    case OOLONG_FAILED: return "the run has failed at a null";
+    case OOLONG_FAILED: return "the run has failed at a null, or at a sum outside the range";
     case OOLONG_DEADLOCK: return "the run is in a deadlock";
     case OOLONG_FULL_OBJECTS: return "the move has no room for an object";
     case OOLONG_FULL_BINDINGS: return "the move has no room for its bindings";

@@ -55,6 +55,23 @@ pub fn objects(count: usize) -> State {
     State { objects: (0..count).map(object).collect(), ..State::initial() }
 }
 
+/// `full_numbers` with so many bindings in one chain and so many fields, all of them numbers, and a number that waits at so many casts.
+pub fn numbers(count: usize) -> State {
+    let number = |index: usize| Value::Number(65_537 * index as i32 - 1);
+    let object = |index: usize| Object { class: 2, shut: false, fields: vec![number(index); 8] };
+    let binding = |index: usize| Binding {
+        name: 2 + index as u16,
+        ty: 3,
+        value: number(index),
+        beneath: (index as u16).checked_sub(1),
+    };
+    State {
+        objects: (0..count / 8).map(object).collect(),
+        bindings: (0..count).map(binding).collect(),
+        tree: Tree { frames: vec![Frame::Cast { node: 0 }; count], focus: Focus::Value(number(count)) },
+    }
+}
+
 /// `beside` with its left side at its beginning, and a right side that waits with so many casts.
 pub fn beside_frames(count: usize) -> State {
     let at = |node: u16| Closure { node, environment: None };

@@ -2,7 +2,7 @@
 
 use crate::lent::check_times;
 use crate::scripts::{
-    casts_up, deepest, figure_ten, forks, forks_to_null, forks_with_variables, ladder, largest, spread,
+    casts_up, deepest, figure_ten, figure_ten_bare, forks, forks_to_null, forks_with_variables, ladder, largest, spread,
 };
 use crate::table::{heading, row};
 use second::script::Script;
@@ -28,7 +28,8 @@ type Case = (&'static str, Script, Script);
 
 fn cases() -> Vec<Case> {
     vec![
-        ("Figure 10, no integers", figure_ten(), figure_ten()),
+        ("Figure 10", figure_ten(), figure_ten()),
+        ("Figure 10, no integers", figure_ten_bare(), figure_ten_bare()),
         ("largest script", largest(16), largest(8)),
         ("63 double joins", ladder(63), ladder(31)),
         ("63 joins, casts up all of them", casts_up(63, false), casts_up(31, false)),
@@ -43,7 +44,8 @@ fn cases() -> Vec<Case> {
 
 fn named_cases() -> Vec<Case> {
     vec![
-        ("Figure 10, no integers", figure_ten(), figure_ten()),
+        ("Figure 10", figure_ten(), figure_ten()),
+        ("Figure 10, no integers", figure_ten_bare(), figure_ten_bare()),
         ("511 lets in lets", deepest(1024), deepest(512)),
         ("204 forks with variables", forks_with_variables(204), forks_with_variables(102)),
     ]

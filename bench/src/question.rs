@@ -1,8 +1,8 @@
 //! Question 21, which Offer and Run ask each time: blocks with many frames, bindings and objects. Each is timed in Offer and in a Run of one choice.
 
-use crate::blocks::{bindings, frames, objects, recursion};
+use crate::blocks::{bindings, frames, numbers, objects, recursion};
 use crate::lent::{made, offer_times, run_on, run_times};
-use crate::scripts::{deepest, full_objects, recursive};
+use crate::scripts::{deepest, full_numbers, full_objects, recursive};
 use crate::table::{heading, row};
 use second::program::Program;
 use second::script::Script;
@@ -29,6 +29,7 @@ pub fn bench() {
     growth("frames at one environment", 2048, &recursive(0, 1), frames);
     growth("bindings in one chain", 2048, &recursive(0, 1), bindings);
     growth("objects with 8 fields", 256, &full_objects(), objects);
+    growth("a full block of numbers", 2048, &full_numbers(), numbers);
     let lets = |nodes| run_on(&deepest(nodes), usize::from(nodes) / 2 * 3 - 4);
     both("bindings of lets in lets", 510, lets(1024), lets(512));
 }

@@ -2,7 +2,7 @@
 
 use crate::blocks::beside_frames;
 use crate::lent::{made, played, run_times, start_block};
-use crate::scripts::{beside, deepest, endless, figure_ten, forks, lets_of_nulls};
+use crate::scripts::{beside, counting, deepest, endless, figure_ten, figure_ten_bare, forks, lets_of_nulls};
 use crate::table::{heading, row};
 use crate::timing::Times;
 use second::script::Script;
@@ -45,8 +45,10 @@ fn timed(name: &str, file: &[u8], from: &[u8], choices: &[u8], half: Option<Time
 
 fn cases() -> Vec<Case> {
     vec![
-        ("Figure 10, no integers", figure_ten(), None),
+        ("Figure 10", figure_ten(), None),
+        ("Figure 10, no integers", figure_ten_bare(), None),
         ("a method that calls itself", endless(), None),
+        ("a method that counts", counting(), None),
         ("511 lets in lets", deepest(1024), Some(deepest(512))),
         ("340 lets of nulls in lets", lets_of_nulls(340), Some(lets_of_nulls(170))),
         ("31 forks, left in left", forks(31, true), Some(forks(15, true))),

@@ -14,8 +14,21 @@ fn empty() -> Script {
     Script::default()
 }
 
-/// The program of the paper's Figure 10 without its integers, as in samples/accept-figure10.words.
+/// The program of the paper's Figure 10, as in samples/accept-figure10.words.
 pub fn figure_ten() -> Script {
+    let mut script = figure_ten_bare();
+    script.signatures = vec![[0, 3, 0], [1, 3, 3]];
+    script.fields = vec![[0, 3]];
+    script.methods = vec![[2, 3, 0, 17], [0, 3, 0, 19], [1, 3, 3, 23]];
+    for (node, number) in [(7, 0), (11, 1), (14, 2), (16, 0)] {
+        script.nodes[node] = [10, number, 0, 0];
+    }
+    script.nodes[22] = [11, 2, 1, 0];
+    script
+}
+
+/// The same without its integers.
+pub fn figure_ten_bare() -> Script {
     Script {
         interfaces: vec![[0, 2, 0]],
         signatures: vec![[0, 1, 0], [1, 0, 1]],
@@ -178,11 +191,45 @@ pub fn endless() -> Script {
     }
 }
 
+/// A method that counts: m(x) = let y = this.f in let z = (this.f = y + x) in this.m(x), called with 1. Each round adds four bindings, until there is no room.
+pub fn counting() -> Script {
+    Script {
+        interfaces: vec![[0, 1, 0]],
+        signatures: vec![[0, 3, 3]],
+        classes: vec![[1, 1, 1]],
+        fields: vec![[0, 3]],
+        methods: vec![[0, 3, 3, 4]],
+        nodes: vec![
+            [5, 2, 1, 2],
+            [6, 2, 0, 0],
+            [4, 2, 0, 3],
+            [10, 1, 0, 0],
+            [5, 2, 5, 6],
+            [2, 0, 0, 0],
+            [5, 3, 7, 9],
+            [3, 0, 0, 8],
+            [11, 2, 1, 0],
+            [4, 0, 0, 10],
+            [1, 1, 0, 0],
+        ],
+    }
+}
+
+/// A class with 8 fields of type Int, and a start that is a cast to Int.
+pub fn full_numbers() -> Script {
+    let fields = (0..8).map(|name| [name, 3]).collect();
+    let nodes = vec![[7, 3, 1, 0], [10, 1, 0, 0]];
+    Script { interfaces: vec![[0, 0, 0]], classes: vec![[1, 8, 0]], fields, nodes, ..empty() }
+}
+
 /// The same script with each `let`'s variable number so many times as far from the first.
 pub fn spread(mut script: Script, apart: u16) -> Script {
-    for [kind, variable, ..] in &mut script.nodes {
-        if matches!(kind, 1..=5 | 9) && *variable > 2 {
-            *variable = 2 + (*variable - 2) * apart;
+    let spread = |variable: &mut u16| *variable = 2.min(*variable) + variable.saturating_sub(2) * apart;
+    for [kind, a, b, _] in &mut script.nodes {
+        match kind {
+            1..=5 | 9 => spread(a),
+            11 => [a, b].into_iter().for_each(spread),
+            _ => {}
         }
     }
     script

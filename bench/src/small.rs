@@ -1,7 +1,7 @@
 //! Small calls: Start; Offer and one-choice Run on the block that Start leaves; and the loop of a converter that asks which positions can move, moves one, and asks again.
 
 use crate::lent::{copy_time, offer_times, played, run_times, start_block, start_times};
-use crate::scripts::{deepest, figure_ten, largest};
+use crate::scripts::{deepest, figure_ten, figure_ten_bare, largest};
 use crate::table::{heading, row};
 use crate::timing::{race, Times};
 use second::script::Script;
@@ -24,10 +24,12 @@ pub fn bench() {
         }
     }
     heading("Offer and Run for each move", "moves", "");
-    let file = figure_ten().encode();
-    let start = start_block(&file);
-    let (choices, end) = played(&file, start.clone());
-    row("Figure 10, no integers", choices.len(), loop_times(&file, &start, &choices, &end), None, "");
+    for (name, script) in [("Figure 10", figure_ten()), ("Figure 10, no integers", figure_ten_bare())] {
+        let file = script.encode();
+        let start = start_block(&file);
+        let (choices, end) = played(&file, start.clone());
+        row(name, choices.len(), loop_times(&file, &start, &choices, &end), None, "");
+    }
 }
 
 fn cases() -> Vec<(&'static str, Script)> {

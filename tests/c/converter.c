@@ -37,7 +37,7 @@ static void expect_start(const char *what, const uint8_t *script, size_t len, si
     if (number == OOLONG_OK) {
         memset(wanted.bytes, 0, block_len);
         put(wanted.bytes, 6, 1);     /* one tree position, */
-        put(wanted.bytes, 21512, 1); /* at a node, which is node 0 */
+        put(wanted.bytes, 37896, 1); /* at a node, which is node 0 */
     }
     struct oolong_start_reply got = oolong_start(lent.bytes, len, block.bytes, block_len);
     if (got.number != number || got.place != place) {
@@ -71,6 +71,32 @@ static void checks_of_small_scripts(void) {
     expect_check("a start that is null", check_guarded(script, len), OOLONG_NO_NULL, 24, 0);
 }
 
+/* Nodes alone: Int is type 1. */
+static void checks_of_numbers(void) {
+    static const struct {
+        const char *what;
+        unsigned nodes[5][4], count, number, place, type;
+    } cases[] = {
+        {"-1", {{10, 65535, 65535, 0}}, 1, OOLONG_OK, 0, 1},
+        {"let x = 1 in x + x", {{5, 2, 1, 2}, {10, 1, 0, 0}, {11, 2, 2, 0}}, 3, OOLONG_OK, 0, 1},
+        {"(Int)null", {{7, 1, 1, 0}, {0, 0, 0, 0}}, 2, OOLONG_NO_FIT, 32, 0},
+        {"(Unit)1", {{7, 0, 1, 0}, {10, 1, 0, 0}}, 2, OOLONG_NO_FIT, 32, 0},
+        {"new Int", {{6, 1, 0, 0}}, 1, OOLONG_NO_TYPE, 24, 0},
+        {"a cast to the type behind Int", {{7, 2, 1, 0}, {10, 1, 0, 0}}, 2, OOLONG_NO_TYPE, 24, 0},
+        {"a constant's unused word", {{10, 1, 0, 1}}, 1, OOLONG_NO_NODE, 24, 0},
+        {"a sum's unused word", {{11, 2, 2, 1}}, 1, OOLONG_NO_NODE, 24, 0},
+        {"kind 12", {{12, 0, 0, 0}}, 1, OOLONG_NO_NODE, 24, 0},
+        {"let x = 1 in lock x in x", {{5, 2, 1, 2}, {10, 1, 0, 0}, {9, 2, 3, 0}, {1, 2, 0, 0}}, 4, OOLONG_NO_MEMBER, 40, 0},
+        {"let x = 1 in x + y", {{5, 2, 1, 2}, {10, 1, 0, 0}, {11, 2, 3, 0}}, 3, OOLONG_NO_VARIABLE, 40, 0},
+        {"let x = (Unit)null in x + x", {{5, 2, 1, 3}, {7, 0, 2, 0}, {0, 0, 0, 0}, {11, 2, 2, 0}}, 4, OOLONG_NO_FIT, 48, 0},
+    };
+    uint8_t script[OOLONG_SCRIPT_LEAST + 40];
+    for (size_t i = 0; i < sizeof cases / sizeof *cases; i++) {
+        size_t len = nodes_alone(script, cases[i].nodes, cases[i].count);
+        expect_check(cases[i].what, check_guarded(script, len), cases[i].number, cases[i].place, cases[i].type);
+    }
+}
+
 static void checks_of_large_scripts(void) {
     static uint8_t script[OOLONG_SCRIPT_MOST + 1];
     static unsigned deep[OOLONG_NODES_MOST][4]; /* casts of casts, and a null at the end */
@@ -98,6 +124,7 @@ static void starts(void) {
     expect_start("a start in too small a block", good, good_len, OOLONG_BLOCK - 1, OOLONG_NO_BLOCK_LENGTH, 0);
     expect_start("a start in too large a block", good, good_len, OOLONG_BLOCK + 1, OOLONG_NO_BLOCK_LENGTH, 0);
     expect_start("a start in no block", good, good_len, 0, OOLONG_NO_BLOCK_LENGTH, 0);
+    expect_start("a start in a block of layout 1", good, good_len, 49152, OOLONG_NO_BLOCK_LENGTH, 0);
     expect_start("a start of a script that is refused", bad, bad_len, OOLONG_BLOCK, OOLONG_NO_NULL, 24);
     expect_start("the script is asked about before the block", bad, bad_len, 1, OOLONG_NO_NULL, 24);
     expect_start("a start of no script", good, 0, OOLONG_BLOCK, OOLONG_NO_LENGTH, 0);
@@ -107,6 +134,7 @@ static void starts(void) {
 
 int main(void) {
     checks_of_small_scripts();
+    checks_of_numbers();
     checks_of_large_scripts();
     starts();
     if (failures > 0) printf("%d failed\n", failures);

@@ -5,7 +5,7 @@
 #include "lent.h"
 #include "oolong.h"
 
-enum { MOST = 2, ROUNDS = 4096, TREE_LEAST = 480, TREE_MOST = 544 };
+enum { MOST = 2, ROUNDS = 4096, TREE_LEAST = 1000, TREE_MOST = 1024 };
 
 void *__real_memcpy(void *to, const void *from, size_t len);
 void *__real_memmove(void *to, const void *from, size_t len);

@@ -1,6 +1,7 @@
 /*
- * A converter that plays a script. `player STOP MOVES OBJECTS < script` starts it, always moves the first tree position that Offer flags, and must come to that stop after that many moves and with
- * that many objects. Then it plays the same choices again, as many as fit into each call, and asks for every refusal of Offer and Run. It prints nothing unless something is wrong.
+ * A converter that plays a script. `player STOP MOVES OBJECTS [NUMBER] < script` starts it, always moves the first tree position that Offer flags, and must come to that stop after that many moves
+ * and with that many objects; it finishes with a number just where one is given, and with that one. Then it plays the same choices again, as many as fit into each call, and asks for every refusal
+ * of Offer and Run. It prints the number that the script finished with, and else nothing unless something is wrong.
  */
 #include "lent.h"
 #include "oolong.h"
@@ -66,6 +67,23 @@ static unsigned replay(uint8_t *block, const uint8_t *choices, size_t count) {
     return reply.stop;
 }
 
+/* The number that the root has, if it has a value that is one. docs/BLOCK.md: position 0, its kind, its value's kind, low word and high word. */
+static int root_number(const uint8_t *block, long *number) {
+    enum { POSITION = 37896, WITH_VALUE = 2, NUMBER = 2 };
+    long low = (long)get(block, POSITION + 8), high = (long)get(block, POSITION + 10);
+    *number = low + 65536 * (high < 32768 ? high : high - 65536);
+    return get(block, POSITION) == WITH_VALUE && get(block, POSITION + 6) == NUMBER;
+}
+
+static void expect_number(const uint8_t *block, unsigned stop, const char *wanted) {
+    long number;
+    int is_number = stop == OOLONG_FINISHED && root_number(block, &number);
+    must(is_number == (wanted != NULL), wanted != NULL ? "the script does not finish with a number" : "the script finishes with a number");
+    if (!is_number) return;
+    printf("finished with the number %ld\n", number);
+    must(number == atol(wanted), "that is not the number wanted");
+}
+
 /* What is lent to Offer and to Run, and how both must refuse it. */
 struct refusal {
     const char *what;
@@ -96,6 +114,7 @@ static void refusals(const uint8_t *block) {
         {"a short block", script_len, OOLONG_BLOCK - 1, OOLONG_FLAGS - 1, OOLONG_CHOICES_MOST + 1, OOLONG_NO_BLOCK_LENGTH, 0},
         {"a long block", script_len, OOLONG_BLOCK + 1, OOLONG_FLAGS, 0, OOLONG_NO_BLOCK_LENGTH, 0},
         {"no block", script_len, 0, OOLONG_FLAGS, 0, OOLONG_NO_BLOCK_LENGTH, 0},
+        {"a block of layout 1", script_len, 49152, OOLONG_FLAGS, 0, OOLONG_NO_BLOCK_LENGTH, 0},
         {"short flags, long choices", script_len, OOLONG_BLOCK, OOLONG_FLAGS - 1, OOLONG_CHOICES_MOST + 1, OOLONG_NO_BUFFER_LENGTH, 0},
         {"long flags, long choices", script_len, OOLONG_BLOCK, OOLONG_FLAGS + 1, OOLONG_CHOICES_MOST + 1, OOLONG_NO_BUFFER_LENGTH, 0},
         {"a damaged block", script_len, OOLONG_BLOCK, OOLONG_FLAGS, OOLONG_CHOICES_MOST, OOLONG_NO_BLOCK_FORM, 0},
@@ -105,7 +124,7 @@ static void refusals(const uint8_t *block) {
 
 int main(int count, char **words) {
     static uint8_t block[OOLONG_BLOCK], again[OOLONG_BLOCK], first[OOLONG_BLOCK], choices[MOST_MOVES];
-    must(count == 4, "usage: player STOP MOVES OBJECTS < script");
+    must(count == 4 || count == 5, "usage: player STOP MOVES OBJECTS [NUMBER] < script");
     script_len = fread(script, 1, sizeof script, stdin);
     must(oolong_check(script, script_len).number == OOLONG_OK, "the script is not accepted");
     memset(block, 0xaa, sizeof block);
@@ -122,6 +141,7 @@ int main(int count, char **words) {
         printf("FAIL  stopped with %u after %zu moves with %u objects; wanted %s after %s with %s\n", stop, moves, objects, words[1], words[2], words[3]);
         return EXIT_FAILURE;
     }
+    expect_number(block, stop, count == 5 ? words[4] : NULL);
     must((first_offered(block) == OOLONG_FLAGS) == (stop < OOLONG_FULL_OBJECTS), "an ended run offers a move, or one at a full store offers none");
     must(replay(again, choices, made) == stop && memcmp(block, again, sizeof block) == 0, "the same choices in fewer calls lead elsewhere");
     must(memcmp(block, first, sizeof block) != 0, "nothing has moved");

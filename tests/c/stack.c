@@ -68,8 +68,10 @@ static size_t used(struct job *job) {
     return STACK - clean;
 }
 
-/* One empty interface and one class of it, and as many nodes of this kind as there is room for in this number of nodes, each with the next as a part; at the end a new. */
-static size_t chain(uint8_t *script, unsigned kind, unsigned name, unsigned nodes) {
+/* One empty interface and one class of it, and as many nodes of this kind as there is room for in this number of nodes, each with the next as a part; at the end, and where a part is no such
+ * node, a new, or the constant 2 where numbers are asked for. */
+static size_t chain(uint8_t *script, unsigned kind, unsigned name, unsigned nodes, int numbers) {
+    unsigned leaf_kind = numbers ? 10 : 6, type = numbers ? 3 : 2;
     static const unsigned offsets[] = {24, 30, 30, 36, 36, 36};
     static const unsigned counts[] = {1, 0, 1, 0, 0, 0};
     memset(script, 0, OOLONG_SCRIPT_MOST);
@@ -82,12 +84,12 @@ static size_t chain(uint8_t *script, unsigned kind, unsigned name, unsigned node
     for (; node + step < nodes; node += step) {
         size_t at = 36 + 8 * node;
         put(script, at, kind);
-        if (kind == 7) put(script, at + 2, 2), put(script, at + 4, (unsigned)node + 1);
+        if (kind == 7) put(script, at + 2, type), put(script, at + 4, (unsigned)node + 1);
         if (kind == 5) put(script, at + 2, name), put(script, at + 4, (unsigned)node + 1), put(script, at + 6, (unsigned)node + 2);
         if (kind == 8) put(script, at + 2, (unsigned)node + 3), put(script, at + 4, (unsigned)node + 1), put(script, at + 6, (unsigned)node + 2);
-        for (size_t leaf = 1; leaf < step; leaf++) put(script, at + 8 * leaf, 6), put(script, at + 8 * leaf + 2, 2);
+        for (size_t leaf = 1; leaf < step; leaf++) put(script, at + 8 * leaf, leaf_kind), put(script, at + 8 * leaf + 2, 2);
     }
-    put(script, 36 + 8 * node, 6);
+    put(script, 36 + 8 * node, leaf_kind);
     put(script, 36 + 8 * node + 2, 2);
     put(script, 22, (unsigned)node + 1);
     return 36 + 8 * (node + 1);
@@ -96,7 +98,7 @@ static size_t chain(uint8_t *script, unsigned kind, unsigned name, unsigned node
 /* The same with casts, in a let in place of the first two. */
 static size_t let_and_casts(uint8_t *script) {
     static const unsigned nodes[] = {5, 2, 1, 2, 6, 2, 0, 0};
-    size_t len = chain(script, 7, 0, OOLONG_NODES_MOST);
+    size_t len = chain(script, 7, 0, OOLONG_NODES_MOST, 0);
     for (size_t word = 0; word < sizeof nodes / sizeof *nodes; word++) put(script, 36 + 2 * word, nodes[word]);
     return len;
 }
@@ -105,7 +107,7 @@ static size_t let_and_casts(uint8_t *script) {
 static size_t parts_of(const uint8_t *node, size_t *first) {
     static const struct {
         size_t first, count;
-    } parts[] = {{0, 0}, {0, 0}, {0, 0}, {3, 1}, {3, 1}, {2, 2}, {0, 0}, {2, 1}, {1, 3}, {2, 1}};
+    } parts[] = {{0, 0}, {0, 0}, {0, 0}, {3, 1}, {3, 1}, {2, 2}, {0, 0}, {2, 1}, {1, 3}, {2, 1}, {0, 0}, {0, 0}};
     *first = parts[node[0]].first;
     return parts[node[0]].count;
 }
@@ -146,18 +148,21 @@ int main(void) {
     static const struct {
         const char *what;
         unsigned kind, name, nodes;
+        int numbers;
     } cases[] = {
-        {"100 casts in casts", 7, 0, 100},
-        {"casts in casts", 7, 0, OOLONG_NODES_MOST},
-        {"lets in lets", 5, 2, OOLONG_NODES_MOST},
-        {"lets of a large variable number", 5, 65535, OOLONG_NODES_MOST},
-        {"forks in left asyncs", 8, 0, OOLONG_NODES_MOST},
+        {"100 casts in casts", 7, 0, 100, 0},
+        {"casts in casts", 7, 0, OOLONG_NODES_MOST, 0},
+        {"casts in casts of a number", 7, 0, OOLONG_NODES_MOST, 1},
+        {"lets in lets", 5, 2, OOLONG_NODES_MOST, 0},
+        {"lets of numbers in lets", 5, 2, OOLONG_NODES_MOST, 1},
+        {"lets of a large variable number", 5, 65535, OOLONG_NODES_MOST, 0},
+        {"forks in left asyncs", 8, 0, OOLONG_NODES_MOST, 0},
     };
     int holds = within("no script", script, 0, OOLONG_NO_LENGTH);
     size_t len = fread(script, 1, sizeof script, stdin);
     holds &= within("the script", script, len, OOLONG_OK);
     for (size_t i = 0; i < sizeof cases / sizeof *cases; i++) {
-        len = chain(script, cases[i].kind, cases[i].name, cases[i].nodes);
+        len = chain(script, cases[i].kind, cases[i].name, cases[i].nodes, cases[i].numbers);
         holds &= within(cases[i].what, script, len, OOLONG_OK);
     }
     holds &= within("casts in casts in a let", script, let_and_casts(script), OOLONG_OK);

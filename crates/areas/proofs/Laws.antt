@@ -5,12 +5,18 @@ use mathlib.Core.List.{List, [], _∷_, _++_}
 use Prim.Native.Nat.{ℕ, zero, suc, _+_, _*_, _-_, _<_, _≤_}
 use native.Mathlib.Omega.{arith}
 use borrow.Author.Tests.{ne-eqb}
+use lib.IntN.{ℤ}
+use mir.Syntax.{w32}
+use mir.Val.{SFits}
 use lib.ListN.{length, getD, set, take, drop, replicate, length-append, length-map, length-replicate}
 use Rattle.slices.specs.Put.{putWord}
-use Rattle.words.specs.Word.{bytes}
+use Rattle.words.specs.Word.{WORD, bytes}
+use Rattle.words.specs.Integer.{InRange, integer}
+use Rattle.words.proofs.Integers.{integer-words}
+use Rattle.integers.proofs.Signed.{read, read-is, read-small}
 use Rattle.limits.specs.Limits.{BLOCK, OBJECTS, BINDINGS, FRAMES, CLASS-FIELDS}
 use Rattle.machine.specs.declared.Value.{Value}
-use Rattle.machine.specs.declared.Value.the-variants.{Null as nil, Ref as ref}
+use Rattle.machine.specs.declared.Value.the-variants.{Null as nil, Ref as ref, Int as int}
 use Rattle.machine.specs.declared.Frame.{Frame}
 use Rattle.machine.specs.declared.Frame.the-variants.{Awaits as awaits, Casts as casts, Locks as locks}
 use Rattle.machine.specs.Config.{Object, Binding}
@@ -19,13 +25,14 @@ use Rattle.block.specs.declared.Area.{Area}
 use Rattle.block.specs.declared.Area.the-variants.{Objects, Bindings, Positions, Frames}
 use Rattle.representation.specs.Changed.{putWords, withObjects, withBindings, withFrames, withShut, withField}
 use Rattle.block.specs.Layout.{width, most, begins, END, countByte, wordByte, counted, wordIn, SHUT, fieldWord, NAME, BOUND, LINK, RUNNING, AWAITS, CASTS}
-use Rattle.block.specs.Values.{valueWord, valueOf, valueWords}
+use Rattle.block.specs.Values.{REF, INT, valueWords, valueIn}
 use Rattle.block.specs.Block.{shutWord, objectWords, bindingWords, frameWords, Parts, laid, encode}
 use Rattle.block.specs.Decode.{frameOf}
 use Rattle.block.proofs.Rows.{row-at}
+use Rattle.block.proofs.Values.{value-width, value-listed}
 use Rattle.block.proofs.Words.{within, area-ends, count-is, word-is}
 use Rattle.block.proofs.Decode.{frame-back}
-use Rattle.representation.proofs.Changes.{put-shut, put-field, put-fresh-object, put-new-binding, put-frame, put-new-frame}
+use Rattle.representation.proofs.Changes.{put-append, put-shut, put-field, put-fresh-object, put-new-binding, put-frame, put-new-frame}
 use Rattle.representation.proofs.Start.{start-block}
 use Rattle.areas.specs.Shifts.{raised, lowered}
 use Rattle.areas.proofs.Shifting.{raised-length, lowered-length, inserted, removed}
@@ -34,22 +41,11 @@ use Rattle.areas.proofs.Shifting.{raised-length, lowered-length, insert
 pub inside : (a : Area) (at wide i j : ℕ) → at ≡ begins a → wide ≡ width a → i < most a → j < width a → at + (wide * i + j) < END
 inside a at wide i j e w h hj = rw (e, w) (omega (arith, within a i j h hj, area-ends a))
 
-pub width-small : (a : Area) → width a ≤ 10
+pub width-small : (a : Area) → width a ≤ 26
 width-small Objects = omega arith
 width-small Bindings = omega arith
 width-small Positions = omega arith
 width-small Frames = omega arith
-
--- values and their words
-pub word-value : (n : ℕ) → (n ≡ 0 → ⊥) → ref (n - 1) ≡ valueOf n
-word-value zero h = absurd (h refl)
-word-value (suc n) h = let e : suc n - 1 ≡ n = omega arith in rw e
-
-pub value-word : (v : Value) (o : ℕ) → v ≡ ref o → o + 1 ≡ valueWord v
-value-word v o e = rw e (omega arith)
-
-pub value-put : (b c : List ℕ) (at w : ℕ) (v : Value) → w ≡ valueWord v → c ≡ putWord b at w → c ≡ putWords b at (valueWords v)
-value-put b c at w v h e = e ∙ rw h
 
 -- frames and their words
 pub awaits-said : (k x y : ℕ) → k ≡ AWAITS → awaits x y ≡ frameOf (k ∷ x ∷ y ∷ [])
@@ -78,11 +74,40 @@ pair-put b a i j v w =
     ap (λ (at : ℕ). putWord (putWord b (wordByte a i j) v) at w) e
 
 pub row-put :
-    (b : List ℕ) (i k x y : ℕ) → putWord (putWords b (wordByte Frames i 0) (k ∷ x ∷ [])) (wordByte Frames i 2) y ≡ putWords b (wordByte Frames i 0) (k ∷ x ∷ y ∷ [])
-row-put b i k x y =
-    let at = wordByte Frames i 0 in
-    let e : wordByte Frames i 2 ≡ at + 2 + 2 = omega arith in
+    (b : List ℕ) (a : Area) (i j k x y : ℕ)
+    → putWord (putWords b (wordByte a i j) (k ∷ x ∷ [])) (wordByte a i (j + 2)) y ≡ putWords b (wordByte a i j) (k ∷ x ∷ y ∷ [])
+row-put b a i j k x y =
+    let at = wordByte a i j in
+    let e : wordByte a i (j + 2) ≡ at + 2 + 2 = omega arith in
     ap (λ (m : ℕ). putWord (putWord (putWord b at k) (at + 2) x) m y) e
+
+-- a value read, and its words put
+module _ (w : ℕ → ℕ) (j kind : ℕ) (e : kind ≡ w j) where
+  pub null-read : (kind ≡ REF → ⊥) → (kind ≡ INT → ⊥) → nil ≡ valueIn w j
+  null-read h k = rw (← e, ne-eqb kind REF h, ne-eqb kind INT k)
+
+  pub ref-read : (o : ℕ) → kind ≡ REF → o ≡ w (j + 1) → ref o ≡ valueIn w j
+  ref-read o h k = rw (← e, h, k)
+
+  -- a number, as the code reads it back from its bits
+  pub int-read :
+      (z : ℤ) (low high : ℕ)
+      → kind ≡ INT
+      → z ≡ integer low high
+      → (low ≡ w (j + 1)) × (low < WORD)
+      → (high ≡ w (j + 2)) × (high < WORD)
+      → (int (read z) ≡ valueIn w j) × InRange (read z)
+  int-read z low high h q k l =
+      let fits : SFits w32 z = record { sfits = rw q (integer-words (k .1) (l .1) .in-range) } in
+      (rw (read-is fits, ← e, h, q, k .0, l .0), read-small fits)
+
+pub value-put :
+    (b b₁ c : List ℕ) (a : Area) (i j : ℕ) (v : Value) (w : List ℕ)
+    → w ≡ valueWords v
+    → b₁ ≡ putWords b (wordByte a i j) (getD w 0 0 ∷ getD w 1 0 ∷ [])
+    → c ≡ putWord b₁ (wordByte a i (j + 2)) (getD w 2 0)
+    → c ≡ putWords b (wordByte a i j) (valueWords v)
+value-put b b₁ c a i j v w h d e = e ∙ rw (d, row-put b a i j (getD w 0 0) (getD w 1 0) (getD w 2 0), h) (ap (putWords b (wordByte a i j)) (value-listed v))
 
 -- the words of a frame
 pub frame-row : (f : Frame) (k x y : ℕ) → k ≡ getD (frameWords f) 0 0 → x ≡ getD (frameWords f) 1 0 → y ≡ getD (frameWords f) 2 0 → k ∷ x ∷ y ∷ [] ≡ frameWords f
@@ -174,8 +199,11 @@ module _ (b : List ℕ) (p : Parts) (is : b ≡ bytes (laid p)) where
       let l : n ≡ length (p .bindings) = k ∙ rw is (count-is p Bindings ∙ length-map (p .bindings) bindingWords) in
       let s : n + 1 ≡ suc n = omega arith in
       let value : wordByte Bindings n BOUND ≡ wordByte Bindings n NAME + 2 + 2 = omega arith in
-      let link : wordByte Bindings n LINK ≡ wordByte Bindings n NAME + 2 + 2 + 2 = omega arith in
-      e ∙ rw (d₃, d₂, d₁, value, link, s) (rw (l, is) (put-new-binding p x (omega arith)))
+      let words = valueWords (x .value) in
+      let at = wordByte Bindings n NAME + 2 + 2 in
+      let link : wordByte Bindings n LINK ≡ at + 2 * length words = omega (arith, value-width (x .value)) in
+      let row = put-append (putWords b (wordByte Bindings n NAME) (x .name ∷ x .type ∷ [])) at words (x .link ∷ []) in
+      e ∙ rw (d₃, d₂, d₁, value, link, s, ← row) (rw (l, is) (put-new-binding p x (omega arith)))
 
 -- what frame and put_frame ensure, of the bytes b before and c after
 abbrev pub Reads : List ℕ → ℕ → Frame → Type 0

@@ -19,5 +19,4 @@ pub use objects::new_object;
 pub use objects::put_field;
 pub use objects::set_shut;
 pub use values::value;
-pub use values::value_of;
-pub use values::word_of;
+pub use values::value_words;

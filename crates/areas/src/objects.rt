@@ -64,14 +64,14 @@ pub fn set_shut(block: &mut [u8], o: usize, shut: bool)
 // Field k of object o.
 pub fn field(block: &[u8], o: usize, k: usize) -> Value
     requires { ⌜ (length (now block) ≡ BLOCK) × (o < OBJECTS) × (k < CLASS-FIELDS) ⌝ }
-    ensures { λ r. ⌜ r ≡ valueIn (wordIn (now (block .entry)) Objects o) (fieldWord k) ⌝ }
+    ensures { λ r. ⌜ (r ≡ valueIn (wordIn (now (block .entry)) Objects o) (fieldWord k)) × Storable r ⌝ }
 {
     value(block, Area::Objects, o, Layout::FIELDS + Layout::VALUE * k)
 }
 
 // v in field k of object o.
 pub fn put_field(block: &mut [u8], o: usize, k: usize, v: Value)
-    requires { ⌜ (length (now block) ≡ BLOCK) × (o < OBJECTS) × (k < CLASS-FIELDS) × Storable v ⌝ }
+    requires { ⌜ (length (now block) ≡ BLOCK) × (o < OBJECTS) × (k < CLASS-FIELDS) ⌝ }
     ensures { λ r. ⌜
         ((p : Parts) (d : Object) →
         now (block .entry) ≡ bytes (laid p) →
@@ -91,7 +91,7 @@ pub fn put_field(block: &mut [u8], o: usize, k: usize, v: Value)
 
 // One binding more.
 pub fn add_binding(block: &mut [u8], name: u16, t: u16, value: Value, link: u16)
-    requires { ⌜ (length (now block) ≡ BLOCK) × (counted (now block) Bindings < BINDINGS) × Storable value ⌝ }
+    requires { ⌜ (length (now block) ≡ BLOCK) × (counted (now block) Bindings < BINDINGS) ⌝ }
     ensures { λ r. ⌜
         ((p : Parts) →
         now (block .entry) ≡ bytes (laid p) →

@@ -11,14 +11,16 @@ use borrow.Author.Tests.{eqb-true, eq-eqb}
 use Rattle.limits.specs.Limits.{CLASS-FIELDS}
 use Rattle.script.specs.Lists.{_∈_}
 use Rattle.script.proofs.Tests.{true-false, says-yes, yes-said}
+use Rattle.machine.specs.declared.Value.{Value}
 use Rattle.machine.specs.declared.Frame.{Frame}
 use Rattle.machine.specs.declared.Frame.the-variants.{Awaits as awaits, Casts as casts, Locks as locks}
 use Rattle.machine.specs.Config.{Object, Binding, failed, Config}
 use Rattle.block.specs.Layout.{Area, Objects, Bindings, Positions, Frames, rowsIn}
+use Rattle.block.specs.Values.{Storable}
 use Rattle.block.specs.Block.{shutWord, objectWords, bindingWords, framesOf, frameWords, partsOf, rows, encode}
 use Rattle.block.specs.Fits.{Fits, fitsTest}
 use Rattle.block.specs.Decode.{objectOf, bindingOf, frameOf, forest, configIn, same, decode}
-use Rattle.block.proofs.Values.{value-back, fields-said}
+use Rattle.block.proofs.Values.{value-back, value-after, fields-said}
 use Rattle.block.proofs.Trees.{tree-back}
 use Rattle.block.proofs.Words.{rows-read}
 use Rattle.block.proofs.Fits.{decides-fits}
@@ -32,13 +34,21 @@ shut-back : (b : Bool) → eqb (shutWord b) 1 ≡ b
 shut-back true = refl
 shut-back false = refl
 
-object-back : (fieldCount : ℕ → ℕ) (o : Object) → length (o .fields) ≡ fieldCount (o .class) → length (o .fields) ≤ CLASS-FIELDS → objectOf fieldCount (objectWords o) ≡ o
-object-back fieldCount o e h =
-    let vs = fields-said (fieldCount (o .class)) o e (omega arith) in
+object-back :
+    (fieldCount : ℕ → ℕ) (o : Object)
+    → length (o .fields) ≡ fieldCount (o .class)
+    → length (o .fields) ≤ CLASS-FIELDS
+    → ((v : Value) → v ∈ o .fields → Storable v)
+    → objectOf fieldCount (objectWords o) ≡ o
+object-back fieldCount o e h s =
+    let vs = fields-said (fieldCount (o .class)) o e (omega arith) s in
     λ t. record { class = o .class; shut = shut-back (o .shut) t; fields = vs t }
 
-binding-back : (b : Binding) → bindingOf (bindingWords b) ≡ b
-binding-back b = λ t. record { name = b .name; type = b .type; value = value-back (b .value) t; link = b .link }
+binding-back : (b : Binding) → Storable (b .value) → bindingOf (bindingWords b) ≡ b
+binding-back b s =
+    let v = value-back (b .name ∷ b .type ∷ []) (b .value) (b .link ∷ []) s in
+    let l = value-after (b .name ∷ b .type ∷ []) (b .value) (b .link ∷ []) 0 in
+    λ t. record { name = b .name; type = b .type; value = v t; link = l t }
 
 pub frame-back : (f : Frame) → frameOf (frameWords f) ≡ f
 frame-back (awaits p e) = refl
@@ -54,13 +64,20 @@ module _ (fieldCount : ℕ → ℕ) (c : Config) (fit : Fits fieldCount c) where
       read = rows-read (partsOf c) (fit .few)
 
       os : map (objectOf fieldCount) (rowsIn (encode c) Objects) ≡ c .stores .objects
-      os = rw (read Objects) (map-back objectWords (objectOf fieldCount) (c .stores .objects) (λ o m. object-back fieldCount o (fit .own-fields o m) (fit .few-fields o m)))
+      os =
+          rw (read Objects)
+          (map-back objectWords (objectOf fieldCount) (c .stores .objects)
+          (λ o m. object-back fieldCount o (fit .own-fields o m) (fit .few-fields o m) (fit .values Objects o m)))
 
       bs : reverse (map bindingOf (rowsIn (encode c) Bindings)) ≡ c .stores .bindings
-      bs = rw (read Bindings, map-back bindingWords bindingOf (reverse (c .stores .bindings)) (λ b m. binding-back b)) (reverse-reverse (c .stores .bindings))
+      bs =
+          rw (read Bindings, map-back bindingWords bindingOf (reverse (c .stores .bindings)) (λ b m. binding-back b (fit .values Bindings b m)))
+          (reverse-reverse (c .stores .bindings))
 
       tr : getD (forest (rowsIn (encode c) Positions) (reverse (map frameOf (rowsIn (encode c) Frames))) .trees) 0 failed ≡ c .tree
-      tr = rw (read Positions, read Frames, map-back frameWords frameOf (framesOf (c .tree)) (λ f m. frame-back f)) (tree-back (c .tree))
+      tr =
+          rw (read Positions, read Frames, map-back frameWords frameOf (framesOf (c .tree)) (λ f m. frame-back f))
+          (tree-back (c .tree) (fit .values Positions))
 
 both-true : (a b : Bool) → a && b ≡ true → (a ≡ true) × (b ≡ true)
 both-true true b e = (refl, e)

@@ -5,35 +5,62 @@ use mathlib.Core.Logic.{⊎-elim}
 use Prim.Native.Nat.{ℕ, zero, suc, _*_, _%_, _/_, _<_, _≤_}
 use native.Mathlib.Omega.{arith}
 use lib.ListN.{length, getD}
+use lib.Signed.{mag}
 use Rattle.words.specs.Word.{WORD, bytes}
+use Rattle.words.specs.Integer.{HALF, lowWord, highWord}
+use Rattle.words.proofs.Integers.{words-integer}
 use Rattle.limits.specs.Limits.{CLASS-FIELDS}
 use Rattle.script.specs.Lists.{_∈_}
-use Rattle.script.specs.Asking.{Decides}
+use Rattle.script.specs.Asking.{Decides, holds}
 use Rattle.script.proofs.Tests.{decides-as, decides-and, decides-eq, decides-le, decides-lt, decides-all}
+use Rattle.machine.specs.declared.Value.{Value}
+use Rattle.machine.specs.declared.Value.the-variants.{Null as nil, Ref as ref, Int as int}
 use Rattle.machine.specs.declared.Frame.{Frame}
 use Rattle.machine.specs.Config.{Object, Binding, Tree, Config}
 use Rattle.block.specs.Rows.{filled}
 use Rattle.block.specs.Layout.{Area, Objects, Bindings, Positions, Frames, WORDS, width, most}
+use Rattle.block.specs.Values.{NULL, REF, INT, valueWords, Storable, storableTest}
+use Rattle.block.specs.Block.{returned}
 use Rattle.block.specs.Block.{objectWords, bindingWords, positionWords, frameWords, Parts, partsOf, rows, area, headerWords, laid, blockWords, encode}
-use Rattle.block.specs.Fits.{Few, AllWords, Fits, fitsTest}
+use Rattle.block.specs.Fits.{Few, AllWords, StorableIn, Fits, storableInTest, allAreas, fitsTest}
 
 -- what holds of the four areas holds of each
-areas : (P : Area → Type 0) → ((a : Area) → a ∈ Objects ∷ Bindings ∷ Positions ∷ Frames ∷ [] → P a) → (a : Area) → P a
+pub areas : (P : Area → Type 0) → ((a : Area) → a ∈ allAreas → P a) → (a : Area) → P a
 areas P h Objects = h Objects (List·Memᴰ·head refl)
 areas P h Bindings = h Bindings (List·Memᴰ·tail (List·Memᴰ·head refl))
 areas P h Positions = h Positions (List·Memᴰ·tail (List·Memᴰ·tail (List·Memᴰ·head refl)))
 areas P h Frames = h Frames (List·Memᴰ·tail (List·Memᴰ·tail (List·Memᴰ·tail (List·Memᴰ·head refl))))
 
+decides-storable : (v : Value) → Decides (Storable v) (storableTest v)
+decides-storable nil = holds _
+decides-storable (ref o) = decides-lt o WORD
+decides-storable (int z) = decides-lt (mag z) HALF
+
+pub decides-stored : (p : Parts) (a : Area) → Decides (StorableIn p a) (storableInTest p a)
+decides-stored p Objects =
+    decides-all (λ (o : Object). (v : Value) → v ∈ o .fields → Storable v) _ (p .objects) (λ o. decides-all Storable storableTest (o .fields) decides-storable)
+decides-stored p Bindings = decides-all (λ (b : Binding). Storable (b .value)) _ (p .bindings) (λ b. decides-storable (b .value))
+decides-stored p Positions = decides-all (λ (t : Tree). Storable (returned t)) _ (p .positions) (λ t. decides-storable (returned t))
+decides-stored p Frames = holds _
+
 pub decides-fits : (fieldCount : ℕ → ℕ) (c : Config) → Decides (Fits fieldCount c) (fitsTest fieldCount c)
 unfolding fitsTest
 decides-fits fieldCount c =
     decides-as
-    (λ h. record { few = areas (λ a. length (rows (partsOf c) a) ≤ most a) (h .0); own-fields = h .1 .0; few-fields = h .1 .1 .0; words = h .1 .1 .1 })
-    (λ h. ((λ a m. h .few a), (h .own-fields, (h .few-fields, h .words))))
-    (decides-and (decides-all (λ a. length (rows (partsOf c) a) ≤ most a) _ (Objects ∷ Bindings ∷ Positions ∷ Frames ∷ []) (λ a. decides-le (length (rows (partsOf c) a)) (most a)))
+    (λ h.
+    record {
+      few = areas (λ a. length (rows (partsOf c) a) ≤ most a) (h .0);
+      own-fields = h .1 .0;
+      few-fields = h .1 .1 .0;
+      values = areas (StorableIn (partsOf c)) (h .1 .1 .1 .0);
+      words = h .1 .1 .1 .1;
+    })
+    (λ h. ((λ a m. h .few a), (h .own-fields, (h .few-fields, ((λ a m. h .values a), h .words)))))
+    (decides-and (decides-all (λ a. length (rows (partsOf c) a) ≤ most a) _ allAreas (λ a. decides-le (length (rows (partsOf c) a)) (most a)))
     (decides-and (decides-all (λ (o : Object). length (o .fields) ≡ fieldCount (o .class)) _ (c .stores .objects) (λ o. decides-eq (length (o .fields)) (fieldCount (o .class))))
     (decides-and (decides-all (λ (o : Object). length (o .fields) ≤ CLASS-FIELDS) _ (c .stores .objects) (λ o. decides-le (length (o .fields)) CLASS-FIELDS))
-    (decides-all (λ (w : ℕ). w < WORD) _ (blockWords c) (λ w. decides-lt w WORD)))))
+    (decides-and (decides-all (StorableIn (partsOf c)) (storableInTest (partsOf c)) allAreas (decides-stored (partsOf c)))
+    (decides-all (λ (w : ℕ). w < WORD) _ (blockWords c) (λ w. decides-lt w WORD))))))
 
 bytes-small : (ws : List ℕ) → AllWords ws → (x : ℕ) → x ∈ bytes ws → x < 256
 unfolding bytes
@@ -55,8 +82,19 @@ encode-bytes fieldCount c fit = bytes-small (blockWords c) (fit .words)
 pub cons-words : (v : ℕ) (ws : List ℕ) → v < WORD → AllWords ws → AllWords (v ∷ ws)
 cons-words v ws h k w m = ⊎-elim (λ (e : w ≡ v). rw e h) (λ (n : w ∈ ws). k w n) (List·Memᴰ·cases-cons m)
 
-append-words : (xs ys : List ℕ) → AllWords xs → AllWords ys → AllWords (xs ++ ys)
+pub append-words : (xs ys : List ℕ) → AllWords xs → AllWords ys → AllWords (xs ++ ys)
 append-words xs ys h k w m = ⊎-elim (h w) (k w) (List·Memᴰ·append-cases xs m)
+
+pub no-words : AllWords []
+no-words w m = absurd (List·Memᴰ·not-nil m)
+
+pub value-words : (v : Value) → Storable v → AllWords (valueWords v)
+value-words nil h = cons-words NULL (0 ∷ 0 ∷ []) (omega arith) (cons-words 0 (0 ∷ []) (omega arith) (cons-words 0 [] (omega arith) no-words))
+value-words (ref o) h = cons-words REF (o ∷ 0 ∷ []) (omega arith) (cons-words o (0 ∷ []) h (cons-words 0 [] (omega arith) no-words))
+value-words (int z) h =
+    let w = words-integer z h in
+    cons-words INT (lowWord z ∷ highWord z ∷ []) (omega arith)
+    (cons-words (lowWord z) (highWord z ∷ []) (w .low-fits) (cons-words (highWord z) [] (w .high-fits) no-words))
 
 pub filled-words : (n : ℕ) (ws : List ℕ) → AllWords ws → AllWords (filled n ws)
 unfolding filled
@@ -64,12 +102,12 @@ filled-words zero ws h w m = absurd (List·Memᴰ·not-nil m)
 filled-words (suc n) [] h w m = cons-words 0 (filled n []) (omega arith) (filled-words n [] h) w m
 filled-words (suc n) (x ∷ ws) h w m = cons-words x (filled n ws) (h x (List·Memᴰ·head refl)) (filled-words n ws (λ v k. h v (List·Memᴰ·tail k))) w m
 
-flatten-words : (rs : List (List ℕ)) → ((r : List ℕ) → r ∈ rs → AllWords r) → AllWords (flatten rs)
+pub flatten-words : (rs : List (List ℕ)) → ((r : List ℕ) → r ∈ rs → AllWords r) → AllWords (flatten rs)
 unfolding flatten
 flatten-words [] h w m = absurd (List·Memᴰ·not-nil m)
 flatten-words (r ∷ rs) h w m = append-words r (flatten rs) (h r (List·Memᴰ·head refl)) (flatten-words rs (λ x k. h x (List·Memᴰ·tail k))) w m
 
-map-words : {A : Type 0} (f : A → List ℕ) (xs : List A) → ((x : A) → x ∈ xs → AllWords (f x)) → (r : List ℕ) → r ∈ map f xs → AllWords r
+pub map-words : {A : Type 0} (f : A → List ℕ) (xs : List A) → ((x : A) → x ∈ xs → AllWords (f x)) → (r : List ℕ) → r ∈ map f xs → AllWords r
 map-words f xs h r m = let a = Memᴰ·of-map f xs m in rw (← a .2) (h (a .0) (a .1))
 
 -- so the words of a block are below 65,536 if those of its records are
@@ -101,7 +139,7 @@ laid-words p few os bs ts fs =
         cons-words (length (rows p Objects)) _ (count-word Objects)
         (cons-words (length (rows p Bindings)) _ (count-word Bindings)
         (cons-words (length (rows p Frames)) _ (count-word Frames)
-        (cons-words (length (rows p Positions)) _ (count-word Positions) (λ w m. absurd (List·Memᴰ·not-nil m)))))
+        (cons-words (length (rows p Positions)) _ (count-word Positions) no-words)))
 
     row-words : (a : Area) (r : List ℕ) → r ∈ rows p a → AllWords r
     row-words Objects = map-words objectWords (p .objects) os

@@ -1,19 +1,22 @@
 -- Laws of trees: how many positions there are, and a tree put together again from the words of its positions and its frames.
 use mathlib.Core.Path.{_≡_, refl, sym, ap, _∙_}
 use mathlib.Core.List.{List, [], _∷_, _++_, append-assoc, append-nil, map, map-append, flatMap, reverse, reverse-append, reverse-reverse}
+use mathlib.Core.List.{List·Memᴰ·head, List·Memᴰ·tail, Memᴰ·append-left, Memᴰ·append-right}
 use Prim.Native.Nat.{ℕ, suc, _+_, _*_}
 use native.Mathlib.Omega.{arith}
 use lib.ListN.{length, getD, length-append}
 use lib.Seq.{take-append-seam, drop-append-seam}
+use Rattle.script.specs.Lists.{_∈_}
 use Rattle.machine.specs.declared.Frame.{Frame}
 use Rattle.machine.specs.Config.{Tree, running, returning, failed, join}
 use Rattle.machine.specs.Machine.{threadCount}
 use Rattle.block.specs.Rows.{wordOf}
-use Rattle.block.specs.Layout.{WAITING}
-use Rattle.block.specs.Block.{preorder, waiting, positionWords, framesOf}
+use Rattle.block.specs.Layout.{WAITING, RETURNING}
+use Rattle.block.specs.Values.{Storable}
+use Rattle.block.specs.Block.{preorder, waiting, returned, positionWords, framesOf}
 use Rattle.block.specs.Decode.{withPosition, Forest, forest}
 use Rattle.block.proofs.Rows.{flatMap-append}
-use Rattle.block.proofs.Values.{value-back}
+use Rattle.block.proofs.Values.{value-back, value-after}
 
 -- n threads take 2 * n - 1 positions
 pub positions-threads : (t : Tree) → suc (length (preorder t)) ≡ 2 * threadCount t
@@ -51,23 +54,32 @@ forest-cons r rs ts fs gs rest n e = rw (e, n, take-append-seam gs rest, drop-ap
 -- so the trees of some positions, with those of a tree before them
 forest-tree :
     (t : Tree) (rs : List (List ℕ)) (ts : List Tree) (fs rest : List Frame)
+    → ((u : Tree) → u ∈ preorder t → Storable (returned u))
     → forest rs fs ≡ left ts (backwards t ++ rest)
     → forest (map positionWords (preorder t) ++ rs) fs ≡ left (t ∷ ts) rest
 unfolding preorder backwards framesOf flatMap
-forest-tree (running p e gs) rs ts fs rest h = forest-cons (positionWords (running p e gs)) rs ts fs gs rest refl (rw (append-nil, reverse-reverse) at h)
-forest-tree (returning v gs) rs ts fs rest h =
-    forest-cons (positionWords (returning v gs)) rs ts fs gs rest refl (rw (append-nil, reverse-reverse) at h) ∙ rw value-back
-forest-tree failed rs ts fs rest h = forest-cons (positionWords failed) rs ts fs [] rest refl h
-forest-tree (join gs p e l r) rs ts fs rest h =
+forest-tree (running p e gs) rs ts fs rest s h = forest-cons (positionWords (running p e gs)) rs ts fs gs rest refl (rw (append-nil, reverse-reverse) at h)
+forest-tree (returning v gs) rs ts fs rest s h =
+    let row = RETURNING ∷ 0 ∷ 0 ∷ [] in
+    let n = value-after row v (length gs ∷ []) 0 in
+    forest-cons (positionWords (returning v gs)) rs ts fs gs rest n (rw (append-nil, reverse-reverse) at h)
+    ∙ rw (value-back row v (length gs ∷ []) (s (returning v gs) (List·Memᴰ·head refl)))
+forest-tree failed rs ts fs rest s h = forest-cons (positionWords failed) rs ts fs [] rest refl h
+forest-tree (join gs p e l r) rs ts fs rest s h =
     let k : forest rs fs ≡ left ts (backwards r ++ (backwards l ++ (gs ++ rest))) = simp (backwards-join, append-assoc) at h in
-    let right = forest-tree r rs ts fs (backwards l ++ (gs ++ rest)) k in
-    let both = forest-tree l (map positionWords (preorder r) ++ rs) (r ∷ ts) fs (gs ++ rest) right in
+    let right = forest-tree r rs ts fs (backwards l ++ (gs ++ rest)) (λ u m. s u (List·Memᴰ·tail (Memᴰ·append-right (preorder l) m))) k in
+    let both =
+    forest-tree l (map positionWords (preorder r) ++ rs) (r ∷ ts) fs (gs ++ rest) (λ u m. s u (List·Memᴰ·tail (Memᴰ·append-left (preorder r) m))) right
+    in
     rw (map-append positionWords (preorder l) (preorder r), append-assoc)
     (forest-cons (positionWords (join gs p e l r)) (map positionWords (preorder l) ++ (map positionWords (preorder r) ++ rs)) (l ∷ r ∷ ts) fs gs rest refl both)
 
 -- a tree is put together again
-pub tree-back : (t : Tree) → getD (forest (map positionWords (preorder t)) (reverse (framesOf t)) .trees) 0 failed ≡ t
+pub tree-back :
+    (t : Tree)
+    → ((u : Tree) → u ∈ preorder t → Storable (returned u))
+    → getD (forest (map positionWords (preorder t)) (reverse (framesOf t)) .trees) 0 failed ≡ t
 unfolding backwards forest
-tree-back t =
-    let e = forest-tree t [] [] (backwards t) [] (ap (left []) (sym (append-nil (backwards t)))) in
+tree-back t s =
+    let e = forest-tree t [] [] (backwards t) [] s (ap (left []) (sym (append-nil (backwards t)))) in
     ap (λ (g : Forest). getD (g .trees) 0 failed) (rw (append-nil (map positionWords (preorder t))) at e)

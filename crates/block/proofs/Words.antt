@@ -13,19 +13,20 @@ use Rattle.script.specs.Lists.{run}
 use Rattle.script.proofs.Lists.{length-run, getD-run}
 use Rattle.machine.specs.declared.Frame.{Frame}
 use Rattle.machine.specs.declared.Frame.the-variants.{Awaits as awaits, Casts as casts, Locks as locks}
-use Rattle.machine.specs.Config.{Object, Tree, running, returning, failed, join, Config}
+use Rattle.machine.specs.Config.{Object, Binding, Tree, running, returning, failed, join, Config}
 use Rattle.block.specs.Rows.{filled, cell}
 use Rattle.block.specs.Layout.{Area, Objects, Bindings, Positions, Frames, WORDS, VALUE, width, most, begins, END, counted, wordIn, rowsIn, countWord}
 use Rattle.block.specs.Values.{valueWords}
 use Rattle.block.specs.Block.{objectWords, bindingWords, positionWords, frameWords, Parts, partsOf, rows, area, headerWords, laid, encode}
 use Rattle.block.specs.Fits.{Few}
 use Rattle.block.proofs.Rows.{Wide, wide-map, length-filled, getD-filled, filled-zeros, get-inside, flatten-end, flatten-at}
+use Rattle.block.proofs.Values.{value-width}
 
 pub length-laid : (p : Parts) → length (laid p) ≡ WORDS
 unfolding laid
 length-laid p = length-filled WORDS _
 
--- every block is 49,152 bytes
+-- every block is 65,536 bytes
 pub laid-bytes : (p : Parts) → length (bytes (laid p)) ≡ BLOCK
 laid-bytes p = length-bytes (laid p) ∙ omega (arith, length-laid p)
 
@@ -36,9 +37,12 @@ encode-length c = laid-bytes (partsOf c)
 pub object-width : (o : Object) → length (objectWords o) ≡ width Objects
 object-width o = omega (arith, length-filled (VALUE * CLASS-FIELDS) (flatten (map valueWords (o .fields))))
 
-position-width : (t : Tree) → length (positionWords t) ≡ width Positions
+pub binding-width : (b : Binding) → length (bindingWords b) ≡ width Bindings
+binding-width b = omega (arith, length-append (valueWords (b .value)) (b .link ∷ []), value-width (b .value))
+
+pub position-width : (t : Tree) → length (positionWords t) ≡ width Positions
 position-width (running p e fs) = refl
-position-width (returning v fs) = refl
+position-width (returning v fs) = omega (arith, length-append (valueWords v) (length fs ∷ []), value-width v)
 position-width failed = refl
 position-width (join fs p e l r) = refl
 
@@ -49,7 +53,7 @@ frame-width (locks o) = refl
 
 pub rows-wide : (p : Parts) (a : Area) → Wide (width a) (rows p a)
 rows-wide p Objects = wide-map objectWords (width Objects) object-width (p .objects)
-rows-wide p Bindings = wide-map bindingWords (width Bindings) (λ b. refl) (p .bindings)
+rows-wide p Bindings = wide-map bindingWords (width Bindings) binding-width (p .bindings)
 rows-wide p Positions = wide-map positionWords (width Positions) position-width (p .positions)
 rows-wide p Frames = wide-map frameWords (width Frames) frame-width (p .frames)
 

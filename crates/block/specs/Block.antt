@@ -5,6 +5,7 @@ use mathlib.Core.List.{List, [], _∷_, _++_, map, flatMap, flatten, reverse}
 use lib.ListN.{length}
 use Rattle.words.specs.Word.{bytes}
 use Rattle.limits.specs.Limits.{CLASS-FIELDS}
+use Rattle.machine.specs.declared.Value.{Value}
 use Rattle.machine.specs.declared.Value.the-variants.{Null as nil}
 use Rattle.machine.specs.declared.Frame.{Frame}
 use Rattle.machine.specs.declared.Frame.the-variants.{Awaits as awaits, Casts as casts, Locks as locks}
@@ -40,6 +41,13 @@ waiting (running p e fs) = fs
 waiting (returning v fs) = fs
 waiting failed = []
 waiting (join fs p e l r) = fs
+
+-- The value at a position, null where it has none.
+abbrev pub returned : Tree → Value
+returned (running p e fs) = nil
+returned (returning v fs) = v
+returned failed = nil
+returned (join fs p e l r) = nil
 
 -- A position: what it is, its node (of a join, its last part), its environment, its value (null where it has none), and how many frames wait there.
 abbrev pub positionWords : Tree → List ℕ

@@ -21,9 +21,9 @@ countWord Bindings = 1
 countWord Frames = 2
 countWord Positions = 3
 
--- The words of a value.
+-- The words of a value: what it is, a low word and a high word.
 abbrev pub VALUE : ℕ
-VALUE = 1
+VALUE = 3
 
 -- Which word of its record is what. Of an object: its class, whether it is shut, and from FIELDS on a value for each field.
 abbrev pub CLASS : ℕ

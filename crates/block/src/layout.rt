@@ -1,15 +1,16 @@
-// The layout of a block in numbers: `specs/Layout.antt` says what each one is.
+// The layout of a block in numbers: `specs/Layout.antt` and `specs/Values.antt` say what each one is.
 use crate::Area;
 use limits::Limits;
 ghost use mathlib.Core.Path.{_≡_};
 ghost use Prim.Native.Nat.{_<_};
 ghost use Rattle.block.specs.Layout.{WORDS, HEADER, countWord, width, most, begins, END, VALUE, CLASS, SHUT, FIELDS, NAME, TYPE, BOUND, LINK, KIND};
 ghost use Rattle.block.specs.Layout.{NODE, OBJECT, ENV, RESULT, WAITING, RUNNING, RETURNING, FAILED, JOIN, AWAITS, CASTS, LOCKS};
+ghost use Rattle.block.specs.Values.{NULL, REF, INT};
 
 pub struct Layout {}
 
 impl Layout {
-    pub const VALUE: usize = 1;
+    pub const VALUE: usize = 3;
 
     pub const CLASS: usize = 0;
 
@@ -50,6 +51,12 @@ impl Layout {
     pub const CASTS: u16 = 2;
 
     pub const LOCKS: u16 = 3;
+
+    pub const NULL: u16 = 0;
+
+    pub const REF: u16 = 1;
+
+    pub const INT: u16 = 2;
 
     // The words of a record of each area.
     pub const OBJECT_WIDTH: usize = Self::FIELDS + Self::VALUE * Limits::CLASS_FIELDS;
@@ -97,6 +104,9 @@ pub fn agreed()
     ensures { λ r. do ⌜ (← ⟦Layout::AWAITS⟧ .entry) ≡ AWAITS ⌝ }
     ensures { λ r. do ⌜ (← ⟦Layout::CASTS⟧ .entry) ≡ CASTS ⌝ }
     ensures { λ r. do ⌜ (← ⟦Layout::LOCKS⟧ .entry) ≡ LOCKS ⌝ }
+    ensures { λ r. do ⌜ (← ⟦Layout::NULL⟧ .entry) ≡ NULL ⌝ }
+    ensures { λ r. do ⌜ (← ⟦Layout::REF⟧ .entry) ≡ REF ⌝ }
+    ensures { λ r. do ⌜ (← ⟦Layout::INT⟧ .entry) ≡ INT ⌝ }
     ensures { λ r. do ⌜ (← ⟦Layout::END⟧ .entry) ≡ END ⌝ }
     ensures { λ r. do ⌜ (← ⟦Layout::WORDS⟧ .entry) ≡ WORDS ⌝ }
 {}

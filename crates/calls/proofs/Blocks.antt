@@ -9,6 +9,7 @@ use lib.Dec.{eqb, leb, ltb}
 use lib.ListN.{length, getD, length-append}
 use borrow.Author.Tests.{eq-eqb, le-leb}
 use Rattle.words.specs.Word.{WORD, wordAt, bytes}
+use Rattle.words.specs.Integer.{lowWord, highWord}
 use Rattle.limits.specs.Limits.{BLOCK, CHOICES, FLAGS, CLASS-FIELDS}
 use Rattle.script.specs.Lists.{_∈_, run, sumBelow, named, countIn}
 use Rattle.script.specs.Section.{sections, bodyAt, countOf, endOf, recordAt, recordWord}
@@ -30,15 +31,13 @@ use Rattle.machine.specs.WellFormed.{WellFormed}
 use Rattle.machine.specs.Decide.{only, wellFormedTest}
 use Rattle.machine.proofs.Decide.{decides-well-formed}
 use Rattle.soundness.proofs.Promise.{run-keeps}
-use Rattle.block.specs.declared.Area.{Area}
-use Rattle.block.specs.declared.Area.the-variants.{Objects, Bindings, Positions, Frames}
 use Rattle.block.specs.Rows.{filled}
 use Rattle.block.specs.Layout.{most}
-use Rattle.block.specs.Values.{valueWord}
+use Rattle.block.specs.Values.{valueWords}
 use Rattle.block.specs.Block.{objectWords, bindingWords, preorder, positionWords, framesOf, frameWords, rows, partsOf, encode}
-use Rattle.block.specs.Fits.{AllWords, Few, Fits}
+use Rattle.block.specs.Fits.{AllWords, Few, StorableIn, Fits, storableInTest, allAreas}
 use Rattle.block.proofs.Words.{encode-length}
-use Rattle.block.proofs.Fits.{all-small, laid-words}
+use Rattle.block.proofs.Fits.{areas, decides-stored, all-small, laid-words}
 use Rattle.block.proofs.Decode.{decode-encode}
 use Rattle.calls.specs.Calls.{askForm, configOf, blockAsked, offeredFrom, offerOf, ranFrom, runOf}
 use Rattle.calls.specs.Samples.{configured, variable}
@@ -55,12 +54,6 @@ script-small : (i : ℕ) → getD blockScript i 0 < 256
 unfolding bytes allOf blockScript
 script-small = all-small blockScript (says-yes (decides-all (λ n. n < 256) (λ n. ltb n 256) blockScript (λ n. decides-lt n 256)) refl)
 
-each-area : (P : Area → Type 0) → P Objects → P Bindings → P Positions → P Frames → (a : Area) → P a
-each-area P o b p f Objects = o
-each-area P o b p f Bindings = b
-each-area P o b p f Positions = p
-each-area P o b p f Frames = f
-
 -- whether a configuration fits in a block, record by record (`fitsTest` goes through all words of the block, which takes too long here)
 abbrev smallTest : {A : Type 0} → (A → List ℕ) → List A → Bool
 smallTest f l = allOf (λ x. allOf (λ w. ltb w WORD) (f x)) l
@@ -69,43 +62,38 @@ decides-small : {A : Type 0} (f : A → List ℕ) (l : List A) → Decides ((x :
 decides-small f l = decides-all (λ x. AllWords (f x)) _ l (λ x. decides-all (λ (w : ℕ). w < WORD) (λ w. ltb w WORD) (f x) (λ w. decides-lt w WORD))
 
 module _ (count : ℕ → ℕ) (c : Config) where
-  abbrev countTest : Area → Bool
-  countTest a = leb (length (rows (partsOf c) a)) (most a)
-
   abbrev recordsTest : Bool
   recordsTest =
-      (countTest Objects && (countTest Bindings && (countTest Positions && countTest Frames)))
+      allOf (λ a. leb (length (rows (partsOf c) a)) (most a)) allAreas
       && (allOf (λ (o : Object). eqb (length (o .fields)) (count (o .class))) (c .stores .objects)
       && (allOf (λ (o : Object). leb (length (o .fields)) CLASS-FIELDS) (c .stores .objects)
+      && (allOf (storableInTest (partsOf c)) allAreas
       && (smallTest objectWords (partsOf c .objects)
       && (smallTest bindingWords (partsOf c .bindings)
       && (smallTest positionWords (partsOf c .positions)
-      && smallTest frameWords (partsOf c .frames))))))
-
-  decides-count : (a : Area) → Decides (length (rows (partsOf c) a) ≤ most a) (countTest a)
-  decides-count a = decides-le (length (rows (partsOf c) a)) (most a)
+      && smallTest frameWords (partsOf c .frames)))))))
 
   records-fit : recordsTest ≡ true → Fits count c
   records-fit e =
       let h =
       says-yes
-      (decides-and (decides-and (decides-count Objects) (decides-and (decides-count Bindings) (decides-and (decides-count Positions) (decides-count Frames))))
+      (decides-and (decides-all (λ a. length (rows (partsOf c) a) ≤ most a) _ allAreas (λ a. decides-le (length (rows (partsOf c) a)) (most a)))
       (decides-and (decides-all (λ (o : Object). length (o .fields) ≡ count (o .class)) _ (c .stores .objects) (λ o. decides-eq (length (o .fields)) (count (o .class))))
       (decides-and (decides-all (λ (o : Object). length (o .fields) ≤ CLASS-FIELDS) _ (c .stores .objects) (λ o. decides-le (length (o .fields)) CLASS-FIELDS))
+      (decides-and (decides-all (StorableIn (partsOf c)) (storableInTest (partsOf c)) allAreas (decides-stored (partsOf c)))
       (decides-and (decides-small objectWords (partsOf c .objects))
       (decides-and (decides-small bindingWords (partsOf c .bindings))
       (decides-and (decides-small positionWords (partsOf c .positions))
-      (decides-small frameWords (partsOf c .frames))))))))
+      (decides-small frameWords (partsOf c .frames)))))))))
       e
       in
-      let few : Few (partsOf c) =
-      each-area (λ a. length (rows (partsOf c) a) ≤ most a) (h .0 .0) (h .0 .1 .0) (h .0 .1 .1 .0) (h .0 .1 .1 .1)
-      in
+      let few : Few (partsOf c) = areas (λ a. length (rows (partsOf c) a) ≤ most a) (h .0) in
       record {
         few = few;
         own-fields = h .1 .0;
         few-fields = h .1 .1 .0;
-        words = laid-words (partsOf c) few (h .1 .1 .1 .0) (h .1 .1 .1 .1 .0) (h .1 .1 .1 .1 .1 .0) (h .1 .1 .1 .1 .1 .1);
+        values = areas (StorableIn (partsOf c)) (h .1 .1 .1 .0);
+        words = laid-words (partsOf c) few (h .1 .1 .1 .1 .0) (h .1 .1 .1 .1 .1 .0) (h .1 .1 .1 .1 .1 .1 .0) (h .1 .1 .1 .1 .1 .1 .1);
       }
 
 -- the whole table, as the test of a configuration answers, and that all fit
@@ -114,7 +102,7 @@ unfolding wordAt bytes run sumBelow named bodyAt countOf recordAt recordWord dec
 all-tested = refl
 
 all-fit : map (λ x. recordsTest (fieldCount blockScript) (x .config)) blockCases ≡ map (λ x. true) blockCases
-unfolding wordAt bytes run bodyAt countOf recordAt recordWord declarationAt ownFields classAt programOf allOf preorder framesOf filled flatMap flatten blockScript blockCases
+unfolding wordAt bytes lowWord highWord run bodyAt countOf recordAt recordWord declarationAt ownFields classAt programOf allOf preorder framesOf filled flatMap flatten blockScript blockCases
 all-fit = refl
 
 -- from the test of a configuration to the calls
@@ -169,7 +157,7 @@ only-thread c d l z k h next (suc n ∷ ns) = rw (l, k n) (only-thread c d l z k
 
 -- and that binding stays
 kept-apart : (l : List Binding) → l ++ (variable 2 3 (ref 0) 0 ∷ []) ≡ variable 2 3 nil 0 ∷ [] → ⊥
-kept-apart [] e = omega (arith, ap (λ (k : List Binding). valueWord (getD k 0 (variable 0 0 nil 0) .value)) e)
+kept-apart [] e = omega (arith, ap (λ (k : List Binding). getD (valueWords (getD k 0 (variable 0 0 nil 0) .value)) 0 0) e)
 kept-apart (b ∷ l) e = omega (arith, ap (λ (k : List Binding). length k) e, length-append l (variable 2 3 (ref 0) 0 ∷ []))
 
 unlike : (ns : List ℕ) → Unlike ns initial

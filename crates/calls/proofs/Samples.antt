@@ -11,6 +11,7 @@ use lib.ListN.{length, getD, length-map, length-set, length-replicate}
 use lib.Seq.{getD-set-same}
 use borrow.Author.Tests.{eq-eqb, ne-eqb, le-leb, lt-leb}
 use Rattle.words.specs.Word.{wordAt, bytes}
+use Rattle.words.specs.Integer.{integer}
 use Rattle.limits.specs.Limits.{BLOCK, CHOICES, FLAGS}
 use Rattle.script.specs.Lists.{_∈_, run, sumBelow, named, countIn}
 use Rattle.script.specs.Section.{sections, bodyAt, countOf, endOf, recordAt, recordWord}
@@ -60,7 +61,7 @@ unfolding wordAt bytes run sumBelow named countIn sections bodyAt countOf endOf 
 all-checked = refl
 
 all-tried : map (λ x. map (trialOf (x .script)) (x .trials)) samples ≡ map (λ x. map stated (x .trials)) samples
-unfolding wordAt bytes run sumBelow named bodyAt countOf recordAt recordWord declarationAt kindOf viewAt lastExprs exprAt ownFields ownMethods methodAt interfaceAt classAt programOf valuesTo valueAt reach below typeIn answer move choice look report filled flagsOf nodesAlone nodesWithClass nodesWithField nodesWithMethod samples
+unfolding wordAt bytes integer run sumBelow named bodyAt countOf recordAt recordWord declarationAt kindOf viewAt lastExprs exprAt ownFields ownMethods methodAt interfaceAt fieldAt classAt programOf valuesTo valueAt reach below typeIn answer move choice look report filled flagsOf nodesAlone nodesWithClass nodesWithField nodesWithMethod samples
 all-tried = refl
 
 -- what the calls ask of a trial: the script is bytes, Check accepts it, and the choices are not too many
@@ -129,7 +130,7 @@ each-cons : {A : Type 0} (P : A → Type 0) (y : A) (l : List A) → P y → ((x
 each-cons P y l h k x m = ⊎-elim (λ (e : x ≡ y). rw e h) (k x) (List·Memᴰ·cases-cons m)
 
 -- no configuration has a block without a position, nor one with a byte past the areas
-zeros-form : (c : Config) → zeros 49152 ≡ encode c → ⊥
+zeros-form : (c : Config) → zeros 65536 ≡ encode c → ⊥
 unfolding zeros wordAt
 zeros-form c e =
     let n : counted (encode c) Positions ≡ 0 = ap (λ (l : List ℕ). counted l Positions) (sym e) in
@@ -138,13 +139,13 @@ zeros-form c e =
 last-form : (c : Config) → lastChanged ≡ encode c → ⊥
 unfolding lastChanged wordAt
 last-form c e =
-    let n : wordAt lastChanged 49150 ≡ 0 = ap (λ (l : List ℕ). wordAt l 49150) e ∙ rest-blank (partsOf c) 24575 (omega arith) (omega arith) in
-    let l : 49151 < length (encode initial) = omega (arith, encode-length initial) in
-    omega (arith, n, getD-set-same (encode initial) 49151 1 0 l)
+    let n : wordAt lastChanged 65534 ≡ 0 = ap (λ (l : List ℕ). wordAt l 65534) e ∙ rest-blank (partsOf c) 32767 (omega arith) (omega arith) in
+    let l : 65535 < length (encode initial) = omega (arith, encode-length initial) in
+    omega (arith, n, getD-set-same (encode initial) 65535 1 0 l)
 
 length-last : length lastChanged ≡ BLOCK
 unfolding lastChanged
-length-last = length-set (encode initial) 49151 1 ∙ encode-length initial
+length-last = length-set (encode initial) 65535 1 ∙ encode-length initial
 
 module _ (s : List ℕ) (small : (i : ℕ) → getD s i 0 < 256) (t : ℕ) (acc : checkOf s ≡ Accepted t) where
   -- each question's no, from the three calls
@@ -178,15 +179,16 @@ module _ (s : List ℕ) (small : (i : ℕ) → getD s i 0 < 256) (t : ℕ) (acc 
   pub all-lent : (x : LentCase) → x ∈ lentCases → LentRefused s x
   unfolding lentCases
   all-lent =
-      each-cons (LentRefused s) _ _ (no-length (zeros 49151) (zeros 63) (zeros 4096) (λ e. omega (arith, length-zeros 49151)))
-      (each-cons (LentRefused s) _ _ (no-length (zeros 49153) (zeros 63) (zeros 4096) (λ e. omega (arith, length-zeros 49153)))
+      each-cons (LentRefused s) _ _ (no-length (zeros 65535) (zeros 63) (zeros 4096) (λ e. omega (arith, length-zeros 65535)))
+      (each-cons (LentRefused s) _ _ (no-length (zeros 65537) (zeros 63) (zeros 4096) (λ e. omega (arith, length-zeros 65537)))
+      (each-cons (LentRefused s) _ _ (no-length (zeros 49152) (zeros 63) (zeros 4096) (λ e. omega (arith, length-zeros 49152)))
       (each-cons (LentRefused s) _ _ (no-buffer (encode initial) (zeros 62) (zeros 4097) (encode-length initial) (λ e. omega (arith, length-zeros 62)) many)
       (each-cons (LentRefused s) _ _ (no-buffer (encode initial) (zeros 64) (zeros 4097) (encode-length initial) (λ e. omega (arith, length-zeros 64)) many)
-      (each-cons (LentRefused s) _ _ (no-form (zeros 49152) (zeros 63) (zeros 4096) (length-zeros 49152) (length-zeros 63) few zeros-form)
+      (each-cons (LentRefused s) _ _ (no-form (zeros 65536) (zeros 63) (zeros 4096) (length-zeros 65536) (length-zeros 63) few zeros-form)
       (each-cons (LentRefused s) _ _ (no-form lastChanged (zeros 63) (zeros 4096) length-last (length-zeros 63) few last-form)
-      (each-cons (LentRefused s) _ _ (no-length (zeros 49151) (zeros 62) (zeros 4097) (λ e. omega (arith, length-zeros 49151)))
-      (each-cons (LentRefused s) _ _ (no-buffer (zeros 49152) (zeros 62) (zeros 4097) (length-zeros 49152) (λ e. omega (arith, length-zeros 62)) many)
-      (λ x m. absurd (List·Memᴰ·not-nil m)))))))))
+      (each-cons (LentRefused s) _ _ (no-length (zeros 65535) (zeros 62) (zeros 4097) (λ e. omega (arith, length-zeros 65535)))
+      (each-cons (LentRefused s) _ _ (no-buffer (zeros 65536) (zeros 62) (zeros 4097) (length-zeros 65536) (λ e. omega (arith, length-zeros 62)) many)
+      (λ x m. absurd (List·Memᴰ·not-nil m))))))))))
     where
       few : length (zeros 4096) ≤ CHOICES
       few = omega (arith, length-zeros 4096)

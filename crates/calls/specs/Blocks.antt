@@ -6,13 +6,14 @@ use mathlib.Core.Bool.{Bool, true, false}
 use mathlib.Core.List.{List, [], _∷_}
 use mathlib.Core.Option.{some}
 use lib.ListN.{length}
+use lib.IntN.{pos, negsuc}
 use Rattle.words.specs.Word.{bytes}
 use Rattle.limits.specs.Limits.{BLOCK, CHOICES, FLAGS}
 use Rattle.script.specs.Asking.{Decides}
 use Rattle.script.specs.Lists.{_∈_}
 use Rattle.typing.specs.declared.Verdict.the-variants.{Accepted}
 use Rattle.typing.specs.Check.{checkOf}
-use Rattle.machine.specs.declared.Value.the-variants.{Null as nil, Ref as ref}
+use Rattle.machine.specs.declared.Value.the-variants.{Null as nil, Ref as ref, Int as int}
 use Rattle.machine.specs.declared.Frame.the-variants.{Awaits as awaits, Casts as casts, Locks as locks}
 use Rattle.machine.specs.Config.{Config, codeOf, Object, Binding, Tree, running, returning, failed, join}
 use Rattle.machine.specs.Machine.{limits, initial}
@@ -107,7 +108,12 @@ blockCases =
     record { config = configured [] (variable 2 3 nil 0 ∷ variable 2 3 nil 2 ∷ []) (running 11 2 []); well = false } ∷
     -- "Type 0 is Unit; interfaces are 1 to I, classes I+1 to I+C.": a binding of type 4, the last one
     record { config = configured [] (variable 2 4 nil 0 ∷ []) failed; well = true } ∷
-    -- a binding of type 5, which is none
+    -- a binding of type 6, which is none
+    record { config = configured [] (variable 2 6 nil 0 ∷ []) failed; well = false } ∷
+    -- "Type I+C+1 is Int, a signed 32-bit number.": a binding of type 5, with the least number and with the greatest
+    record { config = configured [] (variable 2 5 (int (negsuc 2147483647)) 0 ∷ []) failed; well = true } ∷
+    record { config = configured [] (variable 2 5 (int (pos 2147483647)) 0 ∷ []) failed; well = true } ∷
+    -- "Null does not fit Int"
     record { config = configured [] (variable 2 5 nil 0 ∷ []) failed; well = false } ∷
     -- an object whose class is type 2, an interface
     record { config = configured (record { class = 2; shut = false; fields = [] } ∷ []) [] failed; well = false } ∷
@@ -117,6 +123,12 @@ blockCases =
     record { config = configured (objectD ∷ []) (variable 2 3 (ref 0) 0 ∷ []) failed; well = false } ∷
     -- a binding of type J, with an object that is not there
     record { config = configured (objectD ∷ []) (variable 2 1 (ref 1) 0 ∷ []) failed; well = false } ∷
+    -- "Int is below only itself": a binding of type C and one of type Unit, with a number, and a binding of type Int, with an object
+    record { config = configured [] (variable 2 3 (int (pos 0)) 0 ∷ []) failed; well = false } ∷
+    record { config = configured [] (variable 2 0 (int (pos 0)) 0 ∷ []) failed; well = false } ∷
+    record { config = configured (objectD ∷ []) (variable 2 5 (ref 0) 0 ∷ []) failed; well = false } ∷
+    -- a field of type C, with a number
+    record { config = configured (record { class = 3; shut = false; fields = int (pos 0) ∷ [] } ∷ []) [] failed; well = false } ∷
     -- a field of type C, with an object of class D
     record { config = configured (objectD ∷ record { class = 3; shut = false; fields = ref 0 ∷ [] } ∷ []) [] failed; well = false } ∷
     -- "frames are typed up to the start's type or below at the root": x, of type C, which is below I
@@ -127,6 +139,9 @@ blockCases =
     record { config = configured (objectC false ∷ []) xOfC (join [] 15 1 (running 9 1 []) (running 10 1 [])); well = false } ∷
     -- "and to any type at an async": x under a cast to J, as an async
     record { config = configured (objectC false ∷ []) xOfC (asyncLeft (running 13 1 (casts 15 ∷ []))); well = true } ∷
+    -- a number, as an async and at the root
+    record { config = configured (objectC false ∷ []) xOfC (asyncLeft (returning (int (pos 0)) [])); well = true } ∷
+    record { config = configured (objectC false ∷ []) xOfC (returning (int (pos 0)) []); well = false } ∷
     -- "what a let frame waits for fits the type inferred for the let's first part under the frame's bindings (there must be one)": let w = x in (J).. where x
     -- has type C, with an object of class C
     record { config = configured (objectC false ∷ objectD ∷ []) xOfC (asyncLeft (returning (ref 0) (awaits 9 1 ∷ []))); well = true } ∷

@@ -32,8 +32,8 @@ abbrev pub askScript : Verdict → (ℕ → Questioned) → Questioned
 askScript (Accepted t) next = next t
 askScript (Refused q place) next = no-at (numberOf q) place
 
--- "Is the state block 49,152 bytes? 20", "Is the choice list at most 4,096 bytes (Run), or the flag buffer exactly 63 (Offer)? 22", "Is the block a well-formed
--- configuration of this script? 21"
+-- "Is the state block 49,152 bytes? 20" ("The block grows to 65,536 bytes, so question 20 asks that"), "Is the choice list at most 4,096 bytes (Run), or the
+-- flag buffer exactly 63 (Offer)? 22", "Is the block a well-formed configuration of this script? 21"
 abbrev pub lentNumber : LentQuestion → ℕ
 lentNumber BlockLength = 20
 lentNumber BufferLength = 22
@@ -57,7 +57,7 @@ wellFormed s t (some c) = only (wellFormedTest (codeOf s) limits t c) (some c)
 unfoldable pub configOf : List ℕ → ℕ → List ℕ → Option Config
 configOf s t b = wellFormed s t (decode (fieldCount s) b)
 
--- "Is the state block 49,152 bytes?"
+-- "Is the state block 49,152 bytes?", but "The block grows to 65,536 bytes, so question 20 asks that."
 abbrev pub blockLong : List ℕ → Bool
 blockLong b = eqb (length b) BLOCK
 

@@ -65,7 +65,7 @@ pub data Next (s b : List ℕ) : List Lent → List ℕ → Option ℕ → List 
       → Next s b (to-run ns ∷ calls) (runOf s b (take n ns) .block) (some (getD ns n 0)) (runOf s b (take (suc n) ns) .block)
   one-start : {calls : List Lent} → Next s b (to-start ∷ calls) b none (startOf s b .block)
 
--- What demand 3 claims of a block that the list has: it is 49,152 bytes, and stands for a configuration that is well formed and of which all that is promised
+-- What demand 3 claims of a block that the list has: it is 65,536 bytes, and stands for a configuration that is well formed and of which all that is promised
 -- holds.
 pub record ClaimedOf (s : List ℕ) (t : ℕ) (b : List ℕ) : Type 0 where
   pub config : Config
@@ -104,7 +104,7 @@ pub record DemandThreeOf (s : List ℕ) (t : ℕ) (b : List ℕ) (calls : List L
   pub claimed : {x e : List ℕ} {rest : List Lent} → Comes s AnyLent b calls x rest → Has s x rest e → ClaimedOf s t e
   -- "Objects and bindings are never freed": a binding once there keeps its name, type, value and link until the next Start
   pub kept : {x d e : List ℕ} {rest : List Lent} → Comes s AnyLent b calls x rest → Later s x rest d e → OfBoth s t Kept d e
-  -- "no move makes a thread failed except at a null target or by a failed side"
+  -- "no move makes a thread failed except at a null target or by a failed side", and "failure on null becomes failure on null or on a sum"
   pub fails : {x d e : List ℕ} {o : Option ℕ} {rest : List Lent} → Comes s AnyLent b calls x rest → Next s x rest d o e
       → OfBoth s t (FailsOnNull (codeOf s) o) d e
   -- each Run of the list that is not refused stops with 1, 2 or 3 exactly when nothing can move in the block that it leaves, which is then finished, failed or

@@ -5,15 +5,16 @@ use mathlib.Core.Path.{_≡_}
 use mathlib.Core.Bool.{true, false}
 use mathlib.Core.List.{List, [], _∷_}
 use lib.ListN.{length, set, replicate}
+use lib.IntN.{pos, negsuc}
 use Rattle.words.specs.Word.{bytes}
 use Rattle.limits.specs.Limits.{BLOCK, FLAGS}
-use Rattle.script.specs.declared.Question.the-variants.{Types, Nulls, Fits, Sharing}
+use Rattle.script.specs.declared.Question.the-variants.{Types, Nulls, Members, Fits, Sharing}
 use Rattle.script.specs.Lists.{_∈_}
 use Rattle.typing.specs.declared.Verdict.{Verdict}
 use Rattle.typing.specs.declared.Verdict.the-variants.{Accepted, Refused}
 use Rattle.typing.specs.Check.{checkOf}
 use Rattle.machine.specs.declared.Value.{Value}
-use Rattle.machine.specs.declared.Value.the-variants.{Null as nil, Ref as ref}
+use Rattle.machine.specs.declared.Value.the-variants.{Null as nil, Ref as ref, Int as int}
 use Rattle.machine.specs.declared.Frame.{Frame}
 use Rattle.machine.specs.declared.Frame.the-variants.{Awaits as awaits, Casts as casts, Locks as locks}
 use Rattle.machine.specs.Config.{Config, codeOf, Object, Binding, Tree, running, returning, failed, join}
@@ -55,7 +56,7 @@ pub record Tried (s b : List ℕ) (x : Trial) : Type 0 where
   pub offered : (fl : List ℕ) → length fl ≡ FLAGS
       → offerOf s (encode (x .config)) fl ≡ record { number = 0; place = 0; block = encode (x .config); flags = filled FLAGS (x .flags) }
 
--- What is said of a sample: Check answers its verdict, and each of its trials goes as it says, begun on any block of 49,152 bytes.
+-- What is said of a sample: Check answers its verdict, and each of its trials goes as it says, begun on any block of 65,536 bytes.
 pub record Sampled (x : Sample) : Type 0 where
   pub checked : checkOf (x .script) ≡ x .verdict
   pub tried : (b : List ℕ) → length b ≡ BLOCK → (y : Trial) → y ∈ x .trials → Tried (x .script) b y
@@ -255,6 +256,37 @@ samples =
           (configured (replicate 5 openC) (variable 3 2 (ref 1) 3 ∷ afterCalls (λ n. ref 0) 1) (returning (ref 0) [])) [] ∷
           [];
     } ∷
+    -- "Type I+C+1 is Int", "Kind 10 is a constant (a low word, b high word, two's complement), which becomes a value silently as null does": -1 alone.
+    record {
+      script = nodesAlone (10 ∷ 65535 ∷ 65535 ∷ 0 ∷ []);
+      verdict = Accepted 1;
+      trials = trial (times 9 0 []) 1 1 1 (configured [] [] (returning (int (negsuc 0)) [])) [] ∷ [];
+    } ∷
+    -- "kind 11 adds variables a and b .. in one step", "A sum outside the range fails the thread as null does": let x = 2147483647 in let y = 1 in x + y fails
+    -- at move 7.
+    record {
+      script = nodesAlone (5 ∷ 2 ∷ 1 ∷ 2 ∷ 10 ∷ 65535 ∷ 32767 ∷ 0 ∷ 5 ∷ 3 ∷ 3 ∷ 4 ∷ 10 ∷ 1 ∷ 0 ∷ 0 ∷ 11 ∷ 2 ∷ 3 ∷ 0 ∷ []);
+      verdict = Accepted 1;
+      trials =
+          trial (times 6 0 []) 0 6 6 (configured [] (variable 3 1 (int (pos 1)) 1 ∷ variable 2 1 (int (pos 2147483647)) 0 ∷ []) (running 4 2 [])) (1 ∷ []) ∷
+          trial (times 7 0 []) 2 7 7 (configured [] (variable 3 1 (int (pos 1)) 1 ∷ variable 2 1 (int (pos 2147483647)) 0 ∷ []) failed) [] ∷
+          [];
+    } ∷
+    -- The same with x = 2147483646 gives the greatest number.
+    record {
+      script = nodesAlone (5 ∷ 2 ∷ 1 ∷ 2 ∷ 10 ∷ 65534 ∷ 32767 ∷ 0 ∷ 5 ∷ 3 ∷ 3 ∷ 4 ∷ 10 ∷ 1 ∷ 0 ∷ 0 ∷ 11 ∷ 2 ∷ 3 ∷ 0 ∷ []);
+      verdict = Accepted 1;
+      trials =
+          trial (times 7 0 []) 1 7 7
+          (configured [] (variable 3 1 (int (pos 1)) 1 ∷ variable 2 1 (int (pos 2147483646)) 0 ∷ []) (returning (int (pos 2147483647)) [])) [] ∷
+          [];
+    } ∷
+    -- "Null does not fit Int (14)": (Int)null, at the null.
+    record { script = nodesAlone (7 ∷ 1 ∷ 1 ∷ 0 ∷ 0 ∷ 0 ∷ 0 ∷ 0 ∷ []); verdict = Refused Fits 32; trials = [] } ∷
+    -- "Int is no target of field, call or lock (13)": let x = 1 in lock x in x, at the lock.
+    record { script = nodesAlone (5 ∷ 2 ∷ 1 ∷ 2 ∷ 10 ∷ 1 ∷ 0 ∷ 0 ∷ 9 ∷ 2 ∷ 3 ∷ 0 ∷ 1 ∷ 2 ∷ 0 ∷ 0 ∷ []); verdict = Refused Members 40; trials = [] } ∷
+    -- A `new` operand is a class, so not Int, which is type 3 beside I and C: 6.
+    record { script = nodesWithClass (6 ∷ 3 ∷ 0 ∷ 0 ∷ []); verdict = Refused Types 36; trials = [] } ∷
     -- "the 256th object is made, the 257th gives stop 4": a method's body is this.0(new C), and the start let x = new C in x.0(new C).
     record {
       script = nodesWithMethod 2 2 4 (5 ∷ 2 ∷ 1 ∷ 2 ∷ 6 ∷ 2 ∷ 0 ∷ 0 ∷ 4 ∷ 2 ∷ 0 ∷ 3 ∷ 6 ∷ 2 ∷ 0 ∷ 0 ∷ 4 ∷ 0 ∷ 0 ∷ 5 ∷ 6 ∷ 2 ∷ 0 ∷ 0 ∷ []);
@@ -318,22 +350,23 @@ unfoldable pub zeros : ℕ → List ℕ
 zeros n = replicate n 0
 
 unfoldable pub lastChanged : List ℕ
-lastChanged = set (encode initial) 49151 1
+lastChanged = set (encode initial) 65535 1
 
 unfoldable pub lentCases : List LentCase
 lentCases =
-    -- "Is the state block 49,152 bytes? 20"
-    record { block = zeros 49151; flags = zeros 63; choices = zeros 4096; start = 20; written = zeros 49151; number = 20 } ∷
-    record { block = zeros 49153; flags = zeros 63; choices = zeros 4096; start = 20; written = zeros 49153; number = 20 } ∷
+    -- "The block grows to 65,536 bytes, so question 20 asks that": one byte less or more, and as many as before
+    record { block = zeros 65535; flags = zeros 63; choices = zeros 4096; start = 20; written = zeros 65535; number = 20 } ∷
+    record { block = zeros 65537; flags = zeros 63; choices = zeros 4096; start = 20; written = zeros 65537; number = 20 } ∷
+    record { block = zeros 49152; flags = zeros 63; choices = zeros 4096; start = 20; written = zeros 49152; number = 20 } ∷
     -- "Is the choice list at most 4,096 bytes (Run), or the flag buffer exactly 63 (Offer)? 22", which Start does not ask
     record { block = encode initial; flags = zeros 62; choices = zeros 4097; start = 0; written = encode initial; number = 22 } ∷
     record { block = encode initial; flags = zeros 64; choices = zeros 4097; start = 0; written = encode initial; number = 22 } ∷
     -- "Is the block a well-formed configuration of this script? 21", which Start does not ask: "Start writes the initial block over anything"; a block of zeros
     -- has no thread
-    record { block = zeros 49152; flags = zeros 63; choices = zeros 4096; start = 0; written = encode initial; number = 21 } ∷
+    record { block = zeros 65536; flags = zeros 63; choices = zeros 4096; start = 0; written = encode initial; number = 21 } ∷
     -- "bytes with no meaning are 0, else 21"
     record { block = lastChanged; flags = zeros 63; choices = zeros 4096; start = 0; written = encode initial; number = 21 } ∷
     -- "Questions to a call, in order": 20 before 22, and 22 before 21
-    record { block = zeros 49151; flags = zeros 62; choices = zeros 4097; start = 20; written = zeros 49151; number = 20 } ∷
-    record { block = zeros 49152; flags = zeros 62; choices = zeros 4097; start = 0; written = encode initial; number = 22 } ∷
+    record { block = zeros 65535; flags = zeros 62; choices = zeros 4097; start = 20; written = zeros 65535; number = 20 } ∷
+    record { block = zeros 65536; flags = zeros 62; choices = zeros 4097; start = 0; written = encode initial; number = 22 } ∷
     []

@@ -1,5 +1,6 @@
 pub mod Answers
 pub mod ZeroLaws
+pub mod ValueLaws
 pub mod KindLaws
 pub mod EachLaws
 pub mod TreeLaws

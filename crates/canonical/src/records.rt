@@ -1,4 +1,6 @@
 // The records of a block: is each in order by itself?
+use crate::values::fields_fit;
+use crate::values::value_fits;
 use crate::zeros::unused;
 use areas::count;
 use areas::word;
@@ -32,7 +34,7 @@ fn field_count(s: &[u8], t: u16) -> usize
     }
 }
 
-// Is object i open or shut, with 0 for each field that its class does not have?
+// Is object i open or shut, with a value for each field of its class and 0 for each field that its class does not have?
 fn object_fits(s: &[u8], block: &[u8], i: usize) -> bool
     requires { ⌜ WithinLayout (now s) × (length (now block) ≡ BLOCK) × (i < OBJECTS) ⌝ }
     ensures { λ r. ⌜ Decides (ObjectOk (fieldCount (now (s .entry))) (wordIn (now (block .entry)) Objects i)) r ⌝ }
@@ -43,11 +45,14 @@ fn object_fits(s: &[u8], block: &[u8], i: usize) -> bool
     }
     let class = word(block, Area::Objects, i, Layout::CLASS);
     let n = field_count(s, class);
+    if !fields_fit(block, i, n) {
+        return false;
+    }
     let used = Layout::FIELDS + Layout::VALUE * n;
     unused(block, Area::Objects, i, used, Layout::OBJECT_WIDTH)
 }
 
-// Is position i of a known kind, with 0 for each word without a meaning for that kind?
+// Is position i of a known kind, with a value where it has one and 0 for each word without a meaning for that kind?
 fn position_fits(block: &[u8], i: usize) -> bool
     requires { ⌜ (length (now block) ≡ BLOCK) × (i < POSITIONS) ⌝ }
     ensures { λ r. ⌜ Decides (PositionOk (wordIn (now (block .entry)) Positions i)) r ⌝ }
@@ -57,6 +62,9 @@ fn position_fits(block: &[u8], i: usize) -> bool
         return unused(block, Area::Positions, i, Layout::RESULT, Layout::WAITING);
     }
     if kind == Layout::RETURNING {
+        if !value_fits(block, Area::Positions, i, Layout::RESULT) {
+            return false;
+        }
         return unused(block, Area::Positions, i, Layout::NODE, Layout::RESULT);
     }
     if kind == Layout::FAILED {
@@ -99,7 +107,7 @@ fn record_fits(s: &[u8], block: &[u8], a: Area, i: usize) -> bool
 {
     match a {
         Area::Objects => object_fits(s, block, i),
-        Area::Bindings => true,
+        Area::Bindings => value_fits(block, Area::Bindings, i, Layout::BOUND),
         Area::Positions => position_fits(block, i),
         Area::Frames => frame_fits(block, i),
     }

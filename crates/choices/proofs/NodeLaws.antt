@@ -3,15 +3,17 @@ use mathlib.Core.Path.{_≡_, refl, sym, ap, _∙_}
 use mathlib.Core.List.{List, []}
 use Prim.Native.Nat.{ℕ, zero, suc, _-_}
 use lib.ListN.{length}
+use Rattle.words.specs.Integer.{integer}
 use Rattle.limits.specs.Limits.{OBJECTS, FRAMES, THREADS}
 use Rattle.script.specs.Section.{nodeWord}
 use Rattle.script.specs.Syntax.{n-null}
 use Rattle.script.specs.Reading.{kindOf, nodeOf, viewAt}
-use Rattle.machine.specs.declared.Value.the-variants.{Null as nil}
+use Rattle.machine.specs.declared.Value.the-variants.{Null as nil, Int as int}
 use Rattle.machine.specs.declared.Frame.{Frame}
 use Rattle.machine.specs.declared.Frame.the-variants.{Awaits as awaits, Casts as casts}
 use Rattle.machine.specs.Config.{codeOf, returning, Config}
-use Rattle.machine.specs.Machine.{scope, find, limits, spare, moved, give, descend, make, spawn, lockTarget, selectTarget, runNode, frameCount, threadCount, Path}
+use Rattle.machine.specs.Machine.{scope, find, limits, spare, moved, give, descend, make, spawn, lockTarget, selectTarget, addBound}
+use Rattle.machine.specs.Machine.{runNode, frameCount, threadCount, Path}
 use Rattle.block.specs.declared.Area.the-variants.{Objects, Frames}
 use Rattle.block.specs.Layout.{counted}
 use Rattle.block.specs.Block.{partsOf}
@@ -23,19 +25,22 @@ use Rattle.moves.specs.declared.Effect.{Effect}
 use Rattle.moves.specs.Performs.{Performs}
 
 -- a kind that is none of the others reads as null
-other-kind : (k x y z : ℕ) → (k ≡ 1 → ⊥) → (k ≡ 2 → ⊥) → (k ≡ 3 → ⊥) → (k ≡ 4 → ⊥) → (k ≡ 5 → ⊥) → (k ≡ 6 → ⊥) → (k ≡ 7 → ⊥) → (k ≡ 8 → ⊥) → (k ≡ 9 → ⊥) → nodeOf (kindOf k) x y z ≡ n-null
+other-kind : (k x y z : ℕ) → (k ≡ 1 → ⊥) → (k ≡ 2 → ⊥) → (k ≡ 3 → ⊥) → (k ≡ 4 → ⊥) → (k ≡ 5 → ⊥) → (k ≡ 6 → ⊥) → (k ≡ 7 → ⊥) → (k ≡ 8 → ⊥)
+    → (k ≡ 9 → ⊥) → (k ≡ 10 → ⊥) → (k ≡ 11 → ⊥) → nodeOf (kindOf k) x y z ≡ n-null
 unfolding kindOf
-other-kind zero x y z h1 h2 h3 h4 h5 h6 h7 h8 h9 = refl
-other-kind (suc zero) x y z h1 h2 h3 h4 h5 h6 h7 h8 h9 = absurd (h1 refl)
-other-kind (suc (suc zero)) x y z h1 h2 h3 h4 h5 h6 h7 h8 h9 = absurd (h2 refl)
-other-kind (suc (suc (suc zero))) x y z h1 h2 h3 h4 h5 h6 h7 h8 h9 = absurd (h3 refl)
-other-kind (suc (suc (suc (suc zero)))) x y z h1 h2 h3 h4 h5 h6 h7 h8 h9 = absurd (h4 refl)
-other-kind (suc (suc (suc (suc (suc zero))))) x y z h1 h2 h3 h4 h5 h6 h7 h8 h9 = absurd (h5 refl)
-other-kind (suc (suc (suc (suc (suc (suc zero)))))) x y z h1 h2 h3 h4 h5 h6 h7 h8 h9 = absurd (h6 refl)
-other-kind (suc (suc (suc (suc (suc (suc (suc zero))))))) x y z h1 h2 h3 h4 h5 h6 h7 h8 h9 = absurd (h7 refl)
-other-kind (suc (suc (suc (suc (suc (suc (suc (suc zero)))))))) x y z h1 h2 h3 h4 h5 h6 h7 h8 h9 = absurd (h8 refl)
-other-kind (suc (suc (suc (suc (suc (suc (suc (suc (suc zero))))))))) x y z h1 h2 h3 h4 h5 h6 h7 h8 h9 = absurd (h9 refl)
-other-kind (suc (suc (suc (suc (suc (suc (suc (suc (suc (suc k)))))))))) x y z h1 h2 h3 h4 h5 h6 h7 h8 h9 = refl
+other-kind zero x y z h1 h2 h3 h4 h5 h6 h7 h8 h9 h10 h11 = refl
+other-kind (suc zero) x y z h1 h2 h3 h4 h5 h6 h7 h8 h9 h10 h11 = absurd (h1 refl)
+other-kind (suc (suc zero)) x y z h1 h2 h3 h4 h5 h6 h7 h8 h9 h10 h11 = absurd (h2 refl)
+other-kind (suc (suc (suc zero))) x y z h1 h2 h3 h4 h5 h6 h7 h8 h9 h10 h11 = absurd (h3 refl)
+other-kind (suc (suc (suc (suc zero)))) x y z h1 h2 h3 h4 h5 h6 h7 h8 h9 h10 h11 = absurd (h4 refl)
+other-kind (suc (suc (suc (suc (suc zero))))) x y z h1 h2 h3 h4 h5 h6 h7 h8 h9 h10 h11 = absurd (h5 refl)
+other-kind (suc (suc (suc (suc (suc (suc zero)))))) x y z h1 h2 h3 h4 h5 h6 h7 h8 h9 h10 h11 = absurd (h6 refl)
+other-kind (suc (suc (suc (suc (suc (suc (suc zero))))))) x y z h1 h2 h3 h4 h5 h6 h7 h8 h9 h10 h11 = absurd (h7 refl)
+other-kind (suc (suc (suc (suc (suc (suc (suc (suc zero)))))))) x y z h1 h2 h3 h4 h5 h6 h7 h8 h9 h10 h11 = absurd (h8 refl)
+other-kind (suc (suc (suc (suc (suc (suc (suc (suc (suc zero))))))))) x y z h1 h2 h3 h4 h5 h6 h7 h8 h9 h10 h11 = absurd (h9 refl)
+other-kind (suc (suc (suc (suc (suc (suc (suc (suc (suc (suc zero)))))))))) x y z h1 h2 h3 h4 h5 h6 h7 h8 h9 h10 h11 = absurd (h10 refl)
+other-kind (suc (suc (suc (suc (suc (suc (suc (suc (suc (suc (suc zero))))))))))) x y z h1 h2 h3 h4 h5 h6 h7 h8 h9 h10 h11 = absurd (h11 refl)
+other-kind (suc (suc (suc (suc (suc (suc (suc (suc (suc (suc (suc (suc k)))))))))))) x y z h1 h2 h3 h4 h5 h6 h7 h8 h9 h10 h11 = refl
 
 -- the words of a node, as the code has read them
 pub record Words (s : List ℕ) (a kind x y z : ℕ) : Type 0 where
@@ -101,6 +106,17 @@ module _ {b : List ℕ} {i : ℕ} {rest : Rest} {after : List ℕ} {r : Effect} 
   unfolding kindOf
   at-lock h k came = rw (view-kind w 9 k, frames-room h) came
 
-  pub at-null : (kind ≡ 1 → ⊥) → (kind ≡ 2 → ⊥) → (kind ≡ 3 → ⊥) → (kind ≡ 4 → ⊥) → (kind ≡ 5 → ⊥) → (kind ≡ 6 → ⊥) → (kind ≡ 7 → ⊥) → (kind ≡ 8 → ⊥) → (kind ≡ 9 → ⊥)
+  pub at-constant : kind ≡ 10 → Performs b i rest (moved (c .stores) (returning (int (integer x y)) fs)) after r → Runs s c p fs a env b i rest after r
+  unfolding kindOf
+  at-constant k came = rw (view-kind w 10 k) came
+
+  pub at-add : kind ≡ 11
+      → Performs b i rest (addBound (c .stores) fs (find (scope (c .stores .bindings) env) x) (find (scope (c .stores .bindings) env) y)) after r
+      → Runs s c p fs a env b i rest after r
+  unfolding kindOf
+  at-add k came = rw (view-kind w 11 k) came
+
+  pub at-null : (kind ≡ 1 → ⊥) → (kind ≡ 2 → ⊥) → (kind ≡ 3 → ⊥) → (kind ≡ 4 → ⊥) → (kind ≡ 5 → ⊥) → (kind ≡ 6 → ⊥) → (kind ≡ 7 → ⊥) → (kind ≡ 8 → ⊥)
+      → (kind ≡ 9 → ⊥) → (kind ≡ 10 → ⊥) → (kind ≡ 11 → ⊥)
       → Performs b i rest (moved (c .stores) (returning nil fs)) after r → Runs s c p fs a env b i rest after r
-  at-null h1 h2 h3 h4 h5 h6 h7 h8 h9 came = rw (view-words w ∙ other-kind kind x y z h1 h2 h3 h4 h5 h6 h7 h8 h9) came
+  at-null h1 h2 h3 h4 h5 h6 h7 h8 h9 h10 h11 came = rw (view-words w ∙ other-kind kind x y z h1 h2 h3 h4 h5 h6 h7 h8 h9 h10 h11) came

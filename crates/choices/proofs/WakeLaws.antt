@@ -52,7 +52,9 @@ other-wake s room st v fs e (suc (suc (suc (suc (suc (suc zero)))))) x y z h3 h4
 other-wake s room st v fs e (suc (suc (suc (suc (suc (suc (suc zero))))))) x y z h3 h4 h5 = refl
 other-wake s room st v fs e (suc (suc (suc (suc (suc (suc (suc (suc zero)))))))) x y z h3 h4 h5 = refl
 other-wake s room st v fs e (suc (suc (suc (suc (suc (suc (suc (suc (suc zero))))))))) x y z h3 h4 h5 = refl
-other-wake s room st v fs e (suc (suc (suc (suc (suc (suc (suc (suc (suc (suc k)))))))))) x y z h3 h4 h5 = refl
+other-wake s room st v fs e (suc (suc (suc (suc (suc (suc (suc (suc (suc (suc zero)))))))))) x y z h3 h4 h5 = refl
+other-wake s room st v fs e (suc (suc (suc (suc (suc (suc (suc (suc (suc (suc (suc zero))))))))))) x y z h3 h4 h5 = refl
+other-wake s room st v fs e (suc (suc (suc (suc (suc (suc (suc (suc (suc (suc (suc (suc k)))))))))))) x y z h3 h4 h5 = refl
 
 module _ {b : List ℕ} {i : ℕ} {rest : Rest} {after : List ℕ} {r : Effect} (s : List ℕ) (c : Config) (v : Value) (fs : List Frame) (n env : ℕ) {kind x y z : ℕ} (w : Words s n kind x y z) where
   pub wakes-write : kind ≡ 3 → Performs b i rest (updateTarget (codeOf s) (c .stores) fs y v (find (scope (c .stores .bindings) env) x)) after r

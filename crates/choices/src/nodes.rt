@@ -5,8 +5,10 @@ use machine::Frame;
 use machine::Value;
 use moves::Effect;
 use moves::Member;
+use moves::add_variables;
 use moves::become_join;
 use moves::become_null;
+use moves::become_number;
 use moves::enter_lock;
 use moves::give_value;
 use moves::leave_frame;
@@ -67,10 +69,12 @@ pub fn run_node(s: &[u8], starts: &[u16], block: &mut [u8], i: usize, a: u16, en
         3 => leave_frame(block, i, Frame::Awaits(a, env), z, env),
         4 => leave_frame(block, i, Frame::Awaits(a, env), z, env),
         5 => leave_frame(block, i, Frame::Awaits(a, env), y, env),
-        6 => make_object(block, i, x),
+        6 => make_object(s, starts, block, i, x),
         7 => leave_frame(block, i, Frame::Casts(a), y, env),
         8 => become_join(block, i, env, x, y, z),
         9 => enter_lock(block, i, env, x, y),
+        10 => become_number(block, i, x, y),
+        11 => add_variables(block, i, env, x, y),
         _ => become_null(block, i),
     }
 }

@@ -12,7 +12,7 @@ use borrow.Author.Tests.{ne-eqb}
 use Rattle.limits.specs.Limits.{BLOCK, POSITIONS}
 use Rattle.script.specs.declared.Section.the-variants.{Nodes as nodes}
 use Rattle.script.specs.Section.{countOf, nodeWord}
-use Rattle.script.specs.Syntax.{Point, Node, n-null, n-var, n-select, n-update, n-call, n-bind, n-new, n-cast, n-fork, n-lock}
+use Rattle.script.specs.Syntax.{Point, Node, n-null, n-var, n-select, n-update, n-call, n-bind, n-new, n-cast, n-fork, n-lock, n-constant, n-add}
 use Rattle.script.specs.Reading.{kindOf, nodeOf, viewAt}
 use Rattle.script.proofs.Lists.{lt-or-le}
 use Rattle.script.specs.Statements.{WithinLayout}
@@ -74,6 +74,8 @@ isLock (n-new c) = false
 isLock (n-cast t a) = false
 isLock (n-fork a b c) = false
 isLock (n-lock x a) = true
+isLock (n-constant z) = false
+isLock (n-add x y) = false
 
 no-lock : (k a b c : ℕ) → (k ≡ 9 → ⊥) → isLock (nodeOf (kindOf k) a b c) ≡ false
 unfolding kindOf
@@ -87,7 +89,9 @@ no-lock (suc (suc (suc (suc (suc (suc zero)))))) a b c h = refl
 no-lock (suc (suc (suc (suc (suc (suc (suc zero))))))) a b c h = refl
 no-lock (suc (suc (suc (suc (suc (suc (suc (suc zero)))))))) a b c h = refl
 no-lock (suc (suc (suc (suc (suc (suc (suc (suc (suc zero))))))))) a b c h = absurd (h refl)
-no-lock (suc (suc (suc (suc (suc (suc (suc (suc (suc (suc k)))))))))) a b c h = refl
+no-lock (suc (suc (suc (suc (suc (suc (suc (suc (suc (suc zero)))))))))) a b c h = refl
+no-lock (suc (suc (suc (suc (suc (suc (suc (suc (suc (suc (suc zero))))))))))) a b c h = refl
+no-lock (suc (suc (suc (suc (suc (suc (suc (suc (suc (suc (suc (suc k)))))))))))) a b c h = refl
 
 other-kind : (s : List ℕ) (a k : ℕ) → k ≡ nodeWord s a 0 → (k ≡ 9 → ⊥) → isLock (viewAt s a) ≡ false
 unfolding viewAt

@@ -10,16 +10,17 @@ use Rattle.script.specs.declared.Found.{Found}
 use Rattle.script.specs.declared.Found.the-variants.{At, Nothing}
 use Rattle.script.specs.declared.Section.the-variants.{Nodes as nodes}
 use Rattle.script.specs.Section.{countOf, nodeWord}
-use Rattle.script.specs.Syntax.{Point, Expr, update, cast, Slot, Signature, Program, build}
+use Rattle.script.specs.Syntax.{Point, Expr, update, cast, add, intOf, Slot, Signature, Program, build}
 use Rattle.script.specs.Reading.{kindOf, viewAt, exprAt, programOf}
 use Rattle.script.specs.Statements.{WithinLayout}
+use Rattle.script.proofs.Declarations.{declared-int}
 use Rattle.script.proofs.Reading.{expr-at, in-order}
 use Rattle.script.proofs.Regular.{formed, regular}
 use Rattle.sections.specs.Laid.{foundOf}
 use Rattle.typing.specs.declared.Answer.{Answer}
 use Rattle.typing.specs.declared.Answer.the-variants.{Typed, Faulty}
 use Rattle.typing.specs.Members.{typeIn, fieldIn, methodIn}
-use Rattle.typing.specs.Published.{WfEnv, Infer, BD-INFER-UPDATE, BD-INFER-CAST}
+use Rattle.typing.specs.Published.{WfEnv, Infer, BD-INFER-UPDATE, BD-INFER-CAST, BD-INFER-ADD}
 use Rattle.typing.specs.Typing.{answer, andThen, orFaulty, inferred, checked}
 use Rattle.typing.proofs.Rules.{infer-type, inferred-typed}
 use Rattle.members.specs.declared.Member.{Member}
@@ -53,6 +54,10 @@ write-unit (BD-INFER-UPDATE h c f o) = refl
 cast-own : {p : Program} {Γ : List Slot} {n u t : ℕ} {e : Expr} → Infer p Γ (cast n u e) t → u ≡ t
 cast-own (BD-INFER-CAST h) = refl
 
+-- a sum has type Int
+sum-int : {p : Program} {Γ : List Slot} {n x y t : ℕ} → Infer p Γ (add n x y) t → intOf p ≡ t
+sum-int {p} {t = t} (BD-INFER-ADD f g e) = sym (declared-int p t e)
+
 -- the expression at a node of a kind
 pub expr-is : {s : List ℕ} {a : Point} (w : WithinLayout s) → a < countOf s nodes → (kind : ℕ) → nodeWord s a 0 ≡ kind → exprAt s a ≡ build a (exprAt s) (nodeBy s a kind)
 unfolding viewAt
@@ -72,7 +77,7 @@ module _ {s starts b : List ℕ} {env : ℕ} {a : Point} (k : ScopedNode s start
   judged t e =
       inferred-typed (programOf s) (regular s (k .within)) (context (bindingsIn b) env) (exprAt s a) t (k .types) (formed s (k .within) a (k .there)) e
 
-  pub told-small : (r : Found) → Tells s b env a r → (t : ℕ) → r ≡ At t → t ≤ INTERFACES + CLASSES
+  pub told-small : (r : Found) → Tells s b env a r → (t : ℕ) → r ≡ At t → t ≤ INTERFACES + CLASSES + 1
   told-small r h t e = type-small (k .within) t (infer-type (programOf s) (regular s (k .within)) (judged t (h t e)))
 
   -- a variable and a new object
@@ -110,3 +115,15 @@ module _ {s starts b : List ℕ} {env : ℕ} {a : Point} (k : ScopedNode s start
   pub told-write : nodeWord s a 0 ≡ 3 → Inferable s b env a → Tells s b env a (At 0)
   unfolding kindOf
   told-write e i t f = let z : 0 ≡ t = cc in i .is ∙ ap Typed (sym (write-unit (rw (expr-is (k .within) (k .there) 3 e) at (judged (i .type) (i .is)))) ∙ z)
+
+  -- a constant, and a sum that has a type
+  module _ (z : ℕ) (ez : z ≡ intOf (programOf s)) where
+    pub told-constant : nodeWord s a 0 ≡ 10 → Tells s b env a (At z)
+    unfolding kindOf answer
+    told-constant e t f = let q : z ≡ t = cc in rw (expr-is (k .within) (k .there) 10 e, ← ez, q)
+
+    pub told-sum : nodeWord s a 0 ≡ 11 → Inferable s b env a → Tells s b env a (At z)
+    unfolding kindOf
+    told-sum e i t f =
+        let q : z ≡ t = cc in
+        i .is ∙ ap Typed (sym (sum-int (rw (expr-is (k .within) (k .there) 11 e) at (judged (i .type) (i .is)))) ∙ sym ez ∙ q)

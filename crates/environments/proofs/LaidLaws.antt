@@ -18,10 +18,11 @@ use Rattle.block.specs.Rows.{wordOf}
 use Rattle.block.specs.Layout.{width, counted, wordIn, NAME, TYPE, BOUND, LINK}
 use Rattle.block.specs.Block.{objectWords, bindingWords, frameWords, Parts, laid}
 use Rattle.representation.specs.Changed.{withShut, withField}
-use Rattle.block.specs.Fits.{Few}
+use Rattle.block.specs.Fits.{Few, StorableIn}
 use Rattle.block.proofs.Rows.{row-at}
-use Rattle.block.proofs.Values.{value-back, value-same}
+use Rattle.block.proofs.Values.{value-same, value-back, value-after}
 use Rattle.block.proofs.Words.{laid-bytes, count-is, word-is}
+use Rattle.representation.proofs.Ordered.{at-in}
 use Rattle.environments.specs.Chains.{bindingAt, newest, bindingsIn}
 
 -- numbered things that are those of a list, counted from its end
@@ -66,23 +67,26 @@ module _ {b : List ℕ} (p : Parts) (is : b ≡ bytes (laid p)) where
         rw is (word-is p Objects i j (omega (arith, few Objects, length-map (p .objects) objectWords)) k)
         ∙ ap (λ (r : List ℕ). getD r j 0) (row-at objectWords (p .objects) i d h)
 
-    binding-read : (i : ℕ) (d : Binding) → i < length (p .bindings) → bindingAt b i ≡ getD (p .bindings) i d
-    binding-read i d h =
+    binding-read : StorableIn p Bindings → (i : ℕ) (d : Binding) → i < length (p .bindings) → bindingAt b i ≡ getD (p .bindings) i d
+    binding-read stored i d h =
         let y = getD (p .bindings) i d in
         let n = binding-cell i NAME d h (omega arith) in
         let t = binding-cell i TYPE d h (omega arith) in
-        let v = value-same (wordIn b Bindings i) (wordOf (bindingWords y)) BOUND (λ m k. binding-cell i (BOUND + m) d h (omega arith)) ∙ value-back (y .value) in
-        let l = binding-cell i LINK d h (omega arith) in
+        let v =
+        value-same (wordIn b Bindings i) (wordOf (bindingWords y)) BOUND (λ m k. binding-cell i (BOUND + m) d h (omega arith))
+        ∙ value-back (y .name ∷ y .type ∷ []) (y .value) (y .link ∷ []) (stored y (at-in (p .bindings) i d h))
+        in
+        let l = binding-cell i LINK d h (omega arith) ∙ value-after (y .name ∷ y .type ∷ []) (y .value) (y .link ∷ []) 0 in
         same-binding _ _ _ _ y n t v l
 
     -- the bindings that lie in the block, newest first
-    pub bindings-read : (bs : List Binding) → p .bindings ≡ reverse bs → bindingsIn b ≡ bs
+    pub bindings-read : StorableIn p Bindings → (bs : List Binding) → p .bindings ≡ reverse bs → bindingsIn b ≡ bs
     unfolding bindingsIn
-    bindings-read bs e =
+    bindings-read stored bs e =
         let n : counted b Bindings ≡ length bs = bindings-counted ∙ ap length e ∙ length-reverse bs in
         rw n
         (newest-is (bindingAt b) bs none-bound
-        (λ i h. binding-read i none-bound (omega (arith, n, bindings-counted)) ∙ ap (λ (l : List Binding). getD l i none-bound) e))
+        (λ i h. binding-read stored i none-bound (omega (arith, n, bindings-counted)) ∙ ap (λ (l : List Binding). getD l i none-bound) e))
       where
         none-bound : Binding
         none-bound = record { name = 0; type = 0; value = nil; link = 0 }

@@ -22,7 +22,7 @@ use Rattle.inference.specs.Tables.{boundWord}
 use Rattle.machine.specs.Machine.{scope, slot, context}
 use Rattle.soundness.proofs.Stores.{scope-empty}
 use Rattle.block.specs.declared.Area.the-variants.{Bindings}
-use Rattle.block.specs.Layout.{wordIn}
+use Rattle.block.specs.Layout.{wordIn, NAME, TYPE, LINK}
 use Rattle.environments.specs.Chains.{bindingCount, bindingAt, bindingsIn, Chain, Typed, Filled, orElse, TypeStored}
 use Rattle.environments.proofs.ChainLaws.{chain-link}
 
@@ -82,10 +82,10 @@ module _ {b : List ℕ} {env : ℕ} (ch : Chain b env) where
   pub reached : {e : ℕ} → e ≤ bindingCount b → 0 < e → e - 1 < BINDINGS
   reached w more = omega (arith, w, ch .few)
 
-  pub nearer : {e : ℕ} → e ≤ bindingCount b → 0 < e → (link : ℕ) → link ≡ wordIn b Bindings (e - 1) 3 → link < e
+  pub nearer : {e : ℕ} → e ≤ bindingCount b → 0 < e → (link : ℕ) → link ≡ wordIn b Bindings (e - 1) LINK → link < e
   nearer {e} w more link l = omega (arith, w, ch .links (e - 1) (omega (arith, w)))
 
-  pub typed : {e : ℕ} → Typed b → e ≤ bindingCount b → 0 < e → (t : ℕ) → t ≡ wordIn b Bindings (e - 1) 1 → t + 1 < WORD
+  pub typed : {e : ℕ} → Typed b → e ≤ bindingCount b → 0 < e → (t : ℕ) → t ≡ wordIn b Bindings (e - 1) TYPE → t + 1 < WORD
   typed {e} ty w more t h = rw h (ty (e - 1) (omega (arith, w)))
 
   front : {e : ℕ} → e ≤ bindingCount b → 0 < e
@@ -102,10 +102,10 @@ module _ {b : List ℕ} {env : ℕ} (ch : Chain b env) where
         {before table after : List ℕ} {e : ℕ} (name t link : ℕ)
         → Filling s facts b before table env e
         → 0 < e
-        → name ≡ wordIn b Bindings (e - 1) 0
-        → t ≡ wordIn b Bindings (e - 1) 1
+        → name ≡ wordIn b Bindings (e - 1) NAME
+        → t ≡ wordIn b Bindings (e - 1) TYPE
         → TypeStored s facts table name t after
-        → link ≡ wordIn b Bindings (e - 1) 3
+        → link ≡ wordIn b Bindings (e - 1) LINK
         → Filling s facts b before after env link
     fill-more {table = table} {after = after} {e = e} name t link f more hn ht n hl =
         record {

@@ -3,6 +3,7 @@ use crate::infer_under;
 use crate::scopes::variable_type;
 use inference::answer_of;
 use members::Member;
+use members::int_of;
 use script::Found;
 use sections::node_word;
 use typing::Answer;
@@ -61,6 +62,8 @@ fn known_type(s: &[u8], starts: &[u16], block: &[u8], env: u16, a: u16) -> Found
         4 => call_type(s, starts, block, env, a),
         6 => Found::At(w as usize),
         7 => Found::At(w as usize),
+        10 => Found::At(int_of(s) as usize),
+        11 => Found::At(int_of(s) as usize),
         _ => Found::Nothing,
     }
 }

@@ -17,6 +17,7 @@ use Rattle.script.specs.Syntax.{Point, Expr, Slot, Signature, Program}
 use Rattle.script.specs.Reading.{kindOf, nodeOf, viewAt, exprAt, programOf}
 use Rattle.script.proofs.Reading.{first, in-order}
 use Rattle.script.proofs.Regular.{formed, regular}
+use Rattle.script.proofs.Tests.{yes-said}
 use Rattle.sections.specs.Laid.{foundOf}
 use Rattle.typing.specs.declared.Aim.{Aim}
 use Rattle.typing.specs.declared.Aim.the-variants.{Infers as infers, Checks as checks}
@@ -25,7 +26,8 @@ use Rattle.typing.specs.declared.Answer.the-variants.{Typed, Faulty}
 use Rattle.members.specs.declared.Member.{Member}
 use Rattle.members.specs.declared.Member.the-variants.{Types, Missing}
 use Rattle.typing.specs.Members.{below, typeIn, fieldIn, methodIn}
-use Rattle.typing.specs.Typing.{andThen, fits, answer, inferred}
+use Rattle.typing.specs.Typing.{andThen, fits, nullTest, answer, inferred}
+use Rattle.typing.proofs.Int.{null-fits-exactly}
 use Rattle.typing.proofs.Rules.{infer-type, inferred-typed}
 use Rattle.members.specs.Tables.{memberOf}
 use Rattle.inference.specs.declared.Given.{Given}
@@ -37,7 +39,8 @@ use Rattle.machine.specs.Config.{Code, codeOf}
 use Rattle.machine.specs.Machine.{context}
 use Rattle.machine.specs.declared.Want.{Want}
 use Rattle.machine.specs.declared.Want.the-variants.{Any as any, Upto as upto}
-use Rattle.machine.specs.Decide.{given, ifTyped, only, meetsTest, isTyped, givesTest, wants, awaited}
+use Rattle.machine.specs.Decide.{given, ifTyped, only, meetsTest, nullMeetsTest, isTyped, givesTest, wants, awaited}
+use Rattle.machine.proofs.Types.{null-unit}
 use Rattle.environments.specs.Chains.{bindingsIn}
 use Rattle.environments.specs.Known.{ScopedNode, Inferable}
 use Rattle.environments.proofs.KnownLaws.{found-some, expr-is}
@@ -69,14 +72,18 @@ fits-typed : (q : Bool) (n t : ℕ) → isTyped (fits q n t) ≡ q
 fits-typed true n t = refl
 fits-typed false n t = refl
 
+-- null fits Unit, so the test says
+unit-test : (p : Program) → nullTest p 0 ≡ true
+unit-test p = yes-said (null-fits-exactly p 0) (null-unit p)
+
 given-any : (c : Code) (g : Given) → isTyped (inferredAs g) || isTyped (answerAs (c .program) (checks 0) g) ≡ givenTest c g any
 given-any c (typed-at t n) = refl
-given-any c (null-at n) = refl
+given-any c (null-at n) = fits-typed (nullTest (c .program) 0) n 0 ∙ unit-test (c .program)
 given-any c (faulty-at q n) = refl
 
 given-upto : (c : Code) (g : Given) (t : ℕ) → isTyped (answerAs (c .program) (checks t) g) ≡ givenTest c g (upto t)
 given-upto c (typed-at u n) t = fits-typed (below (c .program) u t) n t
-given-upto c (null-at n) t = refl
+given-upto c (null-at n) t = fits-typed (nullTest (c .program) t) n t
 given-upto c (faulty-at q n) t = refl
 
 pub gives-by : (c : Code) (Γ : List Slot) (e : Expr) (g : Given) → GivenIn (c .program) Γ e g → (v : Want) → givesTest c Γ e v ≡ givenTest c g v
@@ -95,7 +102,7 @@ none-of n h z = ⊎-elim (λ (e : n ≡ 0). omega arith) (λ (e : n ≡ 1). omeg
 
 gives-something : (p : Program) (g : Given) (q : Question) (m : Point) → OneOf (0 ∷ 1 ∷ []) (tagOf the-type g) → ((a : Aim) → answerAs p a g ≡ Faulty q m) → ⊥
 gives-something p (typed-at t n) q m h f = let k = f infers in let z : _≡_ {A = ℕ} 0 1 = cc in omega arith
-gives-something p (null-at n) q m h f = let k = f (checks 0) in let z : _≡_ {A = ℕ} 0 1 = cc in omega arith
+gives-something p (null-at n) q m h f = let k = rw (unit-test p) at (f (checks 0)) in let z : _≡_ {A = ℕ} 0 1 = cc in omega arith
 gives-something p (faulty-at l n) q m h f = none-of _ h refl
 
 module _ {s starts b : List ℕ} {n : Point} {e : ℕ} (a : ScopedNode s starts b e n) where
@@ -215,14 +222,17 @@ pub never-small : GivesSmall Never
 never-small t u f = absurd (let z : _≡_ {A = ℕ} 0 1 = cc in omega arith)
 
 -- what is expected, by whether what is given meets
-pub expected-null : (s : List ℕ) (w : Waits) (v : Want) (t : ℕ) → w ≡ ForNull t → Wants (upto t) ≡ expectsOf (wantsOf (codeOf s) v w)
-expected-null s w v t f = rw f
+pub for-type : (s : List ℕ) (w : Waits) (v : Want) (t u : ℕ) → w ≡ For t u → wantsOf (codeOf s) v w ≡ only (meetsTest (codeOf s) u v) (some (upto t))
+for-type s w v t u f = rw f
 
-module _ (s : List ℕ) (w : Waits) (v : Want) (t u : ℕ) (f : w ≡ For t u) (m : Bool) (e : m ≡ meetsTest (codeOf s) u v) where
-  pub expected-not : m ≡ false → No ≡ expectsOf (wantsOf (codeOf s) v w)
+pub for-null : (s : List ℕ) (w : Waits) (v : Want) (t : ℕ) → w ≡ ForNull t → wantsOf (codeOf s) v w ≡ only (nullMeetsTest (codeOf s) v) (some (upto t))
+for-null s w v t f = rw f
+
+module _ {o : Option Want} (t : ℕ) {m : Bool} (q : Bool) (f : o ≡ only q (some (upto t))) (e : m ≡ q) where
+  pub expected-not : m ≡ false → No ≡ expectsOf o
   expected-not h = rw (f, ← e, h)
 
-  pub expected-so : m ≡ true → Wants (upto t) ≡ expectsOf (wantsOf (codeOf s) v w)
+  pub expected-so : m ≡ true → Wants (upto t) ≡ expectsOf o
   expected-so h = rw (f, ← e, h)
 
 -- any other node waits for nothing
@@ -238,7 +248,9 @@ other s Γ v (suc (suc (suc (suc (suc (suc zero)))))) a b c h i j = refl
 other s Γ v (suc (suc (suc (suc (suc (suc (suc zero))))))) a b c h i j = refl
 other s Γ v (suc (suc (suc (suc (suc (suc (suc (suc zero)))))))) a b c h i j = refl
 other s Γ v (suc (suc (suc (suc (suc (suc (suc (suc (suc zero))))))))) a b c h i j = refl
-other s Γ v (suc (suc (suc (suc (suc (suc (suc (suc (suc (suc k)))))))))) a b c h i j = refl
+other s Γ v (suc (suc (suc (suc (suc (suc (suc (suc (suc (suc zero)))))))))) a b c h i j = refl
+other s Γ v (suc (suc (suc (suc (suc (suc (suc (suc (suc (suc (suc zero))))))))))) a b c h i j = refl
+other s Γ v (suc (suc (suc (suc (suc (suc (suc (suc (suc (suc (suc (suc k)))))))))))) a b c h i j = refl
 
 pub waits-never : (s b : List ℕ) (n : Point) (e k : ℕ) → k ≡ nodeWord s n 0 → (k ≡ 3 → ⊥) → (k ≡ 4 → ⊥) → (k ≡ 5 → ⊥) → WaitsAs s b n e Never
 waits-never s b n e k ek h i j v =

@@ -1,7 +1,7 @@
 -- A position of the block: its record, its frames, and what is asked of it, as the code goes.
 use mathlib.Core.Path.{_≡_, refl, sym, ap, _∙_}
 use mathlib.Core.Bool.{Bool, true, false}
-use mathlib.Core.List.{List, reverse, reverse-reverse}
+use mathlib.Core.List.{List, [], _∷_, reverse, reverse-reverse}
 use mathlib.Core.Option.{none, some}
 use Prim.Native.Nat.{ℕ, _+_, _<_, _≤_}
 use native.Mathlib.Omega.{arith}
@@ -18,28 +18,23 @@ use Rattle.machine.specs.Machine.{fieldCount}
 use Rattle.machine.specs.Decide.{valueFitsTest, expects}
 use Rattle.block.specs.declared.Area.the-variants.{Positions, Frames}
 use Rattle.block.specs.Rows.{wordOf}
-use Rattle.block.specs.Values.{valueIn}
-use Rattle.block.specs.Layout.{width, counted, wordIn, RESULT}
-use Rattle.block.specs.Block.{preorder, waiting, positionWords, partsOf}
+use Rattle.block.specs.Values.{valueIn, Storable}
+use Rattle.block.specs.Layout.{width, counted, wordIn, RESULT, WAITING, RETURNING}
+use Rattle.block.specs.Block.{preorder, waiting, returned, positionWords, partsOf}
 use Rattle.representation.specs.Changed.{frameStart}
 use Rattle.block.proofs.Rows.{row-at}
 use Rattle.block.proofs.Words.{count-is, word-is}
 use Rattle.block.proofs.Values.{value-back, value-same}
 use Rattle.representation.proofs.Places.{frame-at}
 use Rattle.representation.proofs.InOrder.{sum-same}
+use Rattle.representation.proofs.Ordered.{frame-number, at-in}
 use Rattle.environments.specs.Chains.{bindingsIn}
 use Rattle.frames.specs.declared.awaited.Expects.{Expects}
 use Rattle.frames.specs.declared.awaited.Expects.the-variants.{No, Wants}
 use Rattle.frames.specs.Expecting.{expectsOf, configOf, Ready, framesIn, framesFrom, framesBefore, placeAt, nodeTest, positionTest}
-use Rattle.frames.proofs.ReadyLaws.{in-block, frames-many}
+use Rattle.frames.proofs.ReadyLaws.{in-block, storable, frames-many}
 use Rattle.frames.proofs.FrameLaws.{is-none, is-some}
 use Rattle.values.proofs.ReadLaws.{bindings-read}
-
-frame-number : (t : Tree) → getD (positionWords t) 4 0 ≡ length (waiting t)
-frame-number (running p e fs) = refl
-frame-number (returning v fs) = refl
-frame-number failed = refl
-frame-number (join fs p e l r) = refl
 
 module _ {s starts facts table b : List ℕ} (y : Ready s starts facts table b) where
   pub places-many : counted b Positions ≡ length (preorder (configOf s b .tree))
@@ -57,16 +52,19 @@ module _ {s starts facts table b : List ℕ} (y : Ready s starts facts table b) 
       ∙ word-is (partsOf (configOf s b)) Positions i j (place-there i h) hj
       ∙ ap (λ (r : List ℕ). getD r j 0) (row-at positionWords (preorder (configOf s b .tree)) i failed (omega (arith, places-many)))
 
-  place-frames : (i : ℕ) → i < counted b Positions → wordIn b Positions i 4 ≡ length (waiting (placeAt s b i))
-  place-frames i h = place-word i 4 h (omega arith) ∙ frame-number (placeAt s b i)
+  place-storable : (i : ℕ) → i < counted b Positions → Storable (returned (placeAt s b i))
+  place-storable i h = storable y Positions (placeAt s b i) (at-in (preorder (configOf s b .tree)) i failed (omega (arith, places-many)))
 
-  module _ (i : ℕ) (h : i < counted b Positions) (from n : ℕ) (begins : from ≡ framesBefore b i) (many : n ≡ wordIn b Positions i 4) where
+  place-frames : (i : ℕ) → i < counted b Positions → wordIn b Positions i WAITING ≡ length (waiting (placeAt s b i))
+  place-frames i h = place-word i WAITING h (omega arith) ∙ frame-number (placeAt s b i)
+
+  module _ (i : ℕ) (h : i < counted b Positions) (from n : ℕ) (begins : from ≡ framesBefore b i) (many : n ≡ wordIn b Positions i WAITING) where
     -- its frames lie within the frames, after those of the positions before it
     pub frames-within : from + n ≤ counted b Frames
-    frames-within = omega (arith, begins, many, sum-more (λ k. wordIn b Positions k 4) i (counted b Positions) h, y .in-order .all-frames)
+    frames-within = omega (arith, begins, many, sum-more (λ k. wordIn b Positions k WAITING) i (counted b Positions) h, y .in-order .all-frames)
 
     frames-start : from ≡ frameStart (configOf s b .tree) i
-    frames-start = begins ∙ sum-same (λ k. wordIn b Positions k 4) (λ k. length (waiting (placeAt s b k))) i (λ k l. place-frames k (omega arith))
+    frames-start = begins ∙ sum-same (λ k. wordIn b Positions k WAITING) (λ k. length (waiting (placeAt s b k))) i (λ k l. place-frames k (omega arith))
 
     pub frames-own : framesFrom s b from n ≡ waiting (placeAt s b i)
     frames-own =
@@ -98,12 +96,12 @@ module _ (s : Code) (st : Stores) (v : Want) where
   frames-misfit failed k f = absurd (k refl)
   frames-misfit (join fs a e l r) k f = rw f
 
-  value-fits : (q : Tree) (u : Want) → getD (positionWords q) 0 0 ≡ 2 → expects s (st .bindings) v (waiting q) ≡ some u
+  value-fits : (q : Tree) (u : Want) → Storable (returned q) → getD (positionWords q) 0 0 ≡ 2 → expects s (st .bindings) v (waiting q) ≡ some u
       → valueFitsTest s (st .objects) (valueIn (wordOf (positionWords q)) RESULT) u ≡ positionTest s st v q
-  value-fits (running a e fs) u k f = absurd (omega arith)
-  value-fits (returning x fs) u k f = rw (f, value-back x)
-  value-fits failed u k f = absurd (omega arith)
-  value-fits (join fs a e l r) u k f = absurd (omega arith)
+  value-fits (running a e fs) u g k f = absurd (omega arith)
+  value-fits (returning x fs) u g k f = rw (f, value-back (RETURNING ∷ 0 ∷ 0 ∷ []) x (length fs ∷ []) g)
+  value-fits failed u g k f = absurd (omega arith)
+  value-fits (join fs a e l r) u g k f = absurd (omega arith)
 
   node-fits : (q : Tree) (u : Want) → (getD (positionWords q) 0 0 ≡ 3 → ⊥) → (getD (positionWords q) 0 0 ≡ 2 → ⊥) → expects s (st .bindings) v (waiting q) ≡ some u
       → nodeTest s (st .bindings) (getD (positionWords q) 1 0) (getD (positionWords q) 2 0) u ≡ positionTest s st v q
@@ -123,7 +121,7 @@ module _ {s starts facts table b : List ℕ} (y : Ready s starts facts table b) 
   pub place-failed : kind ≡ 3 → Tests true
   place-failed k = failed-fits (codeOf s) (configOf s b .stores) v (placeAt s b i) (sym kind-is ∙ k)
 
-  module _ (k : kind ≡ 3 → ⊥) (from n : ℕ) (begins : from ≡ framesBefore b i) (many : n ≡ wordIn b Positions i 4) (r : Expects)
+  module _ (k : kind ≡ 3 → ⊥) (from n : ℕ) (begins : from ≡ framesBefore b i) (many : n ≡ wordIn b Positions i WAITING) (r : Expects)
       (er : r ≡ expectsOf (expects (codeOf s) (bindingsIn b) v (framesFrom s b from n))) where
     answer : r ≡ expectsOf (expects (codeOf s) (configOf s b .stores .bindings) v (waiting (placeAt s b i)))
     answer = rw (bindings-read (fieldCount s) b, ← frames-own y i h from n begins many) er
@@ -142,7 +140,7 @@ module _ {s starts facts table b : List ℕ} (y : Ready s starts facts table b) 
           em
           ∙ ap (λ (v : Value). valueFitsTest (codeOf s) (configOf s b .stores .objects) v u)
           (ex ∙ value-same (wordIn b Positions i) (wordOf (positionWords (placeAt s b i))) RESULT (λ n k. place-word y i (RESULT + n) h (omega arith)))
-          ∙ value-fits (codeOf s) (configOf s b .stores) v (placeAt s b i) u (sym kind-is ∙ j) wanted
+          ∙ value-fits (codeOf s) (configOf s b .stores) v (placeAt s b i) u (place-storable y i h) (sym kind-is ∙ j) wanted
 
       pub place-node : (kind ≡ 2 → ⊥) → (a e : ℕ) (m : Bool) → a ≡ wordIn b Positions i 1 → e ≡ wordIn b Positions i 2 → m ≡ nodeTest (codeOf s) (bindingsIn b) a e u → Tests m
       place-node j a e m ea ee em =

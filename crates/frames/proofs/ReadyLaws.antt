@@ -23,6 +23,7 @@ use Rattle.machine.specs.Machine.{fieldCount, scope, slot, context}
 use Rattle.block.specs.declared.Area.the-variants.{Bindings, Frames}
 use Rattle.block.specs.Layout.{counted}
 use Rattle.block.specs.Block.{partsOf, encode}
+use Rattle.block.specs.Fits.{AllStorable, Fits}
 use Rattle.block.proofs.Decode.{encode-decode}
 use Rattle.representation.proofs.InOrder.{in-order-decodes}
 use Rattle.areas.proofs.Laws.{frames-counted}
@@ -73,8 +74,14 @@ module _ {s starts facts table b : List ℕ} (y : Ready s starts facts table b) 
   still-ready e = rw e y
 
   -- the configuration in the block, and its frames
+  held : (encode (configOf s b) ≡ b) × Fits (fieldCount s) (configOf s b)
+  held = encode-decode (fieldCount s) b (configOf s b) (in-order-decodes (fieldCount s) b (y .in-order))
+
   pub in-block : b ≡ encode (configOf s b)
-  in-block = sym (encode-decode (fieldCount s) b (configOf s b) (in-order-decodes (fieldCount s) b (y .in-order)) .0)
+  in-block = sym (held .0)
+
+  pub storable : AllStorable (partsOf (configOf s b))
+  storable = held .1 .values
 
   pub frames-many : counted b Frames ≡ length (framesIn s b)
   frames-many = frames-counted b (partsOf (configOf s b)) in-block

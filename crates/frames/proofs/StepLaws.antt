@@ -58,7 +58,9 @@ no-cast (suc (suc (suc (suc (suc (suc zero)))))) a b c h = refl
 no-cast (suc (suc (suc (suc (suc (suc (suc zero))))))) a b c h = absurd (h refl)
 no-cast (suc (suc (suc (suc (suc (suc (suc (suc zero)))))))) a b c h = refl
 no-cast (suc (suc (suc (suc (suc (suc (suc (suc (suc zero))))))))) a b c h = refl
-no-cast (suc (suc (suc (suc (suc (suc (suc (suc (suc (suc k)))))))))) a b c h = refl
+no-cast (suc (suc (suc (suc (suc (suc (suc (suc (suc (suc zero)))))))))) a b c h = refl
+no-cast (suc (suc (suc (suc (suc (suc (suc (suc (suc (suc (suc zero))))))))))) a b c h = refl
+no-cast (suc (suc (suc (suc (suc (suc (suc (suc (suc (suc (suc (suc k)))))))))))) a b c h = refl
 
 module _ (s : List ℕ) (n : Point) where
   pub casts-outside : countOf s nodes ≤ n → CastsAs s n Never

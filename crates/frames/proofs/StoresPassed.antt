@@ -2,13 +2,14 @@
 use mathlib.Core.Path.{_≡_, refl, sym, ap, _∙_}
 use mathlib.Core.Bool.{Bool, true, false, _&&_}
 use mathlib.Core.List.{List}
-use Prim.Native.Nat.{ℕ, zero, suc, _+_, _<_, _≤_}
+use Prim.Native.Nat.{ℕ, zero, suc, _<_, _≤_}
 use native.Mathlib.Omega.{arith}
 use native.Mathlib.Decide.{ℕ-discrete}
 use borrow.Author.Tests.{leb-true}
 use lib.Dec.{leb, ltb}
 use lib.ListN.{length}
 use Rattle.script.specs.Questions.{allOf}
+use Rattle.script.specs.Syntax.{intOf}
 use Rattle.script.specs.Regular.{IsType}
 use Rattle.script.specs.Reading.{programOf}
 use Rattle.script.proofs.Tests.{true-false}
@@ -18,7 +19,7 @@ use Rattle.typing.specs.Members.{fieldsOf}
 use Rattle.machine.specs.Machine.{fieldCount}
 use Rattle.machine.specs.Decide.{valueFitsTest, isClassTest, fieldsTest, bindingTest, bindingsTest, storesTest}
 use Rattle.block.specs.declared.Area.the-variants.{Bindings}
-use Rattle.block.specs.Layout.{wordIn}
+use Rattle.block.specs.Layout.{wordIn, TYPE, LINK}
 use Rattle.environments.specs.Chains.{bindingCount, bindingAt, newest, bindingsIn}
 use Rattle.environments.proofs.ChainLaws.{length-newest}
 use Rattle.frames.specs.Expecting.{configOf}
@@ -31,7 +32,7 @@ both false b e = absurd (true-false (sym e))
 -- one binding that passes, and binding i of bindings that all pass
 binding-passed : (s : Code) (xs : List Object) (older : ℕ) (x : Binding) → bindingTest s xs older x ≡ true → (x .link ≤ older) × IsType (s .program) (x .type)
 binding-passed s xs older x h =
-    let types : ℕ = length (s .program .interfaces) + length (s .program .classes) in
+    let types : ℕ = intOf (s .program) in
     let value : Bool = valueFitsTest s xs (x .value) (upto (x .type)) in
     let named = both (ltb (x .name) 65536) (leb (x .type) types && (leb (x .link) older && value)) h in
     let typed = both (leb (x .type) types) (leb (x .link) older && value) (named .1) in
@@ -47,7 +48,7 @@ each-passed s xs f (suc n) h i l =
     ]
 
 pub stores-passed : (s b : List ℕ) → storesTest (codeOf s) (configOf s b .stores) ≡ true
-    → (i : ℕ) → i < bindingCount b → (wordIn b Bindings i 3 ≤ i) × IsType (programOf s) (wordIn b Bindings i 1)
+    → (i : ℕ) → i < bindingCount b → (wordIn b Bindings i LINK ≤ i) × IsType (programOf s) (wordIn b Bindings i TYPE)
 unfolding bindingsIn
 stores-passed s b h =
     let st = configOf s b .stores in

@@ -17,7 +17,7 @@ use Rattle.machine.specs.Config.{Code, codeOf, Stores, Tree, running, returning
 use Rattle.machine.specs.Machine.{context}
 use Rattle.machine.specs.Decide.{wantTest, atTest, expects, treeTest}
 use Rattle.block.specs.declared.Area.the-variants.{Positions, Frames}
-use Rattle.block.specs.Layout.{counted, wordIn}
+use Rattle.block.specs.Layout.{counted, wordIn, WAITING}
 use Rattle.block.specs.Block.{preorder}
 use Rattle.frames.specs.Expecting.{configOf, Ready, framesBefore, placeAt, positionTest, wantAt}
 use Rattle.frames.proofs.PositionLaws.{places-many, frames-within}
@@ -93,7 +93,7 @@ unfolding sumBelow
 pass-begun s b table w = record { within = omega arith; same = refl; begins = refl; expected = refl; each = λ k h. absurd (omega arith) }
 
 module _ {s starts facts before table b : List ℕ} (y : Ready s starts facts before b) {w want : Want} {from i : ℕ} (x : Passed s b before table w from i want) where
-  pub pass-room : i < counted b Positions → (n : ℕ) → n ≡ wordIn b Positions i 4 → from + n ≤ FRAMES
+  pub pass-room : i < counted b Positions → (n : ℕ) → n ≡ wordIn b Positions i WAITING → from + n ≤ FRAMES
   pass-room h n en = omega (arith, frames-within y i h from n (x .begins) en, y .in-order .areas Frames .few)
 
   module _ (h : i < counted b Positions) (m : Bool) (em : m ≡ positionTest (codeOf s) (configOf s b .stores) want (placeAt s b i)) where
@@ -107,7 +107,7 @@ module _ {s starts facts before table b : List ℕ} (y : Ready s starts facts be
         tree-misfit (codeOf s) (configOf s b .stores) w t i (omega (arith, ap length e, places-many y))
         (ap (λ (l : List Tree). positionTest (codeOf s) (configOf s b .stores) (wantAt w i) (getD l i failed)) (sym e) ∙ sym here ∙ f)
 
-    pub pass-more : {after : List ℕ} → after ≡ table → (n : ℕ) → n ≡ wordIn b Positions i 4 → m ≡ true → Passed s b before after w (from + n) (i + 1) any
+    pub pass-more : {after : List ℕ} → after ≡ table → (n : ℕ) → n ≡ wordIn b Positions i WAITING → m ≡ true → Passed s b before after w (from + n) (i + 1) any
     unfolding sumBelow
     pass-more e n en f =
         let one : i + 1 ≡ suc i = omega arith in

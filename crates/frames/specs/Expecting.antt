@@ -23,7 +23,7 @@ use Rattle.machine.specs.declared.Want.{Want}
 use Rattle.machine.specs.declared.Want.the-variants.{Any as any, Upto as upto}
 use Rattle.machine.specs.Config.{Code, codeOf, Binding, Stores, Tree, running, returning, failed, join, Config}
 use Rattle.machine.specs.Machine.{fieldCount, context}
-use Rattle.machine.specs.Decide.{given, only, meetsTest, valueFitsTest, atTest, wants, awaited, castType, expects, wantTest}
+use Rattle.machine.specs.Decide.{given, only, meetsTest, nullMeetsTest, valueFitsTest, atTest, wants, awaited, castType, expects, wantTest}
 use Rattle.block.specs.declared.Area.the-variants.{Bindings, Positions}
 use Rattle.block.specs.Layout.{wordIn, TYPE, LINK, WAITING}
 use Rattle.block.specs.Block.{preorder, framesOf}
@@ -44,12 +44,12 @@ expectsOf (some w) = Wants w
 abbrev pub wantsOf : Code → Want → Waits → Option Want
 wantsOf s v Never = none
 wantsOf s v (For t u) = wants s u v t
-wantsOf s v (ForNull t) = some (upto t)
+wantsOf s v (ForNull t) = only (nullMeetsTest s v) (some (upto t))
 
--- Does what a node gives meet what is expected? A null always does.
+-- Does what a node gives meet what is expected? A null meets all but Int.
 abbrev pub givenTest : Code → Given → Want → Bool
 givenTest s (typed-at t n) v = meetsTest s t v
-givenTest s (null-at n) v = true
+givenTest s (null-at n) v = nullMeetsTest s v
 givenTest s (faulty-at q n) v = false
 
 -- What a let waits for whose first part has type t, by what the whole let gives.
@@ -60,7 +60,7 @@ waitsBy t (faulty-at q n) = Never
 
 -- A type that is given is one of the few.
 abbrev pub GivesSmall : Waits → Type 0
-GivesSmall r = (t u : ℕ) → r ≡ For t u → u ≤ INTERFACES + CLASSES
+GivesSmall r = (t u : ℕ) → r ≡ For t u → u ≤ INTERFACES + CLASSES + 1
 
 -- What node n waits for in the environment e of the block b, whatever is expected beneath its frame.
 abbrev pub WaitsAs : List ℕ → List ℕ → Point → ℕ → Waits → Type 0

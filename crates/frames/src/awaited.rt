@@ -6,6 +6,7 @@ use script::Found;
 use sections::node_word;
 use typing::Answer;
 use values::meets;
+use values::null_meets;
 ghost use mathlib.Core.Path.{_≡_};
 ghost use Rattle.script.specs.Section.{nodeWord};
 ghost use Rattle.script.specs.Statements.{WithinLayout};
@@ -40,18 +41,23 @@ pub fn expected(s: &[u8], starts: &[u16], w: Waits, want: Want) -> Expects
             }
             Expects::Wants(Want::Upto(t))
         }
-        Waits::ForNull(t) => Expects::Wants(Want::Upto(t)),
+        Waits::ForNull(t) => {
+            if !null_meets(s, want) {
+                return Expects::No;
+            }
+            Expects::Wants(Want::Upto(t))
+        }
     }
 }
 
-// Does what a node gives meet `want`? A null always does.
+// Does what a node gives meet `want`? A null meets all but Int.
 pub fn given_meets(s: &[u8], starts: &[u16], g: Given, want: Want) -> bool
     requires { ⌜ WithinLayout (now s) × Starts (now s) (now starts) ⌝ }
     ensures { λ r. ⌜ r ≡ givenTest (codeOf (now (s .entry))) g want ⌝ }
 {
     match g {
         Given::Typed(t, _) => meets(s, starts, t, want),
-        Given::Null(_) => true,
+        Given::Null(_) => null_meets(s, want),
         Given::Faulty(_, _) => false,
     }
 }

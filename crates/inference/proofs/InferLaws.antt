@@ -1,26 +1,26 @@
 -- How the walk answers at a node, as the code goes: one law for each answer, with what was read and answered on the way.
 use mathlib.Core.Path.{_≡_, refl, sym, ap, _∙_}
-use mathlib.Core.Bool.{Bool, true, false}
+use mathlib.Core.Bool.{Bool, true, false, _&&_}
 use mathlib.Core.List.{List, [], _∷_}
 use mathlib.Core.Logic.{⊎-elim}
 use mathlib.Core.Option.{Option, none, some}
-use Prim.Native.Nat.{ℕ, zero, suc, _+_, _-_, _<_, _≤_}
+use Prim.Native.Nat.{ℕ, zero, suc, _+_, _*_, _-_, _<_, _≤_}
 use native.Mathlib.Omega.{arith}
 use lib.Dec.{eqb}
 use lib.ListN.{length, getD, set, length-set}
 use lib.Seq.{getD-set-same, getD-set-other, set-getD, set-set}
-use borrow.Author.Tests.{eqb-true, eqb-false}
+use borrow.Author.Tests.{eqb-true, eqb-false, eq-eqb, ne-eqb}
 use types.Run.{OneOf}
 use denote.Enum.Declared.{tagOf}
 use Rattle.limits.specs.Limits.{INTERFACES, CLASSES}
 use Rattle.script.specs.declared.Question.{Question}
-use Rattle.script.specs.declared.Question.the-variants.{Variables, Members, Sharing}
+use Rattle.script.specs.declared.Question.the-variants.{Variables, Members, Fits, Sharing}
 use Rattle.script.specs.declared.Found.{Found}
 use Rattle.script.specs.declared.Found.the-variants.{At as Is, Nothing}
 use Rattle.script.specs.declared.Section.the-variants.{Interfaces as interfaces, Classes as classes, Nodes as nodes}
 use Rattle.script.specs.Lists.{_∈_, named}
 use Rattle.script.specs.Section.{countOf, nodeWord}
-use Rattle.script.specs.Syntax.{Point, Expr, null, var, select, update, call, lock, pointOf, isNull, Node, n-null, parts, build, Slot, Signature, Program}
+use Rattle.script.specs.Syntax.{Point, Expr, null, var, select, update, call, lock, add, pointOf, isNull, Node, n-null, parts, build, Slot, Signature, Program, intOf}
 use Rattle.script.specs.Reading.{kindOf, nodeOf, viewAt, exprAt, programOf}
 use Rattle.script.specs.Statements.{Part, WithinLayout}
 use Rattle.sections.specs.Laid.{foundOf}
@@ -35,14 +35,16 @@ use Rattle.typing.specs.declared.Answer.the-variants.{Typed, Faulty}
 use Rattle.members.specs.declared.Member.{Member}
 use Rattle.members.specs.declared.Member.the-variants.{Types, Missing}
 use Rattle.typing.specs.Members.{typeIn, fieldIn, methodIn}
-use Rattle.typing.specs.Typing.{fv, shares, andThen, orFaulty, unlessShared, aimed, answer, inferred, checked}
+use Rattle.typing.specs.Environments.{of-lock}
+use Rattle.typing.specs.Typing.{fv, shares, andThen, orFaulty, unlessShared, fits, intTest, useNo, unlessNo, aimed, answer, inferred, checked}
 use Rattle.typing.specs.Refusals.{lastOf}
-use Rattle.names.specs.Ranks.{RANKS, nameIn, Names, RankOf, of-node, Ranked}
+use Rattle.names.specs.Ranks.{slotOf, RANKS, nameIn, Names, RankOf, of-node, Ranked}
 use Rattle.slices.specs.Bits.{flagOf}
 use Rattle.names.specs.Facts.{Facts}
+use Rattle.names.proofs.SearchLaws.{rank-first}
 use Rattle.members.specs.Tables.{memberOf}
 use Rattle.inference.specs.Tables.{boundWord, EnvIs}
-use Rattle.inference.specs.At.{Target, At, Inferred, Checked}
+use Rattle.inference.specs.At.{Target, At, Inferred, Checked, lockedType, Lockable}
 use Rattle.inference.specs.declared.Given.{Given}
 use Rattle.inference.proofs.Given.{the-type}
 use Rattle.inference.specs.declared.Given.the-variants.{Typed as typed-at, Null as null-at, Faulty as faulty-at}
@@ -77,9 +79,33 @@ module _ (p : Program) (Γ : List Slot) (n x : ℕ) where
   unfolding answer
   call-is m e = found-then Variables n (typeIn Γ x) _
 
-  lock-is : (e : Expr) (a : Aim) → answer p Γ (lock n x e) a ≡ andThen (inferred p Γ (var n x)) (λ t. answer p Γ e a)
+  target-is : lockedType p Γ n x ≡ andThen (inferred p Γ (var n x)) (λ t. unlessNo (useNo p n (of-lock t)) n (Typed t))
   unfolding answer
-  lock-is e a = found-then Variables n (typeIn Γ x) _
+  target-is = found-then Variables n (typeIn Γ x) _
+
+  lock-is : (e : Expr) (a : Aim) → answer p Γ (lock n x e) a ≡ andThen (lockedType p Γ n x) (λ t. answer p Γ e a)
+  unfolding answer
+  lock-is e a = go (typeIn Γ x) (answer p Γ e a)
+    where
+      used : (u : Option Question) (t : ℕ) (r : Answer) → unlessNo u n r ≡ andThen (unlessNo u n (Typed t)) (λ v. r)
+      used none t r = refl
+      used (some q) t r = refl
+
+      go : (o : Option ℕ) (r : Answer)
+          → orFaulty Variables n o (λ t. unlessNo (useNo p n (of-lock t)) n r) ≡ andThen (orFaulty Variables n o (λ t. unlessNo (useNo p n (of-lock t)) n (Typed t))) (λ v. r)
+      go none r = refl
+      go (some t) r = used (useNo p n (of-lock t)) t r
+
+  add-is : (y : ℕ)
+      → inferred p Γ (add n x y) ≡ andThen (inferred p Γ (var n x)) (λ t. andThen (inferred p Γ (var n y)) (λ u. fits (intTest p t && intTest p u) n (intOf p)))
+  unfolding answer
+  add-is y = go (typeIn Γ x) (typeIn Γ y) _
+    where
+      go : (o r : Option ℕ) (k : ℕ → ℕ → Answer)
+          → orFaulty Variables n o (λ t. orFaulty Variables n r (k t)) ≡ andThen (orFaulty Variables n o (λ t. Typed t)) (λ t. andThen (orFaulty Variables n r (λ u. Typed u)) (k t))
+      go none r k = refl
+      go (some t) none k = refl
+      go (some t) (some u) k = refl
 
 -- The table of an environment: a variable's word, and one more variable.
 module _ {s facts env : List ℕ} {Γ : List Slot} (g : EnvIs s facts env Γ) where
@@ -122,15 +148,15 @@ word-still x v {env₁ = env₁} e₁ h e₂ = rw (e₂, length-set env₁ x v, 
 pub word-back : (x v : ℕ) {env env₁ env₂ : List ℕ} → env₁ ≡ env → env₂ ≡ set env₁ x v → set env₂ x (getD env₁ x 0) ≡ env
 word-back x v {env₁ = env₁} e₁ e₂ = rw (e₂, set-set env₁ x v (getD env₁ x 0), set-getD env₁ x 0) e₁
 
--- A node has a word in the table of facts, and the variable that it names one in the table of an environment.
+-- A node has its slots in the table of facts, and the variable that it names a word in the table of an environment.
 module _ {s facts : List ℕ} (f : Facts s facts) where
-  pub fact-there : {n : Point} → WithinLayout s → n < countOf s nodes → n < length facts
+  pub fact-there : {n : Point} → WithinLayout s → n < countOf s nodes → 2 * n + 1 < length facts
   fact-there w h = omega (arith, f .ranked .size, h, w .counts-are .within nodes)
 
   pub rank-small : {x k : ℕ} → RankOf s facts x k → k < RANKS
   rank-small r = omega (arith, f .ranked .below r, f .ranked .few)
 
-pub target-there : {s facts env : List ℕ} {n : Point} → Target s facts env n → getD facts n 0 < length env
+pub target-there : {s facts env : List ℕ} {n : Point} {j : ℕ} → Target s facts env n j → getD facts (slotOf n j) 0 < length env
 target-there a = rw (a .size) (rank-small (a .known) (of-node (a .named)))
 
 -- The node n, read as one of kind k.
@@ -139,14 +165,14 @@ nodeBy s n k = nodeOf (kindOf k) (nodeWord s n 1) (nodeWord s n 2) (nodeWord s n
 
 module _ {s : List ℕ} (w : WithinLayout s) where
   -- Type numbers are far below the largest word.
-  pub type-small : (t : ℕ) → IsType (programOf s) t → t ≤ INTERFACES + CLASSES
+  pub type-small : (t : ℕ) → IsType (programOf s) t → t ≤ INTERFACES + CLASSES + 1
   type-small t h = omega (arith, rw (length-interfaces s, length-classes s) at h, w .counts-are .within interfaces, w .counts-are .within classes)
 
   -- The type of a field is a type.
-  pub field-small : (t f u : ℕ) (r : Found) → r ≡ foundOf (fieldIn (programOf s) t f) → r ≡ Is u → u ≤ INTERFACES + CLASSES
+  pub field-small : (t f u : ℕ) (r : Found) → r ≡ foundOf (fieldIn (programOf s) t f) → r ≡ Is u → u ≤ INTERFACES + CLASSES + 1
   field-small t f u r e k = go (fieldIn (programOf s) t f) refl (sym e ∙ k)
     where
-      go : (o : Option ℕ) → fieldIn (programOf s) t f ≡ o → foundOf o ≡ Is u → u ≤ INTERFACES + CLASSES
+      go : (o : Option ℕ) → fieldIn (programOf s) t f ≡ o → foundOf o ≡ Is u → u ≤ INTERFACES + CLASSES + 1
       go none q z = absurd (let y : _≡_ {A = ℕ} 0 1 = cc in omega arith)
       go (some v) q z = let y : v ≡ u = cc in type-small u (field-type (programOf s) (regular s w) (field-in (programOf s) (regular s w) t f u .0 (q ∙ ap some y)))
 
@@ -203,20 +229,65 @@ module _ (s facts env : List ℕ) (n : Point) (x f : ℕ) (v : Answer) (ev : Inf
   pub select-found : (t f′ u : ℕ) (r : Found) → v ≡ Typed t → f′ ≡ f → r ≡ foundOf (fieldIn (programOf s) t f′) → r ≡ Is u → Inferred s facts env (select n x f) (Typed u)
   select-found t f′ u r k ef e m Γ g = rw (select-is (programOf s) Γ n x f, ← ev Γ g, k, ← ef, found-at n (fieldIn (programOf s) t f′) r u _ e m)
 
--- kinds 1 to 9 are not null, and every other one is read as null
-only-null : (k a b c : ℕ) → (k ≡ 1 → ⊥) → (k ≡ 2 → ⊥) → (k ≡ 3 → ⊥) → (k ≡ 4 → ⊥) → (k ≡ 5 → ⊥) → (k ≡ 6 → ⊥) → (k ≡ 7 → ⊥) → (k ≡ 8 → ⊥) → (k ≡ 9 → ⊥) → nodeOf (kindOf k) a b c ≡ n-null
+-- A target that is locked, where the type of Int is i.
+module _ (s facts env : List ℕ) (n : Point) (x : ℕ) (v : Answer) (ev : Inferred s facts env (var n x) v) where
+  pub lock-free : (q : Question) (m : Point) → v ≡ Faulty q m → Lockable s facts env n x v
+  lock-free q m k Γ g = rw (target-is (programOf s) Γ n x, ← ev Γ g, k)
+
+  module _ (t i : ℕ) (k : v ≡ Typed t) (ei : i ≡ intOf (programOf s)) where
+    pub lock-int : t ≡ i → Lockable s facts env n x (Faulty Members n)
+    lock-int h Γ g = rw (target-is (programOf s) Γ n x, ← ev Γ g, k, eq-eqb t (intOf (programOf s)) (h ∙ ei))
+
+    pub lock-typed : (t ≡ i → ⊥) → Lockable s facts env n x (Typed t)
+    lock-typed h Γ g = rw (target-is (programOf s) Γ n x, ← ev Γ g, k, ne-eqb t (intOf (programOf s)) (λ e. h (e ∙ sym ei)))
+
+-- Two variables that are added, where the type of Int is i.
+module _ (s facts env : List ℕ) (n : Point) (x y : ℕ) (v : Answer) (ev : Inferred s facts env (var n x) v) where
+  pub add-left : (q : Question) (m : Point) → v ≡ Faulty q m → Inferred s facts env (add n x y) v
+  add-left q m k Γ g = rw (add-is (programOf s) Γ n x y, ← ev Γ g, k)
+
+  module _ (t : ℕ) (k : v ≡ Typed t) (w : Answer) (ew : Inferred s facts env (var n y) w) where
+    pub add-right : (q : Question) (m : Point) → w ≡ Faulty q m → Inferred s facts env (add n x y) w
+    add-right q m l Γ g = rw (add-is (programOf s) Γ n x y, ← ev Γ g, k, ← ew Γ g, l)
+
+    module _ (u i : ℕ) (l : w ≡ Typed u) (ei : i ≡ intOf (programOf s)) where
+      added : (Γ : List Slot) → EnvIs s facts env Γ → inferred (programOf s) Γ (add n x y) ≡ fits (eqb t i && eqb u i) n i
+      added Γ g = rw (add-is (programOf s) Γ n x y, ← ev Γ g, k, ← ew Γ g, l, ei)
+
+      pub add-unfit : (t ≡ i → ⊥) → Inferred s facts env (add n x y) (Faulty Fits n)
+      add-unfit h Γ g = rw (added Γ g, ne-eqb t i h)
+
+      module _ (h : t ≡ i) where
+        pub add-unfit-right : (u ≡ i → ⊥) → Inferred s facts env (add n x y) (Faulty Fits n)
+        add-unfit-right j Γ g = rw (added Γ g, eq-eqb t i h, ne-eqb u i j)
+
+        pub add-typed : u ≡ i → Inferred s facts env (add n x y) (Typed i)
+        add-typed j Γ g = rw (added Γ g, eq-eqb t i h, eq-eqb u i j)
+
+-- Whether a null that is checked fits, where the type of Int is i.
+module _ (s : List ℕ) (t i : ℕ) (ei : i ≡ intOf (programOf s)) (v : Given) (k : Point) (ev : v ≡ null-at k) where
+  pub null-unfit : t ≡ i → Faulty Fits k ≡ answerAs (programOf s) (checks t) v
+  null-unfit h = rw (ev, eq-eqb t (intOf (programOf s)) (h ∙ ei))
+
+  pub null-fits : (t ≡ i → ⊥) → Typed t ≡ answerAs (programOf s) (checks t) v
+  null-fits h = rw (ev, ne-eqb t (intOf (programOf s)) (λ e. h (e ∙ sym ei)))
+
+-- kinds 1 to 11 are not null, and every other one is read as null
+only-null : (k a b c : ℕ) → (k ≡ 1 → ⊥) → (k ≡ 2 → ⊥) → (k ≡ 3 → ⊥) → (k ≡ 4 → ⊥) → (k ≡ 5 → ⊥) → (k ≡ 6 → ⊥) → (k ≡ 7 → ⊥) → (k ≡ 8 → ⊥) → (k ≡ 9 → ⊥) → (k ≡ 10 → ⊥) → (k ≡ 11 → ⊥) → nodeOf (kindOf k) a b c ≡ n-null
 unfolding kindOf
-only-null zero a b c h1 h2 h3 h4 h5 h6 h7 h8 h9 = refl
-only-null (suc zero) a b c h1 h2 h3 h4 h5 h6 h7 h8 h9 = absurd (h1 refl)
-only-null (suc (suc zero)) a b c h1 h2 h3 h4 h5 h6 h7 h8 h9 = absurd (h2 refl)
-only-null (suc (suc (suc zero))) a b c h1 h2 h3 h4 h5 h6 h7 h8 h9 = absurd (h3 refl)
-only-null (suc (suc (suc (suc zero)))) a b c h1 h2 h3 h4 h5 h6 h7 h8 h9 = absurd (h4 refl)
-only-null (suc (suc (suc (suc (suc zero))))) a b c h1 h2 h3 h4 h5 h6 h7 h8 h9 = absurd (h5 refl)
-only-null (suc (suc (suc (suc (suc (suc zero)))))) a b c h1 h2 h3 h4 h5 h6 h7 h8 h9 = absurd (h6 refl)
-only-null (suc (suc (suc (suc (suc (suc (suc zero))))))) a b c h1 h2 h3 h4 h5 h6 h7 h8 h9 = absurd (h7 refl)
-only-null (suc (suc (suc (suc (suc (suc (suc (suc zero)))))))) a b c h1 h2 h3 h4 h5 h6 h7 h8 h9 = absurd (h8 refl)
-only-null (suc (suc (suc (suc (suc (suc (suc (suc (suc zero))))))))) a b c h1 h2 h3 h4 h5 h6 h7 h8 h9 = absurd (h9 refl)
-only-null (suc (suc (suc (suc (suc (suc (suc (suc (suc (suc k)))))))))) a b c h1 h2 h3 h4 h5 h6 h7 h8 h9 = refl
+only-null zero a b c h1 h2 h3 h4 h5 h6 h7 h8 h9 h10 h11 = refl
+only-null (suc zero) a b c h1 h2 h3 h4 h5 h6 h7 h8 h9 h10 h11 = absurd (h1 refl)
+only-null (suc (suc zero)) a b c h1 h2 h3 h4 h5 h6 h7 h8 h9 h10 h11 = absurd (h2 refl)
+only-null (suc (suc (suc zero))) a b c h1 h2 h3 h4 h5 h6 h7 h8 h9 h10 h11 = absurd (h3 refl)
+only-null (suc (suc (suc (suc zero)))) a b c h1 h2 h3 h4 h5 h6 h7 h8 h9 h10 h11 = absurd (h4 refl)
+only-null (suc (suc (suc (suc (suc zero))))) a b c h1 h2 h3 h4 h5 h6 h7 h8 h9 h10 h11 = absurd (h5 refl)
+only-null (suc (suc (suc (suc (suc (suc zero)))))) a b c h1 h2 h3 h4 h5 h6 h7 h8 h9 h10 h11 = absurd (h6 refl)
+only-null (suc (suc (suc (suc (suc (suc (suc zero))))))) a b c h1 h2 h3 h4 h5 h6 h7 h8 h9 h10 h11 = absurd (h7 refl)
+only-null (suc (suc (suc (suc (suc (suc (suc (suc zero)))))))) a b c h1 h2 h3 h4 h5 h6 h7 h8 h9 h10 h11 = absurd (h8 refl)
+only-null (suc (suc (suc (suc (suc (suc (suc (suc (suc zero))))))))) a b c h1 h2 h3 h4 h5 h6 h7 h8 h9 h10 h11 = absurd (h9 refl)
+only-null (suc (suc (suc (suc (suc (suc (suc (suc (suc (suc zero)))))))))) a b c h1 h2 h3 h4 h5 h6 h7 h8 h9 h10 h11 = absurd (h10 refl)
+only-null (suc (suc (suc (suc (suc (suc (suc (suc (suc (suc (suc zero))))))))))) a b c h1 h2 h3 h4 h5 h6 h7 h8 h9 h10 h11 = absurd (h11 refl)
+only-null (suc (suc (suc (suc (suc (suc (suc (suc (suc (suc (suc (suc k)))))))))))) a b c h1 h2 h3 h4 h5 h6 h7 h8 h9 h10 h11 = refl
 
 -- What a part gives that is inferred, and what it answers: a type, or a no whatever the aim.
 no-null-typed : (g : Given) (t : ℕ) (n : Point) → noNull g ≡ typed-at t n → inferredAs g ≡ Typed t
@@ -276,44 +347,48 @@ module _ {s starts facts env : List ℕ} {n : Point} (a : At s starts facts env 
       }
 
   -- The variable that the node names, and its rank.
-  named-by : (k : ℕ) → nodeWord s n 0 ≡ k → nameIn (nodeBy s n k) ≡ some (nodeWord s n 1) → Names s n (nodeWord s n 1)
-  named-by k e h = record { there = a .there; name = rw (view-kind (a .within) n (a .there) k e) h }
+  named-by : (k j : ℕ) → nodeWord s n 0 ≡ k → nameIn j (nodeBy s n k) ≡ some (nodeWord s n (1 + j)) → Names s n j (nodeWord s n (1 + j))
+  named-by k j e h = record { there = a .there; name = rw (view-kind (a .within) n (a .there) k e) h }
 
-  target : Names s n (nodeWord s n 1) → Target s facts env n
+  target : {j : ℕ} → Names s n j (nodeWord s n (1 + j)) → Target s facts env n j
   target h = record { within = a .within; known = a .known; size = a .size; named = h }
 
-  pub var-target : nodeWord s n 0 ≡ 1 → Target s facts env n
+  pub var-target : nodeWord s n 0 ≡ 1 → Target s facts env n 0
   unfolding kindOf
-  var-target e = target (named-by 1 e refl)
+  var-target e = target (named-by 1 0 e refl)
 
-  pub select-target : nodeWord s n 0 ≡ 2 → Target s facts env n
+  pub select-target : nodeWord s n 0 ≡ 2 → Target s facts env n 0
   unfolding kindOf
-  select-target e = target (named-by 2 e refl)
+  select-target e = target (named-by 2 0 e refl)
 
-  pub update-target : nodeWord s n 0 ≡ 3 → Target s facts env n
+  pub update-target : nodeWord s n 0 ≡ 3 → Target s facts env n 0
   unfolding kindOf
-  update-target e = target (named-by 3 e refl)
+  update-target e = target (named-by 3 0 e refl)
 
-  pub call-target : nodeWord s n 0 ≡ 4 → Target s facts env n
+  pub call-target : nodeWord s n 0 ≡ 4 → Target s facts env n 0
   unfolding kindOf
-  call-target e = target (named-by 4 e refl)
+  call-target e = target (named-by 4 0 e refl)
 
-  pub lock-target : nodeWord s n 0 ≡ 9 → Target s facts env n
+  pub lock-target : nodeWord s n 0 ≡ 9 → Target s facts env n 0
   unfolding kindOf
-  lock-target e = target (named-by 9 e refl)
+  lock-target e = target (named-by 9 0 e refl)
 
-  pub let-rank : nodeWord s n 0 ≡ 5 → RankOf s facts (nodeWord s n 1) (getD facts n 0)
+  pub add-targets : nodeWord s n 0 ≡ 11 → Target s facts env n 0 × Target s facts env n 1
   unfolding kindOf
-  let-rank e = of-node (named-by 5 e refl)
+  add-targets e = (target (named-by 11 0 e refl), target (named-by 11 1 e refl))
 
-  pub let-there : nodeWord s n 0 ≡ 5 → getD facts n 0 < length env
+  pub let-rank : nodeWord s n 0 ≡ 5 → RankOf s facts (nodeWord s n 1) (getD facts (2 * n) 0)
+  unfolding kindOf
+  let-rank e = rank-first (named-by 5 0 e refl)
+
+  pub let-there : nodeWord s n 0 ≡ 5 → getD facts (2 * n) 0 < length env
   let-there e = rw (a .size) (rank-small (a .known) (let-rank e))
 
   -- The expression at the node.
   expr-by : (k : ℕ) → nodeWord s n 0 ≡ k → exprAt s n ≡ build n (exprAt s) (nodeBy s n k)
   expr-by k e = expr-kind (a .within) n (a .there) k e
 
-  -- A variable, a read, a new object and a null.
+  -- A variable, a read, a new object, a constant, a sum and a null.
   pub at-var : (r : Answer) → nodeWord s n 0 ≡ 1 → Inferred s facts env (var n (nodeWord s n 1)) r → Inferred s facts env (exprAt s n) r
   unfolding kindOf
   at-var r e h Γ g = rw (expr-by 1 e) (h Γ g)
@@ -326,12 +401,20 @@ module _ {s starts facts env : List ℕ} {n : Point} (a : At s starts facts env 
   unfolding kindOf answer
   at-new c e ec Γ g = rw (expr-by 6 e, ec)
 
+  pub at-constant : (i : ℕ) → nodeWord s n 0 ≡ 10 → i ≡ intOf (programOf s) → Inferred s facts env (exprAt s n) (Typed i)
+  unfolding kindOf answer
+  at-constant i e ei Γ g = rw (expr-by 10 e, ei)
+
+  pub at-add : (r : Answer) → nodeWord s n 0 ≡ 11 → Inferred s facts env (add n (nodeWord s n 1) (nodeWord s n 2)) r → Inferred s facts env (exprAt s n) r
+  unfolding kindOf
+  at-add r e h Γ g = rw (expr-by 11 e) (h Γ g)
+
   pub at-null :
       (k : ℕ) → k ≡ nodeWord s n 0
       → (k ≡ 1 → ⊥) → (k ≡ 2 → ⊥) → (k ≡ 3 → ⊥) → (k ≡ 4 → ⊥) → (k ≡ 5 → ⊥) → (k ≡ 6 → ⊥) → (k ≡ 7 → ⊥) → (k ≡ 8 → ⊥) → (k ≡ 9 → ⊥)
-      → GivenAs s facts env (exprAt s n) (null-at n)
-  at-null k e h1 h2 h3 h4 h5 h6 h7 h8 h9 Γ g o =
-      rw (expr-by k (sym e), only-null k (nodeWord s n 1) (nodeWord s n 2) (nodeWord s n 3) h1 h2 h3 h4 h5 h6 h7 h8 h9) (null-as (programOf s) Γ n o)
+      → (k ≡ 10 → ⊥) → (k ≡ 11 → ⊥) → GivenAs s facts env (exprAt s n) (null-at n)
+  at-null k e h1 h2 h3 h4 h5 h6 h7 h8 h9 h10 h11 Γ g o =
+      rw (expr-by k (sym e), only-null k (nodeWord s n 1) (nodeWord s n 2) (nodeWord s n 3) h1 h2 h3 h4 h5 h6 h7 h8 h9 h10 h11) (null-as (programOf s) Γ n o)
 
   -- A node of a kind without a last part.
   pub at-plain : (k : ℕ) {r : Answer} → nodeWord s n 0 ≡ k → isNull (lastOf (build n (exprAt s) (nodeBy s n k))) ≡ false → pointOf (lastOf (build n (exprAt s) (nodeBy s n k))) ≡ n
@@ -401,26 +484,26 @@ module _ {s starts facts env : List ℕ} {n : Point} (a : At s starts facts env 
       unfolding kindOf
       value-type Γ g = inferred-type (a .within) b (part 5 b (nodeWord s n 2) e eb first .there) facts env Γ g t (sym (er Γ g infers) ∙ value-typed)
 
-      pub let-small : t ≤ INTERFACES + CLASSES
+      pub let-small : t ≤ INTERFACES + CLASSES + 1
       let-small = type-small (a .within) t (value-type (a .variables) (a .environment))
 
-      bound-let : (Γ : List Slot) → EnvIs s facts env Γ → EnvIs s facts (set env (getD facts n 0) (t + 1)) (record { name = nodeWord s n 1; type = t } ∷ Γ)
-      bound-let Γ g = env-bind g (nodeWord s n 1) (getD facts n 0) t (a .known .ranked) (let-rank e) (let-there e) (value-type Γ g)
+      bound-let : (Γ : List Slot) → EnvIs s facts env Γ → EnvIs s facts (set env (getD facts (2 * n) 0) (t + 1)) (record { name = nodeWord s n 1; type = t } ∷ Γ)
+      bound-let Γ g = env-bind g (nodeWord s n 1) (getD facts (2 * n) 0) t (a .known .ranked) (let-rank e) (let-there e) (value-type Γ g)
 
       module _ (env₁ : List ℕ) (e₁ : env₁ ≡ env) where
-        pub let-under : (c : Point) → Part s n c → At s starts facts (set env₁ (getD facts n 0) (t + 1)) c
+        pub let-under : (c : Point) → Part s n c → At s starts facts (set env₁ (getD facts (2 * n) 0) (t + 1)) c
         let-under c h =
             record {
               within = a .within;
               runs = a .runs;
               known = a .known;
-              size = rw (length-set env₁ (getD facts n 0) (t + 1), e₁) (a .size);
+              size = rw (length-set env₁ (getD facts (2 * n) 0) (t + 1), e₁) (a .size);
               there = h .there;
               variables = record { name = nodeWord s n 1; type = t } ∷ a .variables;
               environment = rw e₁ (bound-let (a .variables) (a .environment));
             }
 
-        pub let-last : (c : Point) (v : Given) → c ≡ nodeWord s n 3 → GivenAs s facts (set env₁ (getD facts n 0) (t + 1)) (exprAt s c) v → GivenAs s facts env (exprAt s n) v
+        pub let-last : (c : Point) (v : Given) → c ≡ nodeWord s n 3 → GivenAs s facts (set env₁ (getD facts (2 * n) 0) (t + 1)) (exprAt s c) v → GivenAs s facts env (exprAt s n) v
         let-last c v ec ev Γ g o = rw (let-body Γ g o, ← ec) (ev (record { name = nodeWord s n 1; type = t } ∷ Γ) (rw e₁ (bound-let Γ g)) o)
 
   -- A cast is its operand, checked.
@@ -430,16 +513,16 @@ module _ {s starts facts env : List ℕ} {n : Point} (a : At s starts facts env 
 
   -- A fork: the flag of its node, and its three parts.
   module _ (e : nodeWord s n 0 ≡ 8) where
-    flag : getD facts n 0 ≡ flagOf (shares (fv (exprAt s (nodeWord s n 1))) (fv (exprAt s (nodeWord s n 2))))
+    flag : getD facts (2 * n) 0 ≡ flagOf (shares (fv (exprAt s (nodeWord s n 1))) (fv (exprAt s (nodeWord s n 2))))
     unfolding kindOf
     flag = a .known .forks .flags n (nodeWord s n 1) (nodeWord s n 2) (nodeWord s n 3) (a .there) (view-kind (a .within) n (a .there) 8 e)
 
-    pub fork-shared : getD facts n 0 ≡ 1 → GivenAs s facts env (exprAt s n) (faulty-at Sharing n)
+    pub fork-shared : getD facts (2 * n) 0 ≡ 1 → GivenAs s facts env (exprAt s n) (faulty-at Sharing n)
     unfolding kindOf answer
     fork-shared k Γ g o =
         rw (expr-by 8 e) (fault-as (programOf s) o Sharing n ∙ shared-is n (shares (fv (exprAt s (nodeWord s n 1))) (fv (exprAt s (nodeWord s n 2)))) _ (sym flag ∙ k))
 
-    module _ (k : getD facts n 0 ≡ 1 → ⊥) (b : ℕ) (r : Given) (eb : b ≡ nodeWord s n 1) (er : GivenAs s facts env (exprAt s b) r) where
+    module _ (k : getD facts (2 * n) 0 ≡ 1 → ⊥) (b : ℕ) (r : Given) (eb : b ≡ nodeWord s n 1) (er : GivenAs s facts env (exprAt s b) r) where
       forked : (Γ : List Slot) → EnvIs s facts env Γ → (o : Aim)
           → answer (programOf s) Γ (exprAt s n) o ≡ andThen (inferredAs r) (λ t. andThen (inferred (programOf s) Γ (exprAt s (nodeWord s n 2))) (λ u. answer (programOf s) Γ (exprAt s (nodeWord s n 3)) o))
       unfolding kindOf answer
@@ -457,7 +540,7 @@ module _ {s starts facts env : List ℕ} {n : Point} (a : At s starts facts env 
           fork-last u l d w ht ed ew Γ g o = rw (forked Γ g o, no-null-typed r t m (sym ef ∙ ft), ← ec, ← ev Γ g infers, no-null-typed v u l (sym eh ∙ ht), ← ed) (ew Γ g o)
 
   -- A lock: its target, and its part.
-  module _ (e : nodeWord s n 0 ≡ 9) (v : Answer) (ev : Inferred s facts env (var n (nodeWord s n 1)) v) where
+  module _ (e : nodeWord s n 0 ≡ 9) (v : Answer) (ev : Lockable s facts env n (nodeWord s n 1) v) where
     pub lock-unbound : (q : Question) (m : Point) → v ≡ Faulty q m → GivenAs s facts env (exprAt s n) (givenBy n v)
     unfolding kindOf
     lock-unbound q m k Γ g o =

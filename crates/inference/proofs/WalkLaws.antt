@@ -51,7 +51,7 @@ module _ {s starts facts env : List ℕ} (b : Blank s starts facts env) where
     param-type : IsType (programOf s) (recordWord s methods m 1)
     param-type = rw (length-interfaces s, length-classes s) (b .within .types-are .1 .1 .1 .0 m h .0)
 
-    pub param-small : (param : ℕ) → param ≡ recordWord s methods m 1 → param ≤ INTERFACES + CLASSES
+    pub param-small : (param : ℕ) → param ≡ recordWord s methods m 1 → param ≤ INTERFACES + CLASSES + 1
     param-small param e = rw e (type-small (b .within) (recordWord s methods m 1) param-type)
 
     body-env : EnvIs s facts (set (set env 0 (class + 1)) 1 (recordWord s methods m 1 + 1)) (bodyEnv class (methodAt s m .signature))

@@ -1,8 +1,9 @@
 -- What the walk over expressions asks where it stands, and what it answers there.
-use Prim.Native.Nat.{ℕ, _<_}
+use Prim.Native.Nat.{ℕ, _+_, _<_}
 use mathlib.Core.Path.{_≡_}
 use mathlib.Core.List.{List, _++_, map}
 use lib.ListN.{length}
+use Rattle.script.specs.declared.Question.the-variants.{Variables}
 use Rattle.script.specs.declared.Section.the-variants.{Nodes as nodes}
 use Rattle.script.specs.Section.{countOf, nodeWord}
 use Rattle.script.specs.Syntax.{Point, Expr, Slot, Method, Program}
@@ -10,19 +11,21 @@ use Rattle.script.specs.Reading.{programOf}
 use Rattle.script.specs.Statements.{WithinLayout}
 use Rattle.slices.specs.Zero.{AllZero}
 use Rattle.typing.specs.declared.Answer.{Answer}
-use Rattle.typing.specs.Environments.{bodyEnv}
-use Rattle.typing.specs.Typing.{andThen, inferred, checked, Body, walk}
+use Rattle.typing.specs.declared.Answer.the-variants.{Typed}
+use Rattle.typing.specs.Environments.{of-lock, bodyEnv}
+use Rattle.typing.specs.Members.{typeIn}
+use Rattle.typing.specs.Typing.{andThen, orFaulty, useNo, unlessNo, inferred, checked, Body, walk}
 use Rattle.members.specs.Tables.{Starts}
 use Rattle.names.specs.Ranks.{RANKS, Names}
 use Rattle.names.specs.Facts.{Facts}
 use Rattle.inference.specs.Tables.{EnvIs}
 
--- Node n whose first word names a variable, with the table of an environment.
-pub record Target (s facts env : List ℕ) (n : Point) : Type 0 where
+-- Node n, which names a variable at place j, with the table of an environment.
+pub record Target (s facts env : List ℕ) (n : Point) (j : ℕ) : Type 0 where
   pub within : WithinLayout s
   pub known : Facts s facts
   pub size : length env ≡ RANKS
-  pub named : Names s n (nodeWord s n 1)
+  pub named : Names s n j (nodeWord s n (1 + j))
 
 -- Node n, with the script's tables and an environment.
 pub record At (s starts facts env : List ℕ) (n : Point) : Type 0 where
@@ -40,6 +43,13 @@ Inferred s facts env e r = (Γ : List Slot) → EnvIs s facts env Γ → r ≡ i
 
 abbrev pub Checked : List ℕ → List ℕ → List ℕ → Expr → ℕ → Answer → Type 0
 Checked s facts env e t r = (Γ : List Slot) → EnvIs s facts env Γ → r ≡ checked (programOf s) Γ e t
+
+-- What is answered before a lock's part: the type of its target x, where that may be locked.
+abbrev pub lockedType : Program → List Slot → Point → ℕ → Answer
+lockedType p Γ n x = orFaulty Variables n (typeIn Γ x) (λ t. unlessNo (useNo p n (of-lock t)) n (Typed t))
+
+abbrev pub Lockable : List ℕ → List ℕ → List ℕ → Point → ℕ → Answer → Type 0
+Lockable s facts env n x r = (Γ : List Slot) → EnvIs s facts env Γ → r ≡ lockedType (programOf s) Γ n x
 
 -- The script's tables, with no variable bound.
 pub record Blank (s starts facts env : List ℕ) : Type 0 where

@@ -2,6 +2,7 @@
 use crate::Given;
 use members::Member;
 use members::field_type;
+use members::int_of;
 use members::is_below;
 use members::method_of;
 use script::Found;
@@ -9,13 +10,14 @@ use script::Question;
 use sections::node_word;
 use typing::Answer;
 ghost use mathlib.Core.Path.{_≡_};
+ghost use Prim.Native.Nat.{_+_};
 ghost use Rattle.script.specs.Section.{nodeWord};
-ghost use Rattle.script.specs.Syntax.{var, select};
+ghost use Rattle.script.specs.Syntax.{var, select, add};
 ghost use Rattle.script.specs.Reading.{programOf, exprAt};
 ghost use Rattle.script.specs.Statements.{WithinLayout};
 ghost use Rattle.typing.specs.declared.Aim.the-variants.{Checks as checks};
 ghost use Rattle.members.specs.Tables.{Starts};
-ghost use Rattle.inference.specs.At.{Target, At, Inferred, Checked};
+ghost use Rattle.inference.specs.At.{Target, At, Inferred, Checked, Lockable};
 ghost use Rattle.inference.specs.Given.{inferredAs, answerAs, noNull, givenBy, GivenAs};
 
 // What is inferred for an expression that gives this: a null is inferred never.
@@ -50,12 +52,12 @@ fn given_by(n: u16, r: Answer) -> Given
     }
 }
 
-// The type of the variable that node n names first.
-fn infer_var(s: &[u8], facts: &[u16], env: &[u16], n: u16) -> Answer
-    requires { ⌜ Target (now s) (now facts) (now env) n ⌝ }
-    ensures { λ r. ⌜ Inferred (now (s .entry)) (now (facts .entry)) (now (env .entry)) (var n (nodeWord (now (s .entry)) n 1)) r ⌝ }
+// The type of the variable that node n names at place j.
+fn infer_var(s: &[u8], facts: &[u16], env: &[u16], n: u16, j: usize) -> Answer
+    requires { ⌜ Target (now s) (now facts) (now env) n j ⌝ }
+    ensures { λ r. ⌜ Inferred (now (s .entry)) (now (facts .entry)) (now (env .entry)) (var n (nodeWord (now (s .entry)) n (1 + j))) r ⌝ }
 {
-    let rank = facts[n as usize] as usize;
+    let rank = facts[2 * n as usize + j] as usize;
     let word = env[rank];
     if word == 0 {
         return Answer::Faulty(Question::Variables, n);
@@ -65,12 +67,12 @@ fn infer_var(s: &[u8], facts: &[u16], env: &[u16], n: u16) -> Answer
 
 // The type of the field that node n reads or writes.
 fn infer_select(s: &[u8], starts: &[u16], facts: &[u16], env: &[u16], n: u16) -> Answer
-    requires { ⌜ Target (now s) (now facts) (now env) n × Starts (now s) (now starts) ⌝ }
+    requires { ⌜ Target (now s) (now facts) (now env) n 0 × Starts (now s) (now starts) ⌝ }
     ensures { λ r. ⌜
         Inferred (now (s .entry)) (now (facts .entry)) (now (env .entry)) (select n (nodeWord (now (s .entry)) n 1) (nodeWord (now (s .entry)) n 2)) r
         ⌝ }
 {
-    let target = infer_var(s, facts, env, n);
+    let target = infer_var(s, facts, env, n, 0);
     let Answer::Typed(t) = target else {
         return target;
     };
@@ -79,6 +81,47 @@ fn infer_select(s: &[u8], starts: &[u16], facts: &[u16], env: &[u16], n: u16) ->
         return Answer::Faulty(Question::Members, n);
     };
     Answer::Typed(u as u16)
+}
+
+// A sum has type Int, where both its variables have a type and then both have this one.
+fn infer_add(s: &[u8], facts: &[u16], env: &[u16], n: u16) -> Answer
+    requires { ⌜ Target (now s) (now facts) (now env) n 0 × Target (now s) (now facts) (now env) n 1 ⌝ }
+    ensures { λ r. ⌜
+        Inferred (now (s .entry)) (now (facts .entry)) (now (env .entry)) (add n (nodeWord (now (s .entry)) n 1) (nodeWord (now (s .entry)) n 2)) r
+        ⌝ }
+{
+    let left = infer_var(s, facts, env, n, 0);
+    let Answer::Typed(t) = left else {
+        return left;
+    };
+    let right = infer_var(s, facts, env, n, 1);
+    let Answer::Typed(u) = right else {
+        return right;
+    };
+    let int = int_of(s);
+    if t != int {
+        return Answer::Faulty(Question::Fits, n);
+    }
+    if u != int {
+        return Answer::Faulty(Question::Fits, n);
+    }
+    Answer::Typed(int)
+}
+
+// The type of the variable that node n locks, which may be any but Int.
+fn lock_target(s: &[u8], facts: &[u16], env: &[u16], n: u16) -> Answer
+    requires { ⌜ Target (now s) (now facts) (now env) n 0 ⌝ }
+    ensures { λ r. ⌜ Lockable (now (s .entry)) (now (facts .entry)) (now (env .entry)) n (nodeWord (now (s .entry)) n 1) r ⌝ }
+{
+    let target = infer_var(s, facts, env, n, 0);
+    let Answer::Typed(t) = target else {
+        return target;
+    };
+    let int = int_of(s);
+    if t == int {
+        return Answer::Faulty(Question::Members, n);
+    }
+    Answer::Typed(t)
 }
 
 // A write has type Unit, after its value is checked against the field's type.
@@ -105,7 +148,7 @@ fn infer_call(s: &[u8], starts: &[u16], facts: &[u16], env: &mut [u16], n: u16) 
     ensures { λ r. ⌜ Inferred (now (s .entry)) (now (facts .entry)) (now (env .entry)) (exprAt (now (s .entry)) n) r ⌝ }
     ensures { λ r. ⌜ now (env .exit) ≡ now (env .entry) ⌝ }
 {
-    let target = infer_var(s, facts, env, n);
+    let target = infer_var(s, facts, env, n, 0);
     let Answer::Typed(t) = target else {
         return target;
     };
@@ -132,7 +175,7 @@ fn infer_let(s: &[u8], starts: &[u16], facts: &[u16], env: &mut [u16], n: u16) -
     let Given::Typed(t, _) = first else {
         return first;
     };
-    let rank = facts[n as usize] as usize;
+    let rank = facts[2 * n as usize] as usize;
     let outer = env[rank];
     env[rank] = t + 1;
     let body = node_word(s, n, 3);
@@ -158,7 +201,7 @@ fn infer_fork(s: &[u8], starts: &[u16], facts: &[u16], env: &mut [u16], n: u16) 
     ensures { λ r. ⌜ GivenAs (now (s .entry)) (now (facts .entry)) (now (env .entry)) (exprAt (now (s .entry)) n) r ⌝ }
     ensures { λ r. ⌜ now (env .exit) ≡ now (env .entry) ⌝ }
 {
-    if facts[n as usize] == 1 {
+    if facts[2 * n as usize] == 1 {
         return Given::Faulty(Question::Sharing, n);
     }
     let a = node_word(s, n, 1);
@@ -175,13 +218,13 @@ fn infer_fork(s: &[u8], starts: &[u16], facts: &[u16], env: &mut [u16], n: u16) 
     infer(s, starts, facts, env, c)
 }
 
-// A lock gives what its part does, where its variable has a type.
+// A lock gives what its part does, where its variable has a type that may be locked.
 fn infer_lock(s: &[u8], starts: &[u16], facts: &[u16], env: &mut [u16], n: u16) -> Given
     requires { ⌜ At (now s) (now starts) (now facts) (now env) n × (nodeWord (now s) n 0 ≡ 9) ⌝ }
     ensures { λ r. ⌜ GivenAs (now (s .entry)) (now (facts .entry)) (now (env .entry)) (exprAt (now (s .entry)) n) r ⌝ }
     ensures { λ r. ⌜ now (env .exit) ≡ now (env .entry) ⌝ }
 {
-    let target = infer_var(s, facts, env, n);
+    let target = lock_target(s, facts, env, n);
     let Answer::Typed(_) = target else {
         return given_by(n, target);
     };
@@ -197,7 +240,7 @@ pub fn infer(s: &[u8], starts: &[u16], facts: &[u16], env: &mut [u16], n: u16) -
 {
     let kind = node_word(s, n, 0);
     match kind {
-        1 => given_by(n, infer_var(s, facts, env, n)),
+        1 => given_by(n, infer_var(s, facts, env, n, 0)),
         2 => given_by(n, infer_select(s, starts, facts, env, n)),
         3 => given_by(n, infer_update(s, starts, facts, env, n)),
         4 => given_by(n, infer_call(s, starts, facts, env, n)),
@@ -206,12 +249,14 @@ pub fn infer(s: &[u8], starts: &[u16], facts: &[u16], env: &mut [u16], n: u16) -
         7 => given_by(n, infer_cast(s, starts, facts, env, n)),
         8 => infer_fork(s, starts, facts, env, n),
         9 => infer_lock(s, starts, facts, env, n),
+        10 => Given::Typed(int_of(s), n),
+        11 => given_by(n, infer_add(s, facts, env, n)),
         _ => Given::Null(n),
     }
 }
 
-// What an expression that gives this comes to where it is checked against t: a null has every type, and so has what ends in one; any other has the types that
-// its own is below, which is asked of its innermost last part.
+// What an expression that gives this comes to where it is checked against t: a null has every type but Int, and so has what ends in one; any other has the
+// types that its own is below. Both are asked of its innermost last part.
 fn given_fits(s: &[u8], starts: &[u16], g: Given, t: u16) -> Answer
     requires { ⌜ WithinLayout (now s) × Starts (now s) (now starts) ⌝ }
     ensures { λ r. ⌜ r ≡ answerAs (programOf (now (s .entry))) (checks t) g ⌝ }
@@ -223,7 +268,12 @@ fn given_fits(s: &[u8], starts: &[u16], g: Given, t: u16) -> Answer
             }
             Answer::Typed(t)
         }
-        Given::Null(_) => Answer::Typed(t),
+        Given::Null(last) => {
+            if t == int_of(s) {
+                return Answer::Faulty(Question::Fits, last);
+            }
+            Answer::Typed(t)
+        }
         Given::Faulty(q, k) => Answer::Faulty(q, k),
     }
 }
@@ -248,6 +298,6 @@ fn check_part(s: &[u8], starts: &[u16], facts: &[u16], env: &mut [u16], n: u16, 
     if kind != 1 {
         return check(s, starts, facts, env, n, t);
     }
-    let g = given_by(n, infer_var(s, facts, env, n));
+    let g = given_by(n, infer_var(s, facts, env, n, 0));
     given_fits(s, starts, g, t)
 }

@@ -32,9 +32,9 @@ FILE = 13592
 abbrev pub CLASS-FIELDS : ℕ
 CLASS-FIELDS = 8
 
--- The state block: its bytes, and the most objects, bindings, waiting frames and threads.
+-- The state block: its bytes ("The block grows to 65,536 bytes"), and the most objects, bindings, waiting frames and threads.
 abbrev pub BLOCK : ℕ
-BLOCK = 49152
+BLOCK = 65536
 
 abbrev pub OBJECTS : ℕ
 OBJECTS = 256

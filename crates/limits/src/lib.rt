@@ -25,7 +25,7 @@ impl Limits {
 
     pub const CLASS_FIELDS: usize = 8;
 
-    pub const BLOCK: usize = 49152;
+    pub const BLOCK: usize = 65536;
 
     pub const OBJECTS: usize = 256;
 

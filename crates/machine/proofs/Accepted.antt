@@ -4,12 +4,15 @@ use mathlib.Core.Path.{_≡_, refl, ap}
 use mathlib.Core.List.{List}
 use native.Mathlib.Omega.{arith}
 use lib.ListN.{getD}
-use Rattle.words.specs.Word.{wordAt}
+use lib.IntN.{ℤ}
+use Rattle.words.specs.Word.{WORD, wordAt}
+use Rattle.words.specs.Integer.{InRange, integer}
+use Rattle.words.proofs.Integers.{integer-words}
 use Rattle.script.specs.declared.Section.the-variants.{Classes as classes, Methods as methods, Nodes as nodes}
 use Rattle.script.specs.Lists.{_∈_, sumBelow}
 use Rattle.script.specs.Section.{countOf, recordAt, recordWord}
-use Rattle.script.specs.Syntax.{Point, n-bind, Method, Class, declarationAt, a-class}
-use Rattle.script.specs.Reading.{Kind, null-kind, var-kind, select-kind, update-kind, call-kind, bind-kind, new-kind, cast-kind, fork-kind, lock-kind, unknown-kind, nodeOf, kindOf, viewAt, ownMethods, methodAt, classAt, programOf}
+use Rattle.script.specs.Syntax.{Point, n-bind, n-constant, Method, Class, declarationAt, a-class}
+use Rattle.script.specs.Reading.{Kind, null-kind, var-kind, select-kind, update-kind, call-kind, bind-kind, new-kind, cast-kind, fork-kind, lock-kind, constant-kind, add-kind, unknown-kind, nodeOf, kindOf, viewAt, ownMethods, methodAt, classAt, programOf}
 use Rattle.script.specs.Statements.{WithinLayout}
 use Rattle.script.proofs.Lists.{in-run, sum-more}
 use Rattle.script.proofs.Declarations.{class-from}
@@ -21,30 +24,38 @@ use Rattle.typing.proofs.Exact.{exact, outside-refused}
 use Rattle.machine.specs.Config.{codeOf}
 use Rattle.machine.specs.Accepted.{BodyAt, AcceptedCode}
 
--- a let's variable is a word of its node
-bound-word : (k : Kind) (a b c x : ℕ) (p q : Point) → nodeOf k a b c ≡ n-bind x p q → x ≡ a
-bound-word null-kind a b c x p q e = cc
-bound-word var-kind a b c x p q e = cc
-bound-word select-kind a b c x p q e = cc
-bound-word update-kind a b c x p q e = cc
-bound-word call-kind a b c x p q e = cc
-bound-word bind-kind a b c x p q e = cc
-bound-word new-kind a b c x p q e = cc
-bound-word cast-kind a b c x p q e = cc
-bound-word fork-kind a b c x p q e = cc
-bound-word lock-kind a b c x p q e = cc
-bound-word unknown-kind a b c x p q e = cc
+-- a let's variable is a word of its node, and a constant is the number of two
+node-words : (k : Kind) (a b c : ℕ)
+    → ((x : ℕ) (p q : Point) → nodeOf k a b c ≡ n-bind x p q → x ≡ a) × ((z : ℤ) → nodeOf k a b c ≡ n-constant z → z ≡ integer a b)
+node-words null-kind a b c = (λ x p q e. cc, λ z e. cc)
+node-words var-kind a b c = (λ x p q e. cc, λ z e. cc)
+node-words select-kind a b c = (λ x p q e. cc, λ z e. cc)
+node-words update-kind a b c = (λ x p q e. cc, λ z e. cc)
+node-words call-kind a b c = (λ x p q e. cc, λ z e. cc)
+node-words bind-kind a b c = (λ x p q e. cc, λ z e. cc)
+node-words new-kind a b c = (λ x p q e. cc, λ z e. cc)
+node-words cast-kind a b c = (λ x p q e. cc, λ z e. cc)
+node-words fork-kind a b c = (λ x p q e. cc, λ z e. cc)
+node-words lock-kind a b c = (λ x p q e. cc, λ z e. cc)
+node-words constant-kind a b c = (λ x p q e. cc, λ z e. cc)
+node-words add-kind a b c = (λ x p q e. cc, λ z e. cc)
+node-words unknown-kind a b c = (λ x p q e. cc, λ z e. cc)
 
 module _ (s : List ℕ) where
-  word-small : ((i : ℕ) → getD s i 0 < 256) → (k j : ℕ) → recordWord s nodes k j < 65536
+  word-small : ((i : ℕ) → getD s i 0 < 256) → (k j : ℕ) → recordWord s nodes k j < WORD
   unfolding recordWord wordAt
   word-small bytes k j =
       let i = recordAt s nodes k + 2 * j in
       omega (arith, bytes i, bytes (i + 1))
 
-  small : ((i : ℕ) → getD s i 0 < 256) → (n : Point) (x : ℕ) (a b : Point) → viewAt s n ≡ n-bind x a b → x < 65536
+  small : ((i : ℕ) → getD s i 0 < 256) → (n : Point) (x : ℕ) (a b : Point) → viewAt s n ≡ n-bind x a b → x < WORD
   unfolding viewAt
-  small bytes n x a b e = rw (bound-word (kindOf (recordWord s nodes n 0)) _ _ _ x a b e) (word-small bytes n 1)
+  small bytes n x a b e = rw (node-words (kindOf (recordWord s nodes n 0)) _ _ _ .0 x a b e) (word-small bytes n 1)
+
+  constant-small : ((i : ℕ) → getD s i 0 < 256) → (n : Point) (z : ℤ) → viewAt s n ≡ n-constant z → InRange z
+  unfolding viewAt
+  constant-small bytes n z e =
+      rw (node-words (kindOf (recordWord s nodes n 0)) _ _ _ .1 z e) (integer-words (word-small bytes n 1) (word-small bytes n 2) .in-range)
 
   module _ (w : WithinLayout s) where
     -- a body is the expression at a node
@@ -72,6 +83,7 @@ accepted s t bytes e =
       formed = formed s w;
       in-order = λ n h p m. let q = in-order s w n h p m in record { after = q .later; there = q .there };
       words = small s bytes;
+      constants = constant-small s bytes;
       bodies = bodies s w;
       start = refl;
     }

@@ -9,11 +9,14 @@ use mathlib.Core.Logic.{_⊎_, inl, inr, ⊎-elim}
 use mathlib.Core.Option.{Option, none, some, Option·none-ne-some}
 use lib.Dec.{eqb, leb, ltb}
 use lib.ListN.{length}
+use lib.IntN.{ℤ}
+use lib.Signed.{mag}
 use borrow.Author.Tests.{leb-true, le-leb, ltb-true, lt-ltb}
+use Rattle.words.specs.Integer.{HALF, InRange}
 use Rattle.script.specs.Lists.{_∈_}
 use Rattle.script.specs.Asking.{Decides, holds, fails}
 use Rattle.script.specs.Questions.{allOf}
-use Rattle.script.specs.Syntax.{Point, Node, n-null, n-var, n-select, n-update, n-call, n-bind, n-new, n-cast, n-fork, n-lock, Expr, cast, isNull, parts, Slot, Signature}
+use Rattle.script.specs.Syntax.{Point, Node, n-null, n-var, n-select, n-update, n-call, n-bind, n-new, n-cast, n-fork, n-lock, n-constant, n-add, Expr, cast, isNull, parts, Slot, Signature, intOf}
 use Rattle.script.specs.Regular.{IsType, IsClass, Formed}
 use Rattle.script.proofs.Tests.{says-yes, yes-said, decides-as, decides-and, decides-or, decides-not, decides-eq, decides-le, decides-lt, decides-all}
 use Rattle.script.proofs.Reading.{first, second}
@@ -23,26 +26,27 @@ use Rattle.typing.specs.declared.Answer.the-variants.{Typed, Faulty}
 use Rattle.typing.specs.Environments.{TypeOf}
 use Rattle.typing.specs.Members.{typeIn, fieldIn, methodIn, fieldsOf}
 use Rattle.typing.specs.Typing.{inferred, checked}
-use Rattle.typing.specs.Published.{WfType, T-WF-UNIT, Sub, WfEnv, WF-ENV, MsigIn, Infer, Check}
+use Rattle.typing.specs.Published.{WfType, T-WF-UNIT, Sub, WfEnv, WF-ENV, MsigIn, NullFits, Infer, Check}
 use Rattle.typing.specs.Refusals.{lastOf}
 use Rattle.typing.proofs.Environments.{type-in, typed-exactly}
 use Rattle.typing.proofs.Types.{type-wf}
 use Rattle.typing.proofs.Subtype.{decides-below}
+use Rattle.typing.proofs.Int.{null-fits-exactly}
 use Rattle.typing.proofs.Members.{field-in, field-type, method-in, method-only, signature-types}
 use Rattle.typing.proofs.NullEnds.{plain-infers, null-ends}
 use Rattle.typing.proofs.Rules.{infer-type, Judged, types, passes, refuses, judged, inferred-typed}
 use Rattle.machine.specs.declared.Value.{Value}
-use Rattle.machine.specs.declared.Value.the-variants.{Null as nil, Ref as ref}
+use Rattle.machine.specs.declared.Value.the-variants.{Null as nil, Ref as ref, Int as int}
 use Rattle.machine.specs.declared.Frame.{Frame}
 use Rattle.machine.specs.declared.Frame.the-variants.{Awaits as awaits, Casts as casts, Locks as locks}
 use Rattle.machine.specs.Config.{Code, Object, Binding, Stores, Tree, running, returning, failed, join, Config}
 use Rattle.machine.specs.Machine.{scope, slot, context, object, Places}
 use Rattle.machine.specs.declared.Want.{Want}
 use Rattle.machine.specs.declared.Want.the-variants.{Any as any, Upto as upto}
-use Rattle.machine.specs.WellFormed.{Meets, meets-any, meets-type, ValueFits, fits-nil, fits-ref, Gives, gives-type, NodeGives, BindingOk, BindingsOk, no-bindings, a-binding, FieldsOk, no-fields, a-field, StoresOk, Awaits, a-let, a-write, a-call, FramesOk, no-frames, a-node, a-cast, a-lock, TreeOk, running-ok, returning-ok, failed-ok, join-ok, lockCount, failures, shutAt, Within, WellFormed}
+use Rattle.machine.specs.WellFormed.{Meets, meets-any, meets-type, NullMeets, null-any, null-type, ValueFits, fits-nil, fits-ref, fits-int, Gives, gives-type, NodeGives, BindingOk, BindingsOk, no-bindings, a-binding, FieldsOk, no-fields, a-field, StoresOk, Awaits, a-let, a-write, a-call, FramesOk, no-frames, a-node, a-cast, a-lock, TreeOk, running-ok, returning-ok, failed-ok, join-ok, lockCount, failures, shutAt, Within, WellFormed}
 use Rattle.machine.specs.Accepted.{LaterPart, AcceptedCode}
-use Rattle.machine.specs.Decide.{given, ifTyped, only, meetsTest, objectTest, valueFitsTest, isTyped, givesTest, atTest, isClassTest, fieldsTest, bindingTest, bindingsTest, storesTest, awaited, castType, expects, wantTest, treeTest, lockList, distinctTest, numbersBelow, coveredTest, withinLimitsTest, wellFormedTest}
-use Rattle.machine.proofs.Types.{null-meets, check-gives, infer-computes, check-computes, env-next, gives-checks, gives-some, rules-function, start-type}
+use Rattle.machine.specs.Decide.{given, ifTyped, only, meetsTest, objectTest, nullMeetsTest, valueFitsTest, isTyped, givesTest, atTest, isClassTest, fieldsTest, bindingTest, bindingsTest, storesTest, awaited, castType, expects, wantTest, treeTest, lockList, distinctTest, numbersBelow, coveredTest, withinLimitsTest, wellFormedTest}
+use Rattle.machine.proofs.Types.{null-unit, check-gives, infer-computes, check-computes, env-next, gives-checks, gives-some, rules-function, start-type}
 use Rattle.machine.proofs.Locks.{lock-listed}
 
 -- a second test that decides where the first passes
@@ -109,6 +113,19 @@ meets-sub (meets-type b) = b
 fits-object : {s : Code} {xs : List Object} {o : ℕ} {w : Want} → ValueFits s xs (ref o) w → (x : Object) × (object xs o ≡ some x) × Meets s (x .class) w
 fits-object (fits-ref {x = x} h m) = (x, h, m)
 
+fits-null : {s : Code} {xs : List Object} {w : Want} → ValueFits s xs nil w → NullMeets s w
+fits-null (fits-nil m) = m
+
+fits-number : {s : Code} {xs : List Object} {z : ℤ} {w : Want} → ValueFits s xs (int z) w → InRange z × Meets s (intOf (s .program)) w
+fits-number (fits-int r m) = (r, m)
+
+null-fits : {s : Code} {t : ℕ} → NullMeets s (upto t) → NullFits (s .program) t
+null-fits (null-type o) = o
+
+decides-null : (s : Code) (w : Want) → Decides (NullMeets s w) (nullMeetsTest s w)
+decides-null s any = holds null-any
+decides-null s (upto t) = decides-as null-type null-fits (null-fits-exactly (s .program) t)
+
 fields-both : {s : Code} {xs : List Object} {d : Slot} {ds : List Slot} {v : Value} {l : List Value} → FieldsOk s xs (d ∷ ds) (v ∷ l) → ValueFits s xs v (upto (d .type)) × FieldsOk s xs ds l
 fields-both (a-field f fs) = (f, fs)
 
@@ -137,6 +154,8 @@ cast-view (n-new c) t h = absurd (Option·none-ne-some _ h)
 cast-view (n-cast u a) t h = (a, cc)
 cast-view (n-fork a b c) t h = absurd (Option·none-ne-some _ h)
 cast-view (n-lock x a) t h = absurd (Option·none-ne-some _ h)
+cast-view (n-constant z) t h = absurd (Option·none-ne-some _ h)
+cast-view (n-add x y) t h = absurd (Option·none-ne-some _ h)
 
 module _ {s : Code} {start : ℕ} (acc : AcceptedCode s start) where
   decides-meets : (t : ℕ) (w : Want) → IsType (s .program) t → Decides (Meets s t w) (meetsTest s t w)
@@ -145,13 +164,15 @@ module _ {s : Code} {start : ℕ} (acc : AcceptedCode s start) where
 
   module _ (xs : List Object) (classes : Classes s xs) where
     decides-fits : (v : Value) (w : Want) → Decides (ValueFits s xs v w) (valueFitsTest s xs v w)
-    decides-fits nil w = holds (fits-nil (null-meets w))
+    decides-fits nil w = decides-as fits-nil fits-null (decides-null s w)
     decides-fits (ref o) w = go (object xs o) refl
       where
         go : (q : Option Object) → object xs o ≡ q → Decides (ValueFits s xs (ref o) w) (objectTest s w q)
         go none e = fails (λ f. let q = fits-object f in let z : _≡_ {A = ℕ} 0 1 = cc (q .1) in omega arith)
         go (some x) e =
-            decides-as (fits-ref e) (λ f. let q = fits-object f in let i : q .0 ≡ x = cc (q .1) in rw i at (q .2)) (decides-meets (x .class) w (classes o x e .last))
+            decides-as (fits-ref e) (λ f. let q = fits-object f in let i : q .0 ≡ x = cc (q .1) in rw i at (q .2)) (decides-meets (x .class) w (omega (arith, classes o x e .last)))
+    decides-fits (int z) w =
+        decides-as (λ h. fits-int (h .0) (h .1)) fits-number (decides-and (decides-lt (mag z) HALF) (decides-meets (intOf (s .program)) w (omega arith)))
 
     decides-fields : (ds : List Slot) (l : List Value) → Decides (FieldsOk s xs ds l) (fieldsTest s xs ds l)
     decides-fields [] [] = holds no-fields
@@ -165,7 +186,7 @@ module _ {s : Code} {start : ℕ} (acc : AcceptedCode s start) where
         (λ h. record { name = h .0; type = h .1 .0; link = h .1 .1 .0; value = h .1 .1 .1 })
         (λ h. (h .name, (h .type, (h .link, h .value))))
         (decides-and (decides-lt (b .name) 65536)
-        (decides-and (decides-le (b .type) (length (s .program .interfaces) + length (s .program .classes))) (decides-and (decides-le (b .link) older) (decides-fits (b .value) (upto (b .type))))))
+        (decides-and (decides-le (b .type) (intOf (s .program))) (decides-and (decides-le (b .link) older) (decides-fits (b .value) (upto (b .type))))))
 
     decides-bindings : (bs : List Binding) → Decides (BindingsOk s xs bs) (bindingsTest s xs bs)
     decides-bindings [] = holds no-bindings
@@ -196,7 +217,7 @@ module _ {s : Code} {start : ℕ} (acc : AcceptedCode s start) where
   some-type {Γ} {e} {t} c = go (isNull (lastOf e)) refl
     where
       go : (b : Bool) → isNull (lastOf e) ≡ b → ((u : ℕ) × Infer (s .program) Γ e u) ⊎ Check (s .program) Γ e 0
-      go true h = inr (null-ends h T-WF-UNIT c)
+      go true h = inr (null-ends h T-WF-UNIT (null-unit (s .program)) c)
       go false h = let r = plain-infers (s .program) Γ e t h .0 c in inl (r .0, r .1)
 
   gives-any : {Γ : List Slot} {e : Expr} {r o : Answer} → WfEnv (s .program) Γ → Judged (s .program) Γ e infers r → inferred (s .program) Γ e ≡ r → Judged (s .program) Γ e (checks 0) o
@@ -257,6 +278,8 @@ module _ {s : Code} {start : ℕ} (acc : AcceptedCode s start) where
   awaited-sound Γ i (n-cast u a) v env wt y w h = absurd (Option·none-ne-some _ h)
   awaited-sound Γ i (n-fork a b c) v env wt y w h = absurd (Option·none-ne-some _ h)
   awaited-sound Γ i (n-lock x a) v env wt y w h = absurd (Option·none-ne-some _ h)
+  awaited-sound Γ i (n-constant z) v env wt y w h = absurd (Option·none-ne-some _ h)
+  awaited-sound Γ i (n-add x z) v env wt y w h = absurd (Option·none-ne-some _ h)
 
   awaited-complete : {Γ : List Slot} {t : ℕ} {v : Want} (i : Point) (n : Node) → WfEnv (s .program) Γ → WantType v → ((q : Point) → q ∈ parts n → LaterPart s i q) → Awaits s Γ n t v
       → awaited s Γ n v ≡ some (upto t)

@@ -6,7 +6,7 @@ use mathlib.Core.Logic.{_↔_}
 use mathlib.Core.Option.{some}
 use native.Mathlib.Omega.{arith}
 use Rattle.script.specs.Lists.{_∈_}
-use Rattle.script.specs.Syntax.{Point, Expr, bind, fork, lock, Node, n-null, n-var, n-select, n-update, n-call, n-bind, n-new, n-cast, n-fork, n-lock, build, pointOf, Slot, Signature, Method, Class, Program, declarationAt, a-class}
+use Rattle.script.specs.Syntax.{Point, Expr, null, bind, fork, lock, Node, n-null, n-var, n-select, n-update, n-call, n-bind, n-new, n-cast, n-fork, n-lock, n-constant, n-add, build, pointOf, Slot, Signature, Method, Class, Program, declarationAt, a-class, an-int}
 use Rattle.script.specs.Regular.{IsType, IsClass}
 use Rattle.script.proofs.Lists.{named-unique}
 use Rattle.script.proofs.Declarations.{is-class, a-class-at}
@@ -14,8 +14,9 @@ use Rattle.typing.specs.declared.Answer.the-variants.{Typed}
 use Rattle.typing.specs.Members.{typeIn, fieldIn, fieldsOf, definedIn}
 use Rattle.typing.specs.Environments.{TypeOf, bodyEnv}
 use Rattle.typing.specs.Typing.{inferred, checked}
-use Rattle.typing.specs.Published.{WfType, T-WF-UNIT, Sub, T-SUB-CLASS, T-SUB-INTERFACE-LEFT, T-SUB-INTERFACE-RIGHT, T-SUB-TRANS, T-SUB-EQ, WfEnv, MsigIn, msigs-left, msigs-right, msigs-class, FieldIn, fields-class, any-type, Infer, BD-INFER-VAR, BD-INFER-LET, BD-INFER-LOCK, BD-INFER-FJ, Check, BD-CHECK-NULL, BD-CHECK-SUB, BD-CHECK-LET, BD-CHECK-LOCK, BD-CHECK-FJ, WfMethod, WF-METHOD, DefIn, WfClass, WF-CLASS, MsigsFunction, WfProgram, WF-PROGRAM}
+use Rattle.typing.specs.Published.{WfType, T-WF-UNIT, Sub, T-SUB-CLASS, T-SUB-INTERFACE-LEFT, T-SUB-INTERFACE-RIGHT, T-SUB-TRANS, T-SUB-EQ, WfEnv, MsigIn, msigs-left, msigs-right, msigs-class, FieldIn, fields-class, NullFits, no-int, lock-no-int, Infer, BD-INFER-VAR, BD-INFER-LET, BD-INFER-LOCK, BD-INFER-FJ, Check, BD-CHECK-NULL, BD-CHECK-SUB, BD-CHECK-LET, BD-CHECK-LOCK, BD-CHECK-FJ, WfMethod, WF-METHOD, DefIn, WfClass, WF-CLASS, MsigsFunction, WfProgram, WF-PROGRAM}
 use Rattle.typing.proofs.Types.{type-wf, parent-types}
+use Rattle.typing.proofs.Int.{nullable-up}
 use Rattle.typing.proofs.Members.{field-in, msig-from}
 use Rattle.typing.proofs.Rules.{env-more, infer-null, infer-type, infer-complete, check-complete}
 use Rattle.machine.specs.Config.{Code}
@@ -28,10 +29,10 @@ pub meets-below : {s : Code} {t u : ℕ} {w : Want} → Sub (s .program) t u →
 meets-below b meets-any = meets-any
 meets-below b (meets-type c) = meets-type (T-SUB-TRANS b c)
 
--- Null meets whatever is wanted.
-pub null-meets : {s : Code} (w : Want) → NullMeets s w
-null-meets any = null-any
-null-meets (upto t) = null-type any-type
+-- Null fits Unit.
+pub null-unit : (p : Program) → NullFits p 0
+unfolding declarationAt
+null-unit p = no-int (λ e. let z : _≡_ {A = ℕ} 0 1 = cc in omega arith)
 
 pub check-gives : {s : Code} {Γ : List Slot} {a : Expr} {t : ℕ} → Check (s .program) Γ a t → Gives s Γ a (upto t)
 check-gives (BD-CHECK-NULL w i o) = gives-null (null-type o)
@@ -40,12 +41,17 @@ check-gives (BD-CHECK-LET h c) = gives-let h (check-gives c)
 check-gives (BD-CHECK-LOCK h o c) = gives-lock h o (check-gives c)
 check-gives (BD-CHECK-FJ d h k c) = gives-fork d h k (check-gives c)
 
-pub gives-meets : {s : Code} {Γ : List Slot} {a : Expr} {t : ℕ} {w : Want} → Gives s Γ a (upto t) → Meets s t w → Gives s Γ a w
-gives-meets {w = w} (gives-null n) m = gives-null (null-meets w)
-gives-meets (gives-type h (meets-type b)) m = gives-type h (meets-below b m)
-gives-meets (gives-let h g) m = gives-let h (gives-meets g m)
-gives-meets (gives-lock h o g) m = gives-lock h o (gives-meets g m)
-gives-meets (gives-fork d h k g) m = gives-fork d h k (gives-meets g m)
+-- What has a field or a method is not Int.
+pub field-no-int : {p : Program} {c f u : ℕ} → FieldIn p c f u → declarationAt p c ≡ an-int → ⊥
+field-no-int (fields-class d m) e = let z : _≡_ {A = ℕ} 0 1 = cc in omega arith
+
+pub method-no-int : {p : Program} {c : ℕ} {g : Signature} → MsigIn p c g → declarationAt p c ≡ an-int → ⊥
+method-no-int i e = rw e at (msig-from i)
+
+-- Null gives what is wanted only if it meets that.
+pub null-given : {s : Code} {Γ : List Slot} {n : Point} {w : Want} → Gives s Γ (null n) w → NullMeets s w
+null-given (gives-null m) = m
+null-given (gives-type h m) = absurd (let e = infer-null h in let z : _≡_ {A = ℕ} 0 1 = cc in omega arith)
 
 -- What a let, a lock and a fork that give what is wanted are put together of.
 pub let-parts : {s : Code} {Γ : List Slot} {n x : ℕ} {a b : Expr} {w : Want} → Gives s Γ (bind n x a b) w
@@ -53,9 +59,10 @@ pub let-parts : {s : Code} {Γ : List Slot} {n x : ℕ} {a b : Expr} {w : Want} 
 let-parts (gives-type (BD-INFER-LET {t₁ = t} h k) m) = (t, h, gives-type k m)
 let-parts (gives-let {t = t} h g) = (t, h, g)
 
-pub lock-parts : {s : Code} {Γ : List Slot} {n x : ℕ} {a : Expr} {w : Want} → Gives s Γ (lock n x a) w → (t : ℕ) × TypeOf Γ x t × Gives s Γ a w
-lock-parts (gives-type (BD-INFER-LOCK {t₂ = t} (BD-INFER-VAR z h) o k) m) = (t, h, gives-type k m)
-lock-parts (gives-lock {t = t} (BD-INFER-VAR z h) o g) = (t, h, g)
+pub lock-parts : {s : Code} {Γ : List Slot} {n x : ℕ} {a : Expr} {w : Want} → Gives s Γ (lock n x a) w
+    → (t : ℕ) × TypeOf Γ x t × Gives s Γ a w × (declarationAt (s .program) t ≡ an-int → ⊥)
+lock-parts (gives-type (BD-INFER-LOCK {t₂ = t} (BD-INFER-VAR z h) (lock-no-int o) k) m) = (t, h, gives-type k m, o)
+lock-parts (gives-lock {t = t} (BD-INFER-VAR z h) (lock-no-int o) g) = (t, h, g, o)
 
 pub fork-parts : {s : Code} {Γ : List Slot} {n : ℕ} {a b c : Expr} {w : Want} → Gives s Γ (fork n a b c) w → Gives s Γ a any × Gives s Γ b any × Gives s Γ c w
 fork-parts (gives-type (BD-INFER-FJ d h k l) m) = (gives-type h meets-any, gives-type k meets-any, gives-type l m)
@@ -91,6 +98,8 @@ build-point n f (n-new c) = refl
 build-point n f (n-cast t p) = refl
 build-point n f (n-fork p q r) = refl
 build-point n f (n-lock x p) = refl
+build-point n f (n-constant z) = refl
+build-point n f (n-add x y) = refl
 
 -- The method that a class defines for a signature, with its body at a node.
 pub record Defined (s : Code) (c : ℕ) (g : Signature) : Type 0 where
@@ -120,6 +129,18 @@ module _ {s : Code} {start : ℕ} (acc : AcceptedCode s start) where
   below-method (T-SUB-INTERFACE-RIGHT d) i = msigs-right d i
   below-method (T-SUB-TRANS b c) i = below-method b (below-method c i)
   below-method (T-SUB-EQ w) i = i
+
+  -- What null meets it meets further up, and so does what is checked.
+  pub null-meets : {t : ℕ} {w : Want} → NullFits (s .program) t → Meets s t w → NullMeets s w
+  null-meets o meets-any = null-any
+  null-meets o (meets-type b) = null-type (nullable-up (s .program) (acc .regular) b o)
+
+  pub gives-meets : {Γ : List Slot} {a : Expr} {t : ℕ} {w : Want} → Gives s Γ a (upto t) → Meets s t w → Gives s Γ a w
+  gives-meets (gives-null (null-type o)) m = gives-null (null-meets o m)
+  gives-meets (gives-type h (meets-type b)) m = gives-type h (meets-below b m)
+  gives-meets (gives-let h g) m = gives-let h (gives-meets g m)
+  gives-meets (gives-lock h o g) m = gives-lock h o (gives-meets g m)
+  gives-meets (gives-fork d h k g) m = gives-fork d h k (gives-meets g m)
 
   -- What is inferred is what the walk computes, so it is one type.
   pub infer-computes : {Γ : List Slot} {e : Expr} {t : ℕ} → Infer (s .program) Γ e t → inferred (s .program) Γ e ≡ Typed t
@@ -153,7 +174,7 @@ module _ {s : Code} {start : ℕ} (acc : AcceptedCode s start) where
   gives-some w = (to w, λ c. gives-meets (check-gives (c .1)) meets-any)
     where
       to : {Γ : List Slot} {e : Expr} → WfEnv (s .program) Γ → Gives s Γ e any → (t : ℕ) × Check (s .program) Γ e t
-      to w (gives-null m) = (0, BD-CHECK-NULL w T-WF-UNIT any-type)
+      to w (gives-null m) = (0, BD-CHECK-NULL w T-WF-UNIT (null-unit (s .program)))
       to w (gives-type {t = t} h m) = (t, BD-CHECK-SUB h (T-SUB-EQ (infer-wf h)) (infer-null h))
       to w (gives-let {x = x} h g) = let r = to (env-next x w h) g in (r .0, BD-CHECK-LET h (r .1))
       to w (gives-lock h o g) = let r = to w g in (r .0, BD-CHECK-LOCK h o (r .1))
@@ -173,7 +194,7 @@ module _ {s : Code} {start : ℕ} (acc : AcceptedCode s start) where
       (is-class (s .program) c k d, rw d (rw d at (field-in (s .program) (acc .regular) c f u .1 (fields-class d m))))
 
   class-wf : {c : ℕ} → IsClass (s .program) c → WfType (s .program) c
-  class-wf {c} i = type-wf (s .program) c .0 (i .last)
+  class-wf {c} i = type-wf (s .program) c .0 (omega (arith, i .last))
 
   pub class-below : {c : ℕ} → IsClass (s .program) c → Sub (s .program) c c
   class-below i = T-SUB-EQ (class-wf i)

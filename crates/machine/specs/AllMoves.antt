@@ -6,16 +6,17 @@ use mathlib.Core.Bool.{Bool, true, false}
 use mathlib.Core.List.{List, [], _∷_}
 use mathlib.Core.Option.{Option, none, some}
 use lib.ListN.{length, getD}
+use lib.IntN.{ℤ, pos, negsuc}
 use Rattle.script.specs.Lists.{run}
-use Rattle.script.specs.Syntax.{Point, Expr, null, var, Node, n-null, n-var, n-select, n-update, n-call, n-bind, n-new, n-cast, n-fork, n-lock, build}
-use Rattle.script.specs.Syntax.{Signature, lists, Program}
+use Rattle.script.specs.Syntax.{Point, Expr, null, var, Node, n-null, n-var, n-select, n-update, n-call, n-bind, n-new, n-cast, n-fork, n-lock, n-constant}
+use Rattle.script.specs.Syntax.{n-add, build, Signature, lists, Program}
 use Rattle.machine.specs.declared.Store.{Store}
 use Rattle.machine.specs.declared.Store.the-variants.{Objects, Bindings, Frames, Threads}
 use Rattle.machine.specs.declared.Ending.the-variants.{Finished, Failed, Deadlocked}
 use Rattle.machine.specs.declared.Stop.{Stop}
 use Rattle.machine.specs.declared.Stop.the-variants.{Spent, Ended, Full}
 use Rattle.machine.specs.declared.Value.{Value}
-use Rattle.machine.specs.declared.Value.the-variants.{Null as nil, Ref as ref}
+use Rattle.machine.specs.declared.Value.the-variants.{Null as nil, Ref as ref, Int as int}
 use Rattle.machine.specs.declared.Frame.{Frame}
 use Rattle.machine.specs.declared.Frame.the-variants.{Awaits as awaits, Casts as casts, Locks as locks}
 use Rattle.machine.specs.Config.{Code, Object, Binding, Tree, running, returning, failed, join, Config}
@@ -25,7 +26,8 @@ use Rattle.machine.specs.Silent.{quietIn}
 use Rattle.machine.specs.Runs.{Report, report}
 use Rattle.machine.specs.Decide.{wellFormedTest}
 
--- The script. Type 1 is the interface I { 5(I) : I }, type 2 the class C of it, with fields 8 : I and 7 : C; x is variable 2, y is 3, z is 4. Its nodes:
+-- The script. Type 1 is the interface I { 5(I) : I }, type 2 the class C of it, with fields 8 : I, 7 : C and 9 : Int, which is type 3, and a method 6(Int) : C
+-- besides; x is variable 2, y is 3, z is 4, the number m is 6, and n is the parameter of method 6. Its nodes:
 unfoldable pub exampleNodes : List Node
 exampleNodes =
     -- 0, 1: let x = new C in
@@ -57,6 +59,20 @@ exampleNodes =
     n-var 2 ∷
     -- 20, the body of method 5: its parameter
     n-var 1 ∷
+    -- 21, 22, 23, the body of method 6: let 5 = (this.9 = -1) in
+    n-bind 5 22 24 ∷
+    n-update 0 9 23 ∷
+    n-constant (negsuc 0) ∷
+    -- 24, 25: let m = this.9 in
+    n-bind 6 25 26 ∷
+    n-select 0 9 ∷
+    -- 26, 27: let 5 = m + n in
+    n-bind 5 27 28 ∷
+    n-add 6 1 ∷
+    -- 28, 29, 30: let 5 = n + n in null
+    n-bind 5 29 30 ∷
+    n-add 1 1 ∷
+    n-null ∷
     []
 
 -- The expressions of nodes that are numbered from n on.
@@ -72,8 +88,11 @@ exampleProgram =
       classes =
           record {
             implements = 1;
-            fields = record { name = 8; type = 1 } ∷ record { name = 7; type = 2 } ∷ [];
-            methods = record { signature = five; body = var 20 1 } ∷ [];
+            fields = record { name = 8; type = 1 } ∷ record { name = 7; type = 2 } ∷ record { name = 9; type = 3 } ∷ [];
+            methods =
+                record { signature = five; body = var 20 1 } ∷
+                record { signature = record { name = 6; param = 3; result = 2 }; body = getD (expressions 0 exampleNodes) 21 (null 0) } ∷
+                [];
           } ∷
           [];
       start = getD (expressions 0 exampleNodes) 0 (null 0);
@@ -88,12 +107,15 @@ exampleCode =
       expr = λ n. getD (expressions 0 exampleNodes) n (null 0);
     }
 
--- An object of class C, open or shut, with the values of fields 8 and 7.
+-- An object of class C, open or shut, with the values of fields 8 and 7, and 0 in field 9; an open one with a number there.
 abbrev pub anOpen : Value → Value → Object
-anOpen v w = record { class = 2; shut = false; fields = v ∷ w ∷ [] }
+anOpen v w = record { class = 2; shut = false; fields = v ∷ w ∷ int (pos 0) ∷ [] }
 
 abbrev pub aShut : Value → Value → Object
-aShut v w = record { class = 2; shut = true; fields = v ∷ w ∷ [] }
+aShut v w = record { class = 2; shut = true; fields = v ∷ w ∷ int (pos 0) ∷ [] }
+
+abbrev pub aCounter : ℤ → Object
+aCounter z = record { class = 2; shut = false; fields = nil ∷ nil ∷ int z ∷ [] }
 
 -- A binding of name x and type t: its value, and the binding beneath. In most rows x : C is the oldest, so environment 1 has it, and y : I is on it in
 -- environment 2.
@@ -102,6 +124,10 @@ boundTo x t v e = record { name = x; type = t; value = v; link = e }
 
 abbrev pub xy : Value → Value → List Binding
 xy v w = boundTo 3 1 w 1 ∷ boundTo 2 2 v 0 ∷ []
+
+-- In method 6 this : C is object 0, n : Int is on it in environment 2, and m : Int in environment 3: the numbers of m and n.
+abbrev pub mn : ℤ → ℤ → List Binding
+mn m n = boundTo 6 3 (int m) 2 ∷ boundTo 1 3 (int n) 1 ∷ boundTo 0 2 (ref 0) 0 ∷ []
 
 -- A join at the script's one fork: its last part is node 18, in environment 2.
 abbrev pub joinAt : List Frame → Tree → Tree → Tree
@@ -165,6 +191,10 @@ examples =
     (joinAt [] (running 18 2 []) (running 19 2 [])) ∷
     -- "null becomes a value"
     silentTo (anOpen nil nil ∷ []) (xy (ref 0) nil) (running 9 2 (awaits 8 2 ∷ awaits 7 2 ∷ [])) 0 (returning nil (awaits 8 2 ∷ awaits 7 2 ∷ [])) ∷
+    -- a constant "becomes a value silently as null does"
+    silentTo (aCounter (pos 7) ∷ []) (mn (pos 0) (pos 0))
+    (running 23 2 (awaits 22 2 ∷ awaits 21 2 ∷ [])) 0
+    (returning (int (negsuc 0)) (awaits 22 2 ∷ awaits 21 2 ∷ [])) ∷
     -- "kinds 3, 4, 5 and 7 descend into their first-run part and leave a frame"
     silentTo (anOpen nil nil ∷ []) (xy (ref 0) nil) (running 8 2 (awaits 7 2 ∷ [])) 0 (running 9 2 (awaits 8 2 ∷ awaits 7 2 ∷ [])) ∷
     silentTo (anOpen nil nil ∷ []) (xy nil (ref 0)) (running 11 2 (awaits 10 2 ∷ [])) 0 (running 12 2 (awaits 11 2 ∷ awaits 10 2 ∷ [])) ∷
@@ -174,9 +204,22 @@ examples =
     movesTo (anOpen nil nil ∷ anOpen nil nil ∷ anOpen nil nil ∷ []) (boundTo 2 2 (ref 2) 1 ∷ boundTo 2 2 (ref 1) 1 ∷ boundTo 2 2 (ref 0) 0 ∷ [])
     (running 19 2 []) 0
     (returning (ref 1) []) ∷
-    -- "a read gives the field"
+    -- "a read gives the field", an object or a number
     movesTo (anOpen nil (ref 0) ∷ []) (xy (ref 0) nil) (running 15 2 []) 0 (returning (ref 0) []) ∷
-    -- "new makes an open object with null fields"
+    movesTo (aCounter (negsuc 6) ∷ []) (mn (pos 0) (pos 0)) (running 25 2 (awaits 24 2 ∷ [])) 0 (returning (int (negsuc 6)) (awaits 24 2 ∷ [])) ∷
+    -- "kind 11 adds variables a and b .. in one step": m + n, and n + n
+    movesTo (aCounter (pos 0) ∷ []) (mn (pos 2) (negsuc 4)) (running 27 3 (awaits 26 3 ∷ [])) 0 (returning (int (negsuc 2)) (awaits 26 3 ∷ [])) ∷
+    movesTo (aCounter (pos 0) ∷ []) (mn (pos 2) (negsuc 4)) (running 29 3 (awaits 28 3 ∷ [])) 0 (returning (int (negsuc 9)) (awaits 28 3 ∷ [])) ∷
+    -- the last and the first number of the range; the next "fails the thread as null does": the object of its lock frame stays shut
+    movesTo (aShut nil nil ∷ []) (mn (pos 2147483646) (pos 1))
+    (running 27 3 (locks 0 ∷ awaits 26 3 ∷ [])) 0
+    (returning (int (pos 2147483647)) (locks 0 ∷ awaits 26 3 ∷ [])) ∷
+    movesTo (aShut nil nil ∷ []) (mn (negsuc 2147483646) (negsuc 0))
+    (running 27 3 (locks 0 ∷ awaits 26 3 ∷ [])) 0
+    (returning (int (negsuc 2147483647)) (locks 0 ∷ awaits 26 3 ∷ [])) ∷
+    movesTo (aShut nil nil ∷ []) (mn (pos 2147483647) (pos 1)) (running 27 3 (locks 0 ∷ awaits 26 3 ∷ [])) 0 failed ∷
+    movesTo (aShut nil nil ∷ []) (mn (negsuc 2147483647) (negsuc 0)) (running 27 3 (locks 0 ∷ awaits 26 3 ∷ [])) 0 failed ∷
+    -- "new makes an open object with null fields", but "The initial value of a field now follows its type, null or 0"
     changesTo (anOpen (ref 0) nil ∷ []) (xy nil nil)
     (running 4 1 (casts 3 ∷ awaits 2 1 ∷ [])) 0
     (anOpen (ref 0) nil ∷ anOpen nil nil ∷ []) (xy nil nil) (returning (ref 1) (casts 3 ∷ awaits 2 1 ∷ [])) ∷
@@ -184,6 +227,9 @@ examples =
     changesTo (anOpen nil nil ∷ anOpen (ref 0) nil ∷ []) (xy (ref 1) nil)
     (returning (ref 0) (awaits 8 2 ∷ awaits 7 2 ∷ [])) 0
     (anOpen nil nil ∷ anOpen (ref 0) (ref 0) ∷ []) (xy (ref 1) nil) (returning nil (awaits 7 2 ∷ [])) ∷
+    changesTo (aCounter (pos 7) ∷ []) (mn (pos 0) (pos 0))
+    (returning (int (negsuc 0)) (awaits 22 2 ∷ awaits 21 2 ∷ [])) 0
+    (aCounter (negsuc 0) ∷ []) (mn (pos 0) (pos 0)) (returning nil (awaits 21 2 ∷ [])) ∷
     -- "a waiting let adds one binding, its type the one inferred for the let's first part under the frame's bindings": of (I) new C, whose object is of class
     -- C; of x : C, where a newer x : I is not among the frame's bindings
     changesTo (anOpen nil nil ∷ []) (xy nil nil)

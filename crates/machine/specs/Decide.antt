@@ -7,14 +7,16 @@ use mathlib.Core.Option.{Option, none, some}
 use lib.Dec.{eqb, leb, ltb}
 use lib.ListN.{length}
 use Rattle.words.specs.Word.{WORD}
+use Rattle.words.specs.Integer.{rangeTest}
 use Rattle.script.specs.Questions.{allOf}
-use Rattle.script.specs.Syntax.{Point, Node, n-null, n-var, n-select, n-update, n-call, n-bind, n-new, n-cast, n-fork, n-lock, Expr, Slot}
+use Rattle.script.specs.Syntax.{Point, Node, n-null, n-var, n-select, n-update, n-call, n-bind, n-new, n-cast, n-fork, n-lock, n-constant, n-add}
+use Rattle.script.specs.Syntax.{Expr, Slot, intOf}
 use Rattle.typing.specs.declared.Answer.{Answer}
 use Rattle.typing.specs.declared.Answer.the-variants.{Typed, Faulty}
 use Rattle.typing.specs.Members.{below, typeIn, fieldIn, methodIn, fieldsOf}
-use Rattle.typing.specs.Typing.{inferred, checked}
+use Rattle.typing.specs.Typing.{nullTest, inferred, checked}
 use Rattle.machine.specs.declared.Value.{Value}
-use Rattle.machine.specs.declared.Value.the-variants.{Null as nil, Ref as ref}
+use Rattle.machine.specs.declared.Value.the-variants.{Null as nil, Ref as ref, Int as int}
 use Rattle.machine.specs.declared.Frame.{Frame}
 use Rattle.machine.specs.declared.Frame.the-variants.{Awaits as awaits, Casts as casts, Locks as locks}
 use Rattle.machine.specs.Config.{Code, Object, Binding, Stores, Tree, running, returning, failed, join, Config}
@@ -36,7 +38,7 @@ abbrev pub only : {A : Type 0} → Bool → Option A → Option A
 only true o = o
 only false o = none
 
--- Meets, ValueFits, Gives and NodeGives
+-- Meets, NullMeets, ValueFits, Gives and NodeGives
 abbrev pub meetsTest : Code → ℕ → Want → Bool
 meetsTest s t any = true
 meetsTest s t (upto u) = below (s .program) t u
@@ -45,9 +47,14 @@ abbrev pub objectTest : Code → Want → Option Object → Bool
 objectTest s w none = false
 objectTest s w (some x) = meetsTest s (x .class) w
 
+abbrev pub nullMeetsTest : Code → Want → Bool
+nullMeetsTest s any = true
+nullMeetsTest s (upto t) = nullTest (s .program) t
+
 abbrev pub valueFitsTest : Code → List Object → Value → Want → Bool
-valueFitsTest s xs nil w = true
+valueFitsTest s xs nil w = nullMeetsTest s w
 valueFitsTest s xs (ref o) w = objectTest s w (object xs o)
+valueFitsTest s xs (int z) w = rangeTest z && meetsTest s (intOf (s .program)) w
 
 abbrev pub isTyped : Answer → Bool
 isTyped (Typed t) = true
@@ -74,7 +81,7 @@ fieldsTest s xs (d ∷ ds) (v ∷ l) = valueFitsTest s xs v (upto (d .type)) && 
 abbrev pub bindingTest : Code → List Object → ℕ → Binding → Bool
 bindingTest s xs older b =
     ltb (b .name) WORD
-    && (leb (b .type) (length (s .program .interfaces) + length (s .program .classes))
+    && (leb (b .type) (intOf (s .program))
     && (leb (b .link) older && valueFitsTest s xs (b .value) (upto (b .type))))
 
 abbrev pub bindingsTest : Code → List Object → List Binding → Bool
@@ -104,6 +111,8 @@ awaited s Γ (n-new c) v = none
 awaited s Γ (n-cast t a) v = none
 awaited s Γ (n-fork a b c) v = none
 awaited s Γ (n-lock x a) v = none
+awaited s Γ (n-constant z) v = none
+awaited s Γ (n-add x y) v = none
 
 abbrev pub castType : Node → Option ℕ
 castType n-null = none
@@ -116,6 +125,8 @@ castType (n-new c) = none
 castType (n-cast t a) = some t
 castType (n-fork a b c) = none
 castType (n-lock x a) = none
+castType (n-constant z) = none
+castType (n-add x y) = none
 
 -- What the frames wait for, if they are typed: an expectation goes up from the bottom.
 abbrev pub expects : Code → List Binding → Want → List Frame → Option Want

@@ -6,18 +6,21 @@ use mathlib.Core.List.{List, [], _∷_, _++_, map}
 use mathlib.Core.Option.{Option, none, some}
 use lib.Dec.{eqb, ltb}
 use lib.ListN.{length}
+use lib.IntN.{ℤ, pos, _+ℤ_}
+use Rattle.words.specs.Integer.{rangeTest}
 use Rattle.limits.specs.Limits.{OBJECTS, BINDINGS, FRAMES, THREADS}
 use Rattle.script.specs.Lists.{named}
-use Rattle.script.specs.Syntax.{Point, Node, n-null, n-var, n-select, n-update, n-call, n-bind, n-new, n-cast, n-fork, n-lock, pointOf, Slot, Method, Program}
+use Rattle.script.specs.Syntax.{Point, Node, n-null, n-var, n-select, n-update, n-call, n-bind, n-new, n-cast, n-fork, n-lock, n-constant, n-add}
+use Rattle.script.specs.Syntax.{pointOf, Slot, Method, Program}
 use Rattle.script.specs.Reading.{programOf}
 use Rattle.typing.specs.declared.Answer.{Answer}
 use Rattle.typing.specs.declared.Answer.the-variants.{Typed, Faulty}
 use Rattle.typing.specs.Members.{fieldsOf, definedIn}
-use Rattle.typing.specs.Typing.{inferred}
+use Rattle.typing.specs.Typing.{inferred, intTest}
 use Rattle.machine.specs.declared.Store.{Store}
 use Rattle.machine.specs.declared.Store.the-variants.{Objects, Bindings, Frames, Threads}
 use Rattle.machine.specs.declared.Value.{Value}
-use Rattle.machine.specs.declared.Value.the-variants.{Null as nil, Ref as ref}
+use Rattle.machine.specs.declared.Value.the-variants.{Null as nil, Ref as ref, Int as int}
 use Rattle.machine.specs.declared.Frame.{Frame}
 use Rattle.machine.specs.declared.Frame.the-variants.{Awaits as awaits, Casts as casts, Locks as locks}
 use Rattle.machine.specs.Config.{Code, Object, Binding, Stores, Tree, running, returning, failed, join, Config}
@@ -77,9 +80,13 @@ setField x [] l f = l
 setField x (d ∷ ds) [] f = []
 setField x (d ∷ ds) (v ∷ l) f = cond (eqb (d .name) f) (x ∷ l) (v ∷ setField x ds l f)
 
--- f₁ ↦ null, .., fₙ ↦ null: the initial value of a field by its type, and those of an object's fields.
+-- f₁ ↦ null, .., fₙ ↦ null, but "The initial value of a field now follows its type, null or 0": that of a field by its type, and those of an object's fields.
+abbrev pub initialBy : Bool → Value
+initialBy true = int (pos 0)
+initialBy false = nil
+
 abbrev pub initialOf : Program → ℕ → Value
-initialOf p t = nil
+initialOf p t = initialBy (intTest p t)
 
 abbrev pub initials : Program → List Slot → List Value
 initials p [] = []
@@ -119,10 +126,11 @@ give st fs none = still
 give st fs (some b) = moved st (returning (b .value) fs)
 
 -- The target of a read, a write, a call or a lock: "Targets are tested after the argument; null fails the thread." "Lock: null fails".
--- With an object the move goes on.
+-- With an object the move goes on. A number is no target: "Int is no target of field, call or lock (13)".
 abbrev pub onValue : Stores → (ℕ → Option Object → Outcome) → Value → Outcome
 onValue st go nil = moved st failed
 onValue st go (ref o) = go o (object (st .objects) o)
+onValue st go (int z) = still
 
 abbrev pub onTarget : Stores → (ℕ → Option Object → Outcome) → Option Binding → Outcome
 onTarget st go none = still
@@ -133,7 +141,7 @@ abbrev pub descend : Stores → List Frame → ℕ → Frame → Point → ℕ �
 descend st fs e f a zero = full Frames
 descend st fs e f a (suc k) = moved st (running a e (f ∷ fs))
 
--- "new makes an open object with null fields"
+-- "new makes an open object with null fields", those of type Int with 0.
 abbrev pub make : Code → Stores → List Frame → ℕ → ℕ → Outcome
 make s st fs c zero = full Objects
 make s st fs c (suc k) =
@@ -225,6 +233,23 @@ callObject s st fs m v k o (some y) = callMethod st fs v o (y .class) (definedIn
 abbrev pub callTarget : Code → Stores → List Frame → ℕ → Value → ℕ → Option Binding → Outcome
 callTarget s st fs m v k q = onTarget st (callObject s st fs m v k) q
 
+-- "kind 11 adds variables a and b .. in one step": the sum, if it is in the range. "A sum outside the range fails the thread as null does."
+abbrev pub giveSum : Stores → List Frame → ℤ → Bool → Outcome
+giveSum st fs z true = moved st (returning (int z) fs)
+giveSum st fs z false = moved st failed
+
+abbrev pub addValues : Stores → List Frame → Value → Value → Outcome
+addValues st fs nil w = still
+addValues st fs (ref o) w = still
+addValues st fs (int x) nil = still
+addValues st fs (int x) (ref o) = still
+addValues st fs (int x) (int y) = giveSum st fs (x +ℤ y) (rangeTest (x +ℤ y))
+
+abbrev pub addBound : Stores → List Frame → Option Binding → Option Binding → Outcome
+addBound st fs none q = still
+addBound st fs (some b) none = still
+addBound st fs (some b) (some c) = addValues st fs (b .value) (c .value)
+
 -- A thread at the node n, whose view is the last argument.
 abbrev pub runNode : Code → Places → Stores → List Frame → List Frame → ℕ → Point → Node → Outcome
 runNode s room st above fs e n n-null = moved st (returning nil fs)
@@ -237,6 +262,8 @@ runNode s room st above fs e n (n-new c) = make s st fs c (room .objects)
 runNode s room st above fs e n (n-cast t a) = descend st fs e (casts n) a (room .frames)
 runNode s room st above fs e n (n-fork a b c) = spawn st fs e a b c (room .threads)
 runNode s room st above fs e n (n-lock x a) = lockTarget st above fs a e (room .frames) (find (scope (st .bindings) e) x)
+runNode s room st above fs e n (n-constant z) = moved st (returning (int z) fs)
+runNode s room st above fs e n (n-add x y) = addBound st fs (find (scope (st .bindings) e) x) (find (scope (st .bindings) e) y)
 
 -- A value at a node that waits in an environment: a write, a call or a let; no other node does.
 abbrev pub wake : Code → Places → Stores → Value → List Frame → ℕ → Node → Outcome
@@ -250,6 +277,8 @@ wake s room st v fs e (n-new c) = still
 wake s room st v fs e (n-cast t a) = still
 wake s room st v fs e (n-fork a b c) = still
 wake s room st v fs e (n-lock x a) = still
+wake s room st v fs e (n-constant z) = still
+wake s room st v fs e (n-add x y) = still
 
 -- A thread with a value. "A finished thread has a value and no frame", "a waiting cast vanishes", "A value at a lock frame opens the object."
 abbrev pub resume : Code → Places → Stores → Value → List Frame → Outcome

@@ -23,7 +23,7 @@ pub record Promised (s : Code) (lim : Places) (c : Config) : Type 0 where
       → (u : ℕ) × FieldIn (s .program) (y .class) f u
   pub method-asked : (m : ℕ) (y : Object) (p : Path) (t : Tree) → part (c .tree) p ≡ some t → AsksMethod s (c .stores) m y t
       → (t u : ℕ) × MsigIn (s .program) (y .class) (record { name = m; param = t; result = u })
-  -- every binding and field holds null or an object whose class is below its type
+  -- every binding and field holds null, an object whose class is below its type, or a number where its type is Int
   pub binding-typed : (b : Binding) → b ∈ c .stores .bindings → ValueFits s (c .stores .objects) (b .value) (upto (b .type))
   pub field-typed : (o : ℕ) (y : Object) (f u : ℕ) (v : Value) → object (c .stores .objects) o ≡ some y → FieldIn (s .program) (y .class) f u
       → fieldValue (fieldsOf (s .program) (y .class)) (y .fields) f ≡ some v → ValueFits s (c .stores .objects) v (upto u)
@@ -42,8 +42,8 @@ abbrev pub NamesPlace : Tree → Option ℕ → Path → Type 0
 NamesPlace t none q = ⊥
 NamesPlace t (some n) q = locate t n ≡ some q
 
--- A thread that is failed in e, one choice after d, was so in d; or that choice names its very place, where in d a thread stood before a null target or a join
--- with a failed side.
+-- A thread that is failed in e, one choice after d, was so in d; or that choice names its very place, where in d a thread stood before a null target, a sum
+-- outside the range or a join with a failed side.
 abbrev pub FailsOnNull : Code → Option ℕ → Config → Config → Type 0
 FailsOnNull s o d e =
     (q : Path) → part (e .tree) q ≡ some failed

@@ -4,16 +4,17 @@ use mathlib.Core.Path.{_≡_}
 use mathlib.Core.Bool.{Bool, true, false}
 use mathlib.Core.List.{List, _∷_}
 use mathlib.Core.Option.{Option, none, some}
-use Rattle.script.specs.Syntax.{Point, Expr, null, var, select, update, call, bind, new, cast, fork, lock}
-use Rattle.script.specs.Syntax.{Node, n-null, n-var, n-select, n-update, n-call, n-bind, n-new, n-cast, n-fork, n-lock}
-use Rattle.machine.specs.declared.Value.the-variants.{Null as nil}
+use lib.IntN.{ℤ}
+use Rattle.script.specs.Syntax.{Point, Expr, null, var, select, update, call, bind, new, cast, fork, lock, constant, add}
+use Rattle.script.specs.Syntax.{Node, n-null, n-var, n-select, n-update, n-call, n-bind, n-new, n-cast, n-fork, n-lock, n-constant, n-add}
+use Rattle.machine.specs.declared.Value.the-variants.{Null as nil, Int as int}
 use Rattle.machine.specs.declared.Frame.{Frame}
 use Rattle.machine.specs.declared.Frame.the-variants.{Awaits as awaits, Casts as casts}
 use Rattle.machine.specs.Config.{Code, Stores, Tree, running, returning, failed, join, Config}
 use Rattle.machine.specs.Machine.{Places, moved, Path, here, left, right, move, part}
 
--- "Silent: null becomes a value; kinds 3, 4, 5 and 7 descend into their first-run part and leave a frame." One table of the kinds; `forNull` is the answer for
--- null.
+-- "Silent: null becomes a value; kinds 3, 4, 5 and 7 descend into their first-run part and leave a frame." A constant "becomes a value silently as null does".
+-- One table of the kinds; `forNull` is the answer for null and a constant.
 abbrev pub silentKind : Bool → Node → Bool
 silentKind forNull n-null = forNull
 silentKind forNull (n-var x) = false
@@ -25,6 +26,8 @@ silentKind forNull (n-new c) = false
 silentKind forNull (n-cast t a) = true
 silentKind forNull (n-fork a b c) = false
 silentKind forNull (n-lock x a) = false
+silentKind forNull (n-constant z) = forNull
+silentKind forNull (n-add x y) = false
 
 -- The move of a thread at this node is silent; it descends.
 abbrev pub quiet : Node → Bool
@@ -44,6 +47,8 @@ quietIn s (some (join fs a e l r)) = false
 pub data SilentMove (s : Code) : Tree → Tree → Type 0 where
   -- kind 0
   null-value : {a : Point} {e : ℕ} {fs : List Frame} → s .view a ≡ n-null → SilentMove s (running a e fs) (returning nil fs)
+  -- kind 10
+  constant-value : {a : Point} {e : ℕ} {z : ℤ} {fs : List Frame} → s .view a ≡ n-constant z → SilentMove s (running a e fs) (returning (int z) fs)
   -- kinds 3, 4, 5 and 7
   into-write : {a b : Point} {e x f : ℕ} {fs : List Frame} → s .view a ≡ n-update x f b → SilentMove s (running a e fs) (running b e (awaits a e ∷ fs))
   into-call : {a b : Point} {e x m : ℕ} {fs : List Frame} → s .view a ≡ n-call x m b → SilentMove s (running a e fs) (running b e (awaits a e ∷ fs))
@@ -62,7 +67,8 @@ pub data ChangedAt (R : Tree → Tree → Type 0) : Path → Tree → Tree → T
 abbrev pub SilentAt : Code → Path → Tree → Tree → Type 0
 SilentAt s p t u = ChangedAt (SilentMove s) p t u
 
--- How many silent moves a thread has before it at an expression, along "their first-run part": one for each descent and one for a null at the end.
+-- How many silent moves a thread has before it at an expression, along "their first-run part": one for each descent and one for a null or constant at the
+-- end.
 abbrev pub chain : Expr → ℕ
 chain (null n) = 1
 chain (var n x) = 0
@@ -74,6 +80,8 @@ chain (new n c) = 0
 chain (cast n t e) = suc (chain e)
 chain (fork n e₁ e₂ e₃) = 0
 chain (lock n x e) = 0
+chain (constant n z) = 1
+chain (add n x y) = 0
 
 -- And the part of the tree at a place.
 abbrev pub due : Code → Option Tree → ℕ

@@ -5,8 +5,10 @@ use mathlib.Core.Path.{_≡_}
 use mathlib.Core.List.{List, [], _∷_}
 use mathlib.Core.Option.{some}
 use lib.ListN.{length}
+use lib.IntN.{ℤ}
 use Rattle.words.specs.Word.{WORD}
-use Rattle.script.specs.Syntax.{Point, Node, n-bind, n-cast, n-update, n-call, Expr, null, var, bind, fork, lock, Slot}
+use Rattle.words.specs.Integer.{InRange}
+use Rattle.script.specs.Syntax.{Point, Node, n-bind, n-cast, n-update, n-call, Expr, null, var, bind, fork, lock, Slot, intOf}
 use Rattle.script.specs.Regular.{IsType, IsClass}
 use Rattle.typing.specs.Environments.{TypeOf, of-lock}
 use Rattle.typing.specs.Members.{fieldsOf}
@@ -14,7 +16,7 @@ use Rattle.typing.specs.Published.{Sub, FieldIn, MsigIn, Disjoint, NullFits, Us
 use Rattle.machine.specs.declared.Value.{Value}
 use Rattle.machine.specs.declared.Want.{Want}
 use Rattle.machine.specs.declared.Want.the-variants.{Any as any, Upto as upto}
-use Rattle.machine.specs.declared.Value.the-variants.{Null as nil, Ref as ref}
+use Rattle.machine.specs.declared.Value.the-variants.{Null as nil, Ref as ref, Int as int}
 use Rattle.machine.specs.declared.Frame.{Frame}
 use Rattle.machine.specs.declared.Frame.the-variants.{Awaits as awaits, Casts as casts, Locks as locks}
 use Rattle.machine.specs.Config.{Code, Object, Binding, Stores, Tree, running, returning, failed, join, Config}
@@ -36,6 +38,8 @@ pub data ValueFits (s : Code) (xs : List Object) : Value → Want → Type 0 whe
   fits-nil : {w : Want} → NullMeets s w → ValueFits s xs nil w
   -- WF-LOC: Γ(ι) is the object's class
   fits-ref : {o : ℕ} {x : Object} {w : Want} → object xs o ≡ some x → Meets s (x .class) w → ValueFits s xs (ref o) w
+  -- no rule of the figure: "Int, a signed 32-bit number"
+  fits-int : {z : ℤ} {w : Want} → InRange z → Meets s (intOf (s .program)) w → ValueFits s xs (int z) w
 
 -- Γ ⊢ e ⇐ t of Figure 11, and where any type will do the same with some t: `gives-checks`, `gives-some`.
 pub data Gives (s : Code) : List Slot → Expr → Want → Type 0 where

@@ -1,9 +1,10 @@
 // The machine: definitions and theorems, and the enums that they share with the code.
 
-// v ::= null | ι
+// v ::= null | ι, and a number
 pub enum Value {
     Null,
     Ref(u16),
+    Int(i32),
 }
 
 // What waits for a value: a write, call or let with its node and environment, a cast with its node alone, a lock with its object.

@@ -13,7 +13,7 @@ use Rattle.script.specs.declared.Found.the-variants.{At, Nothing}
 use Rattle.script.specs.declared.Section.the-variants.{Fields as fields}
 use Rattle.script.specs.Lists.{run, sumBelow}
 use Rattle.script.specs.Section.{recordWord}
-use Rattle.script.specs.Syntax.{Slot, Declaration, a-unit, an-interface, a-class, no-type, declarationAt}
+use Rattle.script.specs.Syntax.{Slot, Declaration, a-unit, an-interface, a-class, an-int, no-type, declarationAt}
 use Rattle.script.specs.Reading.{ownFields, fieldAt, classAt, programOf}
 use Rattle.script.specs.Asking.{firstOut}
 use Rattle.script.specs.Statements.{WithinLayout}
@@ -52,6 +52,7 @@ module _ {s : List ℕ} (w : WithinLayout s) (t : ℕ) where
       go a-unit e = omega arith
       go (an-interface i) e = omega arith
       go (a-class c) e = let x = class-from s t c e in rw (x .3) (class-few s (x .0) (w .names-are .1 .0 (x .0) (x .1)))
+      go an-int e = omega arith
       go no-type e = omega arith
 
   -- So a place that is found is below 8.
@@ -112,4 +113,5 @@ module _ {s : List ℕ} {t : ℕ} {d : Declared} (h : DeclaredAs s t d) (f : ℕ
       go a-unit m = refl
       go (an-interface i) m = absurd m
       go (a-class c) m = absurd m
+      go an-int m = refl
       go no-type m = refl

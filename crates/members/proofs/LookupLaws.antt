@@ -17,7 +17,7 @@ use Rattle.script.specs.declared.Section.{Section}
 use Rattle.script.specs.declared.Section.the-variants.{Interfaces as interfaces, Signatures as signatures, Classes as classes, Fields as fields, Methods as methods, Nodes as nodes}
 use Rattle.script.specs.Lists.{run, sumBelow, named}
 use Rattle.script.specs.Section.{countOf, recordWord}
-use Rattle.script.specs.Syntax.{Slot, Declaration, a-unit, an-interface, a-class, no-type, declarationAt}
+use Rattle.script.specs.Syntax.{Slot, Declaration, a-unit, an-interface, a-class, an-int, no-type, declarationAt}
 use Rattle.script.specs.Reading.{ownSignatures, ownFields, ownMethods, fieldAt, classAt, programOf}
 use Rattle.script.specs.Asking.{firstOut}
 use Rattle.script.specs.Statements.{WithinLayout}
@@ -218,4 +218,5 @@ module _ {s : List ℕ} {t : ℕ} {d : Declared} (h : DeclaredAs s t d) (f : ℕ
       go a-unit m = refl
       go (an-interface i) m = absurd m
       go (a-class c) m = absurd m
+      go an-int m = refl
       go no-type m = refl

@@ -14,7 +14,7 @@ use Rattle.script.specs.declared.Found.the-variants.{At, Nothing}
 use Rattle.script.specs.declared.Section.the-variants.{Interfaces as interfaces, Signatures as signatures, Methods as methods}
 use Rattle.script.specs.Lists.{sumBelow, named}
 use Rattle.script.specs.Section.{countOf, recordWord}
-use Rattle.script.specs.Syntax.{Signature, Method, an-interface, declarationAt, Declaration, a-unit, a-class, no-type}
+use Rattle.script.specs.Syntax.{Signature, Method, an-interface, declarationAt, Declaration, a-unit, a-class, an-int, no-type}
 use Rattle.script.specs.Reading.{ownSignatures, ownMethods, signatureAt, methodAt, classAt, programOf}
 use Rattle.script.specs.Statements.{WithinLayout}
 use Rattle.sections.specs.Laid.{foundOf}
@@ -150,4 +150,5 @@ module _ {s : List ℕ} {t : ℕ} {d : Declared} (h : DeclaredAs s t d) (m : ℕ
       go a-unit y = refl
       go (an-interface i) y = absurd y
       go (a-class c) y = absurd y
+      go an-int y = refl
       go no-type y = refl

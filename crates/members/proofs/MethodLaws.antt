@@ -9,7 +9,7 @@ use Rattle.script.specs.declared.Found.the-variants.{At, Nothing}
 use Rattle.script.specs.declared.Section.the-variants.{Methods as methods, Nodes as nodes}
 use Rattle.script.specs.Lists.{sumBelow}
 use Rattle.script.specs.Section.{countOf, recordWord}
-use Rattle.script.specs.Syntax.{Point, Expr, Node, n-null, n-var, n-select, n-update, n-call, n-bind, n-new, n-cast, n-fork, n-lock, build, pointOf, Method, Declaration, a-unit, an-interface, a-class, no-type, declarationAt}
+use Rattle.script.specs.Syntax.{Point, Expr, Node, n-null, n-var, n-select, n-update, n-call, n-bind, n-new, n-cast, n-fork, n-lock, n-constant, n-add, build, pointOf, Method, Declaration, a-unit, an-interface, a-class, an-int, no-type, declarationAt}
 use Rattle.script.specs.Reading.{viewAt, exprAt, ownMethods, methodAt, classAt, programOf}
 use Rattle.script.specs.Statements.{WithinLayout}
 use Rattle.sections.specs.Laid.{foundOf}
@@ -45,6 +45,7 @@ module _ {s : List ℕ} {t : ℕ} {d : Declared} (h : DeclaredAs s t d) (m : ℕ
       go a-unit y = refl
       go (an-interface i) y = absurd y
       go (a-class c) y = absurd y
+      go an-int y = refl
       go no-type y = refl
 
 -- What the code's answer says.
@@ -68,6 +69,8 @@ build-point n f (n-new c) = refl
 build-point n f (n-cast t p) = refl
 build-point n f (n-fork p q r) = refl
 build-point n f (n-lock x p) = refl
+build-point n f (n-constant z) = refl
+build-point n f (n-add x y) = refl
 
 pub expr-point : {s : List ℕ} → WithinLayout s → (n : Point) → n < countOf s nodes → pointOf (exprAt s n) ≡ n
 expr-point {s} w n l = ap pointOf (expr-at s n l (in-order s w n l)) ∙ build-point n (exprAt s) (viewAt s n)

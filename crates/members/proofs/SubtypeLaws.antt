@@ -8,10 +8,11 @@ use lib.Dec.{eqb}
 use lib.ListN.{length, getD, set, replicate}
 use lib.Seq.{getD-set-other}
 use borrow.Author.Tests.{eq-eqb, ne-eqb, le-ltb, eqb-true, eqb-false}
+use Rattle.limits.specs.Limits.{INTERFACES, CLASSES}
 use Rattle.script.specs.declared.Section.the-variants.{Interfaces as interfaces, Classes as classes}
 use Rattle.script.specs.Lists.{run, sumBelow}
 use Rattle.script.specs.Section.{countOf, recordWord}
-use Rattle.script.specs.Syntax.{Signature, Interface, lists, extends, Program, Declaration, a-unit, an-interface, a-class, no-type, declarationAt}
+use Rattle.script.specs.Syntax.{Signature, Interface, lists, extends, Program, Declaration, a-unit, an-interface, a-class, an-int, no-type, intOf, declared, declarationAt}
 use Rattle.script.specs.Reading.{ownSignatures, signatureAt, interfaceAt, classAt, programOf}
 use Rattle.script.specs.Statements.{Earlier, InterfaceIs, a-list, a-join, InterfaceWord, WithinLayout}
 use Rattle.script.specs.Regular.{IsInterface, Regular}
@@ -128,6 +129,11 @@ module _ {s : List ℕ} (w : WithinLayout s) where
       leads-join e =
           rw (reach-extends (programOf s) (regular s w) u (suc i) _ _ (interface-at s i h ∙ ap an-interface (reads-join s i e)), ne-eqb (suc i) u off)
 
+-- Past the last class is Int, or no type.
+past-classes : (p : Program) (i : ℕ) (b : Bool) → Memberless (declared p i false false b)
+past-classes p i true = tt
+past-classes p i false = tt
+
 -- What a type number is: Unit, an interface, a class, or past the last class.
 module _ (s : List ℕ) (t : ℕ) where
   pub declares-unit : t ≡ 0 → DeclaredAs s t is-neither
@@ -152,7 +158,15 @@ module _ (s : List ℕ) (t : ℕ) where
             le-ltb (t - 1) (length ((programOf s) .interfaces)) (omega (arith, length-interfaces s)),
             le-ltb (t - 1) (length ((programOf s) .interfaces) + length ((programOf s) .classes)) (omega (arith, length-interfaces s, length-classes s)),
           )
-          tt)
+          (past-classes (programOf s) (t - 1) (eqb (suc (t - 1)) (intOf (programOf s)))))
+
+-- The type number of Int, from the two counts.
+module _ {s : List ℕ} (w : WithinLayout s) (i c : ℕ) (ei : i ≡ countOf s interfaces) (ec : c ≡ countOf s classes) where
+  pub int-small : i + c + 1 < INTERFACES + CLASSES + 2
+  int-small = omega (arith, w .counts-are .within interfaces, w .counts-are .within classes)
+
+  pub int-is : i + c + 1 ≡ intOf (programOf s)
+  int-is = omega (arith, length-interfaces s, length-classes s)
 
 -- What the code learns of a type number that it is told to be the type of an interface or a class, or neither.
 module _ {s : List ℕ} {t : ℕ} {d : Declared} (h : DeclaredAs s t d) where
@@ -204,6 +218,7 @@ module _ {s : List ℕ} {t : ℕ} {d : Declared} (h : DeclaredAs s t d) where
         go a-unit m = refl
         go (an-interface i) m = absurd m
         go (a-class c) m = absurd m
+        go an-int m = refl
         go no-type m = refl
 
 pub below-itself : (s : List ℕ) (t u : ℕ) → t ≡ u → true ≡ below (programOf s) t u

@@ -12,7 +12,7 @@ use Rattle.script.specs.declared.Section.{Section}
 use Rattle.script.specs.declared.Section.the-variants.{Interfaces as interfaces, Signatures as signatures, Classes as classes}
 use Rattle.script.specs.Lists.{sumBelow}
 use Rattle.script.specs.Section.{countOf, recordAt}
-use Rattle.script.specs.Syntax.{Interface, lists, extends, Program, Declaration, a-unit, an-interface, a-class, no-type, declarationAt}
+use Rattle.script.specs.Syntax.{Interface, lists, extends, Program, Declaration, a-unit, an-interface, a-class, an-int, no-type, declarationAt}
 use Rattle.script.specs.Reading.{signatureAt, interfaceAt, programOf}
 use Rattle.script.specs.Asking.{firstOut}
 use Rattle.sections.specs.Laid.{ownerOf, ownOf, otherName}
@@ -33,6 +33,7 @@ abbrev pub Memberless : Declaration → Type 0
 Memberless a-unit = Unit {0}
 Memberless (an-interface i) = ⊥
 Memberless (a-class c) = ⊥
+Memberless an-int = Unit {0}
 Memberless no-type = Unit {0}
 
 -- What a type number is, as the code says it: the interface or the class of a record, or neither.

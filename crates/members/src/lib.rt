@@ -16,6 +16,7 @@ pub use lookup::meanings;
 pub use lookup::method_of;
 pub use starts::fill_starts;
 pub use subtyping::declared_as;
+pub use subtyping::int_of;
 pub use subtyping::is_below;
 
 // A word for each run of signatures, fields and methods.

@@ -9,11 +9,12 @@ use sections::count_of;
 use sections::record_word;
 ghost use mathlib.Core.Path.{_≡_};
 ghost use mathlib.Core.List.{List};
-ghost use Prim.Native.Nat.{ℕ, suc, _-_, _<_};
+ghost use Prim.Native.Nat.{ℕ, suc, _+_, _-_, _<_};
 ghost use lib.ListN.{length};
-ghost use Rattle.limits.specs.Limits.{INTERFACES};
+ghost use Rattle.limits.specs.Limits.{INTERFACES, CLASSES};
 ghost use Rattle.script.specs.declared.Section.the-variants.{Interfaces as interfaces};
 ghost use Rattle.script.specs.Section.{countOf};
+ghost use Rattle.script.specs.Syntax.{intOf};
 ghost use Rattle.script.specs.Reading.{programOf};
 ghost use Rattle.script.specs.Statements.{WithinLayout, InterfaceWord};
 ghost use Rattle.typing.specs.Members.{reach, below};
@@ -39,6 +40,16 @@ pub fn declared_as(s: &[u8], t: u16) -> Declared
         return Declared::Class(c);
     }
     Declared::Neither
+}
+
+// The type number of Int, the one after the last class's.
+pub fn int_of(s: &[u8]) -> u16
+    requires { ⌜ WithinLayout (now s) ⌝ }
+    ensures { λ r. ⌜ (r ≡ intOf (programOf (now (s .entry)))) × (r < INTERFACES + CLASSES + 2) ⌝ }
+{
+    let interfaces = count_of(s, Section::Interfaces);
+    let classes = count_of(s, Section::Classes);
+    (interfaces + classes + 1) as u16
 }
 
 // Walks up from the interface t, and stores what it is at or below. A join calls this on both its parents and hands the rows along, in which an ancestor that

@@ -1,4 +1,4 @@
--- The values of an object by the numbers of their fields: a field read, a field stored, and the initial values of a new object.
+-- The values of an object by the numbers of their fields: a field read, and a field stored.
 use mathlib.Core.Path.{_≡_, refl, ap}
 use mathlib.Core.Bool.{Bool, true, false, cond}
 use mathlib.Core.List.{List, [], _∷_}
@@ -6,17 +6,12 @@ use mathlib.Core.Option.{Option, none, some, Option·map}
 use Prim.Native.Nat.{ℕ, suc}
 use native.Mathlib.Omega.{arith}
 use lib.Dec.{eqb}
-use lib.ListN.{length, getD, set, replicate}
-use Rattle.script.specs.Syntax.{Slot, Program}
+use lib.ListN.{length, getD, set}
+use Rattle.script.specs.Syntax.{Slot}
 use Rattle.machine.specs.declared.Value.{Value}
 use Rattle.machine.specs.declared.Value.the-variants.{Null as nil}
-use Rattle.machine.specs.Machine.{fieldValue, setField, initials}
+use Rattle.machine.specs.Machine.{fieldValue, setField}
 use Rattle.members.specs.Defined.{fieldNumber}
-
--- A new object has null in every field.
-pub initials-are : (p : Program) (ds : List Slot) → initials p ds ≡ replicate (length ds) nil
-initials-are p [] = refl
-initials-are p (d ∷ ds) = ap (_∷_ nil) (initials-are p ds)
 
 -- F(f): what stands at the number of f, if it has one.
 value-numbered : (ds : List Slot) (l : List Value) (f : ℕ) → length l ≡ length ds → fieldValue ds l f ≡ Option·map (λ k. getD l k nil) (fieldNumber ds f)

@@ -1,7 +1,9 @@
 -- What each return of a move comes to.
-use mathlib.Core.Path.{_≡_, refl, sym, ap, _∙_}
-use mathlib.Core.Bool.{false}
+use mathlib.Core.Path.{_≡_, refl, sym, ap, subst, _∙_}
+use mathlib.Core.Bool.{Bool, true, false}
+use mathlib.Core.Logic.{⊎-elim}
 use mathlib.Core.List.{List, [], _∷_, _++_, flatMap}
+use mathlib.Core.List.{List·Memᴰ·append-cases, List·Memᴰ·cases-cons, List·Memᴰ·not-nil, List·Memᴰ·eq-of-singleton}
 use mathlib.Core.Option.{Option, none, some}
 use Prim.Native.Nat.{ℕ, suc, _+_, _-_, _<_, _≤_}
 use native.Mathlib.Omega.{arith}
@@ -13,19 +15,22 @@ use Rattle.machine.specs.declared.Value.the-variants.{Null as nil, Ref as ref}
 use Rattle.machine.specs.declared.Frame.{Frame}
 use Rattle.machine.specs.Config as machine
 use Rattle.machine.specs.Config.{Code, Object, Binding, Stores, running, returning, failed, join}
-use Rattle.machine.specs.Machine.{initials, scope, find, Outcome, still, full, moved, give, make, Phase, finished, broken, busy, phase, fold}
+use Rattle.machine.specs.Machine.{initialBy, initialOf, initials}
+use Rattle.machine.specs.Machine.{scope, find, Outcome, still, full, moved, give, make, Phase, finished, broken, busy, phase, fold}
+use Rattle.script.specs.Lists.{_∈_}
+use Rattle.script.specs.Syntax.{Slot, Program}
 use Rattle.typing.specs.Members.{fieldsOf}
-use Rattle.block.specs.declared.Area.the-variants.{Objects}
+use Rattle.typing.specs.Typing.{intTest}
+use Rattle.block.specs.declared.Area.the-variants.{Objects, Bindings}
 use Rattle.block.specs.Layout.{counted}
+use Rattle.block.specs.Values.{Storable}
 use Rattle.block.specs.Block.{preorder, framesOf, Parts, laid}
-use Rattle.representation.specs.Changed.{withObjects}
 use Rattle.tree.specs.declared.Fold.{Fold}
 use Rattle.tree.specs.declared.Fold.the-variants.{GoesOn as goes-on}
 use Rattle.tree.specs.Phases.{outcomeOf, FoldAt}
 use Rattle.environments.specs.declared.Lookup.{Lookup}
 use Rattle.environments.specs.declared.Lookup.the-variants.{Unbound, Bound}
 use Rattle.environments.specs.Chains.{bindingsIn, lookupOf}
-use Rattle.moves.proofs.FieldValues.{initials-are}
 use Rattle.environments.proofs.LaidLaws.{bindings-read}
 use Rattle.state.specs.Represents.{partsIn, Rest, StateAt}
 use Rattle.state.specs.Positions.{entriesIn}
@@ -33,10 +38,12 @@ use Rattle.state.proofs.Seeing.{objects-counted, seen-part}
 use Rattle.state.proofs.Moves.{lies, seen-objects}
 use Rattle.moves.specs.declared.Effect.{Effect}
 use Rattle.moves.specs.Performs.{Performs}
+use Rattle.moves.specs.Initials.{withNewest, NewObject, FieldsBecome}
 
 -- the environment in the block is that of the stores
 pub scope-read : {b : List ℕ} {i : ℕ} {x : Rest} {st : Stores} {u : machine.Tree} → StateAt b i x st u → bindingsIn b ≡ st .bindings
-scope-read {x = x} {st = st} {u = u} s = bindings-read (partsIn st (s .positions) (x .outer ++ (framesOf u ++ x .later))) (s .block) (s .few) (st .bindings) refl
+scope-read {x = x} {st = st} {u = u} s =
+    bindings-read (partsIn st (s .positions) (x .outer ++ (framesOf u ++ x .later))) (s .block) (s .few) (s .storable Bindings) (st .bindings) refl
 
 busy-not : busy ≡ finished → ⊥
 busy-not e = let z : _≡_ {A = ℕ} 0 1 = ap told e in omega arith
@@ -144,17 +151,47 @@ module _ {b : List ℕ} {i : ℕ} {x : Rest} {st : Stores} {fs : List Frame} {a 
       let f = both-finished st fs a e (phase l) (phase r) (folds ∙ ap (λ (f : Fold). outcomeOf f st fs a e) g) in
       (finished-empty l (f .0), finished-empty r (f .1))
 
--- one object more, as `new` makes it
-pub objects-more :
-    {b after : List ℕ} {i : ℕ} {x : Rest} {st : Stores} {u : machine.Tree} (s : Code) (c n : ℕ)
-    → StateAt b i x st u
-    → n ≡ counted b Objects
-    → n < OBJECTS
-    → ((p : Parts) (m : ℕ) → b ≡ bytes (laid p) → after ≡ bytes (laid (withObjects p (p .objects ++ record { class = c; shut = false; fields = replicate m nil } ∷ []))))
-    → StateAt after i x (record { objects = st .objects ++ record { class = c; shut = false; fields = initials (s .program) (fieldsOf (s .program) c) } ∷ []; bindings = st .bindings }) u
-objects-more {x = x} {st = st} {u = u} s c n seen h l made =
-    let ds = fieldsOf (s .program) c in
-    let y : Object = record { class = c; shut = false; fields = initials (s .program) ds } in
-    seen-objects seen (st .objects ++ y ∷ [])
-    (omega (arith, length-append (st .objects) (y ∷ []), objects-counted seen))
-    (rw (initials-are (s .program) ds) (made (lies seen) (length ds) (seen .block)))
+-- initial values are storable, and so are those of the objects with one more
+initials-storable : (p : Program) (ds : List Slot) (v : Value) → v ∈ initials p ds → Storable v
+initials-storable p [] v m = absurd (List·Memᴰ·not-nil m)
+initials-storable p (d ∷ ds) v m =
+    ⊎-elim (λ (e : v ≡ initialOf p (d .type)). rw e (initial (intTest p (d .type)))) (initials-storable p ds v) (List·Memᴰ·cases-cons m)
+  where
+    initial : (q : Bool) → Storable (initialBy q)
+    initial true = omega arith
+    initial false = _
+
+more-storable :
+    (os : List Object) (y : Object)
+    → ((o : Object) → o ∈ os → (v : Value) → v ∈ o .fields → Storable v)
+    → ((v : Value) → v ∈ y .fields → Storable v)
+    → (o : Object) → o ∈ os ++ y ∷ [] → (v : Value) → v ∈ o .fields → Storable v
+more-storable os y h k o m v n =
+    ⊎-elim
+    (λ (l : o ∈ os). h o l v n)
+    (λ (l : o ∈ y ∷ []). k v (subst (λ (x : Object). v ∈ x .fields) (List·Memᴰ·eq-of-singleton l) n))
+    (List·Memᴰ·append-cases os m)
+
+-- one object more, as `new` makes it: first all its fields are null, and then they have their initial values
+module _ {b after : List ℕ} {i : ℕ} {x : Rest} {st : Stores} {u : machine.Tree}
+    (c n : ℕ) (seen : StateAt b i x st u) (h : n ≡ counted b Objects) (l : n < OBJECTS)
+    (made : (p : Parts) (m : ℕ) → b ≡ bytes (laid p) → after ≡ bytes (laid (withNewest p c (replicate m nil)))) where
+  pub object-new : (m : ℕ) → NewObject after n m
+  object-new m = record { parts = lies seen; class = c; block = made (lies seen) m (seen .block); place = h ∙ objects-counted seen; room = l }
+
+  pub objects-more :
+      {last : List ℕ} (s : Code)
+      → FieldsBecome after last n (replicate (length (fieldsOf (s .program) c)) nil) (initials (s .program) (fieldsOf (s .program) c))
+      → StateAt last i x
+      (record {
+        objects = st .objects ++ record { class = c; shut = false; fields = initials (s .program) (fieldsOf (s .program) c) } ∷ [];
+        bindings = st .bindings;
+      })
+      u
+  objects-more s become =
+      let ds = fieldsOf (s .program) c in
+      let y : Object = record { class = c; shut = false; fields = initials (s .program) ds } in
+      seen-objects seen (st .objects ++ y ∷ [])
+      (omega (arith, length-append (st .objects) (y ∷ []), objects-counted seen))
+      (more-storable (st .objects) y (seen .storable Objects) (initials-storable (s .program) ds))
+      (become (lies seen) c (h ∙ objects-counted seen) (made (lies seen) (length ds) (seen .block)))

@@ -5,3 +5,5 @@ pub mod LockLaws
 pub mod FieldValues
 pub mod Positions
 pub mod Ready
+pub mod InitialLaws
+pub mod SumLaws

@@ -1,20 +1,24 @@
 -- What each return of a lock comes to.
-use mathlib.Core.Path.{_≡_, refl, sym, ap, _∙_}
+use mathlib.Core.Path.{_≡_, refl, sym, ap, subst, _∙_}
 use mathlib.Core.Bool.{Bool, true, false}
-use mathlib.Core.List.{List}
+use mathlib.Core.Logic.{⊎-elim}
+use mathlib.Core.List.{List, [], _∷_, List·Memᴰ·head, List·Memᴰ·tail, List·Memᴰ·cases-cons}
 use mathlib.Core.Option.{some}
-use Prim.Native.Nat.{ℕ, suc, _+_, _-_, _<_}
+use Prim.Native.Nat.{ℕ, zero, suc, _+_, _-_, _<_}
 use native.Mathlib.Omega.{arith}
 use lib.Dec.{ltb}
 use lib.ListN.{length, getD, set, length-set}
 use borrow.Author.Tests.{ltb-true, ltb-false}
 use Rattle.words.specs.Word.{bytes}
+use Rattle.script.specs.Lists.{_∈_}
+use Rattle.machine.specs.declared.Value.{Value}
 use Rattle.machine.specs.declared.Frame.{Frame}
 use Rattle.machine.specs.Config as machine
 use Rattle.machine.specs.Config.{Object, Stores, running}
 use Rattle.machine.specs.Machine.{object, setShut, lockFrames, still, moved, withShut as shutIn, enter, shutAndEnter, lockObject}
 use Rattle.block.specs.declared.Area.the-variants.{Objects, Frames}
 use Rattle.block.specs.Layout.{counted, wordIn}
+use Rattle.block.specs.Values.{Storable}
 use Rattle.block.specs.Block.{shutWord, Parts, laid}
 use Rattle.representation.specs.Changed.{withObjects, withShut}
 use Rattle.environments.proofs.LaidLaws.{shut-set}
@@ -31,6 +35,21 @@ none-held m e = omega (arith, ltb-false 0 m e)
 some-held : (m : ℕ) → ltb 0 m ≡ true → m ≡ suc (m - 1)
 some-held m e = omega (arith, ltb-true 0 m e)
 
+-- a lock shut or opened changes no value
+shut-storable : (q : Bool) (xs : List Object) (o : ℕ) → ((y : Object) → y ∈ xs → (v : Value) → v ∈ y .fields → Storable v)
+    → (y : Object) → y ∈ setShut q xs o → (v : Value) → v ∈ y .fields → Storable v
+shut-storable q [] o h y m v n = h y m v n
+shut-storable q (x ∷ xs) zero h y m v n =
+    ⊎-elim
+    (λ (e : y ≡ withShut x q). h x (List·Memᴰ·head refl) v (subst (λ (z : Object). v ∈ z .fields) e n))
+    (λ (l : y ∈ xs). h y (List·Memᴰ·tail l) v n)
+    (List·Memᴰ·cases-cons m)
+shut-storable q (x ∷ xs) (suc o) h y m v n =
+    ⊎-elim
+    (λ (e : y ≡ x). h y (List·Memᴰ·head e) v n)
+    (λ (l : y ∈ setShut q xs o). shut-storable q xs o (λ z k. h z (List·Memᴰ·tail k)) y l v n)
+    (List·Memᴰ·cases-cons m)
+
 -- an object shut or opened in the block
 pub shut-changes :
     {b after : List ℕ} {i : ℕ} {x : Rest} {st : Stores} {u : machine.Tree} (o : ℕ) (q : Bool)
@@ -41,7 +60,9 @@ pub shut-changes :
 shut-changes {x = x} {st = st} {u = u} o q seen l put =
     let e = shut-set q (st .objects) o blank-object in
     let m : length (setShut q (st .objects) o) ≡ length (st .objects) = ap length e ∙ length-set (st .objects) o (withShut (getD (st .objects) o blank-object) q) in
-    seen-objects seen (setShut q (st .objects) o) (omega (arith, m, objects-counted seen, seen-few seen Objects))
+    seen-objects seen (setShut q (st .objects) o)
+    (omega (arith, m, objects-counted seen, seen-few seen Objects))
+    (shut-storable q (st .objects) o (seen .storable Objects))
     (rw e (put (lies seen) blank-object (seen .block) (omega (arith, objects-counted seen))))
 
 -- the frames are as many as before

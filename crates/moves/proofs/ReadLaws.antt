@@ -25,13 +25,13 @@ use Rattle.block.specs.Rows.{wordOf}
 use Rattle.block.specs.Layout.{wordIn, CLASS, fieldWord}
 use Rattle.block.specs.Values.{valueIn}
 use Rattle.block.specs.Block.{objectWords, Parts, laid}
-use Rattle.block.specs.Fits.{Few}
-use Rattle.block.proofs.Values.{value-same, field-said}
+use Rattle.block.specs.Fits.{Few, StorableIn}
+use Rattle.block.proofs.Values.{value-same, field-said, storable-at}
 use Rattle.environments.specs.declared.Lookup.{Lookup}
 use Rattle.environments.specs.declared.Lookup.the-variants.{Unbound, Bound}
 use Rattle.moves.specs.Performs.{OwnFields, valueFound}
 use Rattle.moves.proofs.Laws.{unbound-not, bound-same}
-use Rattle.moves.proofs.TargetLaws.{object-word}
+use Rattle.moves.proofs.TargetLaws.{object-in, object-word}
 
 -- the field f of the object o, which is y
 module _ {b : List ℕ} (p : Parts) (y : Object) (is : b ≡ bytes (laid p)) (few : Few p) (s : List ℕ) (o f class : ℕ) (there : object (p .objects) o ≡ some y)
@@ -42,15 +42,17 @@ module _ {b : List ℕ} (p : Parts) (y : Object) (is : b ≡ bytes (laid p)) (fe
   pub field-missing : place ≡ Nothing → Unbound ≡ valueFound (fieldValue (fieldsOf (programOf s) (y .class)) (y .fields) f)
   field-missing m = rw (value-none _ (y .fields) f (found-nothing (fieldNumber (fieldsOf (programOf s) (y .class)) f) place placed m))
 
-  pub field-found : (m : ℕ) (v : Value) → place ≡ At m → m < CLASS-FIELDS → v ≡ valueIn (wordIn b Objects o) (fieldWord m) → OwnFields (codeOf s) (p .objects)
+  pub field-found :
+      (m : ℕ) (v : Value) → place ≡ At m → m < CLASS-FIELDS → v ≡ valueIn (wordIn b Objects o) (fieldWord m)
+      → StorableIn p Objects → OwnFields (codeOf s) (p .objects)
       → Bound v ≡ valueFound (fieldValue (fieldsOf (programOf s) (y .class)) (y .fields) f)
-  field-found m v at small i own =
+  field-found m v at small i stored own =
       let number = found-at (fieldNumber (fieldsOf (programOf s) (y .class)) f) place placed m at in
       let value : v ≡ getD (y .fields) m nil =
       i
       ∙ value-same (wordIn b Objects o) (wordOf (objectWords y)) (fieldWord m)
       (λ n k. object-word p y o (fieldWord m + n) (wordIn b Objects o (fieldWord m + n)) is few there (omega arith) refl)
-      ∙ field-said y m small
+      ∙ field-said y m small (storable-at (y .fields) (stored y (object-in (p .objects) o y there)) m)
       in
       rw (value-at (fieldsOf (programOf s) (y .class)) (y .fields) f m number (own o y there)) (ap Bound value)
 

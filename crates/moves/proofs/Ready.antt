@@ -28,7 +28,7 @@ use Rattle.machine.specs.declared.Want.the-variants.{Upto as upto}
 use Rattle.machine.specs.Config as machine
 use Rattle.machine.specs.Config.{Code, codeOf, Object, Binding, Stores}
 use Rattle.machine.specs.Machine.{scope, context, find}
-use Rattle.machine.specs.WellFormed.{ValueFits, fits-nil, fits-ref, BindingOk, BindingsOk, no-bindings, a-binding, StoresOk}
+use Rattle.machine.specs.WellFormed.{ValueFits, fits-nil, fits-ref, fits-int, BindingOk, BindingsOk, no-bindings, a-binding, StoresOk}
 use Rattle.soundness.proofs.Stores.{object-below, fields-long}
 use Rattle.machine.proofs.Decide.{context-wf}
 use Rattle.block.specs.declared.Area.the-variants.{Objects, Bindings}
@@ -85,7 +85,8 @@ found-every P (d ∷ l) x y p e = found-first P (eqb (d .name) x) d y (find l x)
 module _ {b : List ℕ} {i : ℕ} {x : Rest} {st : Stores} {u : machine.Tree} (seen : StateAt b i x st u) where
   -- a value of the stores is a word
   pub value-word : {s : Code} {v : Value} {w : Want} → ValueFits s (st .objects) v w → Storable v
-  value-word (fits-nil m) = omega arith
+  value-word (fits-nil m) = _
+  value-word (fits-int r m) = r
   value-word (fits-ref {o = o} {x = y} h m) = omega (arith, object-below (st .objects) o y h, objects-counted seen, seen-few seen Objects)
 
   module _ {s : List ℕ} (w : WithinLayout s) (ok : BindingsOk (codeOf s) (st .objects) (st .bindings)) where

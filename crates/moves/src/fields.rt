@@ -24,9 +24,10 @@ ghost use Rattle.machine.specs.declared.Frame.{Frame};
 ghost use Rattle.machine.specs.Config.{Object, Stores, running, codeOf};
 ghost use Rattle.machine.specs.Machine.{scope, find, object, fieldValue, selectTarget};
 ghost use Rattle.typing.specs.Members.{fieldsOf};
+ghost use Rattle.block.specs.declared.Area.the-variants.{Objects};
 ghost use Rattle.block.specs.Values.{Storable};
 ghost use Rattle.block.specs.Block.{Parts, laid};
-ghost use Rattle.block.specs.Fits.{Few};
+ghost use Rattle.block.specs.Fits.{Few, StorableIn};
 ghost use Rattle.environments.specs.declared.Lookup.the-variants.{Bound};
 ghost use Rattle.environments.specs.Chains.{Chain};
 ghost use Rattle.state.specs.Represents.{Rest, StateAt, SomeState};
@@ -39,6 +40,7 @@ fn field_value(s: &[u8], starts: &[u16], block: &[u8], o: u16, f: u16) -> Lookup
         ((p : Parts) (y : Object) →
         now (block .entry) ≡ bytes (laid p) →
         Few p →
+        StorableIn p Objects →
         OwnFields (codeOf (now (s .entry))) (p .objects) →
         object (p .objects) o ≡ some y →
         r ≡ valueFound (fieldValue (fieldsOf (programOf (now (s .entry))) (y .class)) (y .fields) f))
@@ -51,8 +53,7 @@ fn field_value(s: &[u8], starts: &[u16], block: &[u8], o: u16, f: u16) -> Lookup
     let Found::At(k) = place else {
         return Lookup::Unbound;
     };
-    let w = areas::word(block, Area::Objects, i, Layout::FIELDS + Layout::VALUE * k);
-    Lookup::Bound(areas::value_of(w))
+    Lookup::Bound(areas::field(block, i, k))
 }
 
 // "a read gives the field"; "null fails the thread."

@@ -1,8 +1,10 @@
 // What a thread at a node does when it is chosen, and a join, in the block.
 mod control;
 mod fields;
+mod initials;
 mod locking;
 mod steps;
+mod sums;
 mod targets;
 mod values;
 
@@ -14,8 +16,10 @@ pub use locking::enter_lock;
 pub use locking::lock_access;
 use machine::Store;
 pub use steps::fails;
+pub use sums::add_variables;
 pub use targets::target_of;
 pub use values::become_null;
+pub use values::become_number;
 pub use values::give_value;
 pub use values::make_object;
 
@@ -32,6 +36,12 @@ pub enum Access {
     Null,
     Open(u16),
     Held,
+}
+
+// What a variable holds that is added: a number, or nothing that can be added.
+enum Addend {
+    Number(i32),
+    Nothing,
 }
 
 // The field or method `name` of what the variable `target` holds in an environment.

@@ -10,7 +10,7 @@ ghost use Rattle.environments.specs.Chains.{Chain};
 ghost use Rattle.state.specs.Represents.{Rest, StateAt};
 ghost use Rattle.moves.specs.Targets.{TargetIs};
 
-// What a target variable holds: null or an object that is there; nothing, where the variable is not bound or its object is not there.
+// What a target variable holds: null or an object that is there; nothing, where the variable is not bound, its object is not there, or it holds a number.
 pub fn target_of(block: &[u8], env: u16, x: u16) -> Lookup
     requires { ⌜ Chain (now block) env ⌝ }
     ensures { λ r. ⌜
@@ -23,11 +23,14 @@ pub fn target_of(block: &[u8], env: u16, x: u16) -> Lookup
     let Lookup::Bound(value) = found else {
         return Lookup::Unbound;
     };
-    let Value::Ref(o) = value else {
-        return Lookup::Bound(value);
-    };
-    if areas::count(block, Area::Objects) <= o as usize {
-        return Lookup::Unbound;
+    match value {
+        Value::Null => Lookup::Bound(value),
+        Value::Ref(o) => {
+            if areas::count(block, Area::Objects) <= o as usize {
+                return Lookup::Unbound;
+            }
+            Lookup::Bound(value)
+        }
+        Value::Int(_) => Lookup::Unbound,
     }
-    Lookup::Bound(value)
 }

@@ -1,20 +1,19 @@
-// The ranks of a script's variables: given in one pass over the nodes, and found again by name.
+// The ranks of a script's variables: given in one pass over the slots, and found again by name.
 use crate::BUCKETS;
 use crate::Rank;
+use crate::SLOTS;
 use crate::SPACING;
-use limits::Limits;
 use script::Section;
 ghost use mathlib.Core.Path.{_≡_};
-ghost use Prim.Native.Nat.{_+_, _<_};
+ghost use Prim.Native.Nat.{_+_, _*_, _<_};
 ghost use lib.ListN.{length, getD, set};
-ghost use Rattle.limits.specs.Limits.{NODES};
 ghost use Rattle.words.specs.Word.{WORD};
 ghost use Rattle.script.specs.declared.Section.the-variants.{Nodes as nodes};
 ghost use Rattle.script.specs.Section.{countOf, nodeWord};
 ghost use Rattle.script.specs.Reading.{kindOf};
 ghost use Rattle.script.specs.Statements.{WithinLayout};
 ghost use Rattle.slices.specs.Zero.{AllZero};
-ghost use Rattle.names.specs.Ranks.{FACTS, Ranked, hashOf, headOf, Search, Indexed};
+ghost use Rattle.names.specs.Ranks.{SLOTS, FACTS, slotWord, SlotNames, Ranked, hashOf, headOf, Search, Indexed};
 ghost use Rattle.names.specs.Facts.{Facts};
 ghost use Rattle.names.specs.Filling.{RankIs, namesKind, Nameless, Linked, FilledTo};
 
@@ -26,12 +25,20 @@ fn word_of_node(s: &[u8], n: usize, j: usize) -> u16
     sections::record_word(s, Section::Nodes, n, j)
 }
 
+// The word at slot k.
+fn slot_word(s: &[u8], k: usize) -> u16
+    requires { ⌜ WithinLayout (now s) × (k < 2 * countOf (now s) nodes) ⌝ }
+    ensures { λ r. ⌜ (r ≡ slotWord (now (s .entry)) k) × (r < WORD) ⌝ }
+{
+    word_of_node(s, k / 2, 1 + k % 2)
+}
+
 // The word of the bucket that the variable x belongs to.
 fn bucket_of(x: u16) -> usize
-    ensures { λ r. ⌜ (r ≡ NODES + NODES + hashOf x) × (NODES + NODES < r + 1) × (r < FACTS) ⌝ }
+    ensures { λ r. ⌜ (r ≡ SLOTS + SLOTS + hashOf x) × (SLOTS + SLOTS < r + 1) × (r < FACTS) ⌝ }
 {
     let name = x as usize;
-    Limits::NODES + Limits::NODES + (name + name / SPACING) % BUCKETS
+    SLOTS + SLOTS + (name + name / SPACING) % BUCKETS
 }
 
 // Word k of the table.
@@ -42,18 +49,18 @@ fn fact_at(facts: &[u16], k: usize) -> usize
     facts[k] as usize
 }
 
-// The node that is found in a bucket for the variable x, and 1 more, or 0.
-fn find_node(s: &[u8], facts: &[u16], x: u16) -> usize
+// The slot that is found in a bucket for the variable x, and 1 more, or 0.
+fn find_slot(s: &[u8], facts: &[u16], x: u16) -> usize
     requires { ⌜ WithinLayout (now s) × Linked (now s) (now facts) ⌝ }
     ensures { λ r. ⌜ Search (now (s .entry)) (now (facts .entry)) x (headOf (now (facts .entry)) x) r ⌝ }
 {
     let bucket = bucket_of(x);
     let mut at = fact_at(facts, bucket);
     while 0 < at {
-        if word_of_node(s, at - 1, 1) == x {
+        if slot_word(s, at - 1) == x {
             return at;
         }
-        at = fact_at(facts, Limits::NODES + (at - 1));
+        at = fact_at(facts, SLOTS + (at - 1));
     }
     0
 }
@@ -66,63 +73,76 @@ pub fn rank_of(s: &[u8], facts: &[u16], x: u16) -> Rank
     if x < 2 {
         return Rank::At(x);
     }
-    let found = find_node(s, facts, x);
+    let found = find_slot(s, facts, x);
     if found == 0 {
         return Rank::Unnamed;
     }
     Rank::At(facts[found - 1])
 }
 
-// Does a node of this kind name a variable? A let names the one that it binds.
-fn names_variable(kind: u16) -> bool
+// How many variables a node of this kind names. A let names the one that it binds, a sum the two that it adds.
+fn names_of(kind: u16) -> usize
     ensures { λ r. ⌜ r ≡ namesKind (kindOf kind) ⌝ }
 {
     match kind {
-        1 => true,
-        2 => true,
-        3 => true,
-        4 => true,
-        5 => true,
-        9 => true,
-        _ => false,
+        1 => 1,
+        2 => 1,
+        3 => 1,
+        4 => 1,
+        5 => 1,
+        9 => 1,
+        11 => 2,
+        _ => 0,
     }
 }
 
-// Makes node n the first of the bucket of the variable x.
-fn link_node(facts: &mut [u16], n: usize, x: u16)
-    requires { ⌜ (length (now facts) ≡ FACTS) × (n < NODES) ⌝ }
+// Makes slot k the first of the bucket of the variable x.
+fn link_slot(facts: &mut [u16], k: usize, x: u16)
+    requires { ⌜ (length (now facts) ≡ FACTS) × (k < SLOTS) ⌝ }
     ensures { λ r. ⌜
         now (facts .exit) ≡
-        set (set (now (facts .entry)) (NODES + n) (headOf (now (facts .entry)) x)) (NODES + NODES + hashOf x) (n + 1)
+        set (set (now (facts .entry)) (SLOTS + k) (headOf (now (facts .entry)) x)) (SLOTS + SLOTS + hashOf x) (k + 1)
         ⌝ }
 {
     let bucket = bucket_of(x);
-    facts[Limits::NODES + n] = facts[bucket];
-    facts[bucket] = (n + 1) as u16;
+    facts[SLOTS + k] = facts[bucket];
+    facts[bucket] = (k + 1) as u16;
 }
 
-// Gives the variable that node n names its rank, where `count` ranks are given so far, and answers how many then are.
-fn fill_rank(s: &[u8], facts: &mut [u16], n: usize, count: usize) -> usize
-    requires { ⌜ WithinLayout (now s) × (n < countOf (now s) nodes) × FilledTo (now s) (now facts) n count ⌝ }
-    ensures { λ r. ⌜ FilledTo (now (s .entry)) (now (facts .exit)) (n + 1) r ⌝ }
+// Gives the variable that stands at slot k its rank, where `count` ranks are given so far, and answers how many then are.
+fn fill_slot(s: &[u8], facts: &mut [u16], k: usize, count: usize) -> usize
+    requires { ⌜ WithinLayout (now s) × SlotNames (now s) k (slotWord (now s) k) × FilledTo (now s) (now facts) k count ⌝ }
+    ensures { λ r. ⌜ FilledTo (now (s .entry)) (now (facts .exit)) (k + 1) r ⌝ }
+{
+    let x = slot_word(s, k);
+    if x < 2 {
+        facts[k] = x;
+        return count;
+    }
+    let found = find_slot(s, facts, x);
+    if 0 < found {
+        facts[k] = facts[found - 1];
+        return count;
+    }
+    facts[k] = count as u16;
+    link_slot(facts, k, x);
+    count + 1
+}
+
+// Gives the variables that node n names their ranks, where `before` ranks are given so far, and answers how many then are.
+fn fill_rank(s: &[u8], facts: &mut [u16], n: usize, before: usize) -> usize
+    requires { ⌜ WithinLayout (now s) × (n < countOf (now s) nodes) × FilledTo (now s) (now facts) (2 * n) before ⌝ }
+    ensures { λ r. ⌜ FilledTo (now (s .entry)) (now (facts .exit)) (2 * (n + 1)) r ⌝ }
 {
     let kind = word_of_node(s, n, 0);
-    if !names_variable(kind) {
-        return count;
+    let names = names_of(kind);
+    let mut count = before;
+    let mut j = 0;
+    while j < names {
+        count = fill_slot(s, facts, 2 * n + j, count);
+        j += 1;
     }
-    let x = word_of_node(s, n, 1);
-    if x < 2 {
-        facts[n] = x;
-        return count;
-    }
-    let found = find_node(s, facts, x);
-    if 0 < found {
-        facts[n] = facts[found - 1];
-        return count;
-    }
-    facts[n] = count as u16;
-    link_node(facts, n, x);
-    count + 1
+    count
 }
 
 // Fills a table of zeros with the ranks of the variables and with the buckets, and answers how many ranks there are.

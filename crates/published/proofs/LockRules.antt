@@ -8,7 +8,7 @@ use mathlib.Core.List.{List, [], _∷_, _++_}
 use lib.ListN.{length}
 use borrow.Author.Tests.{eq-eqb, ne-eqb}
 use Rattle.script.specs.Lists.{_∈_, countIn}
-use Rattle.script.specs.Syntax.{Point, Expr, null, var, select, update, call, bind, new, cast, fork, lock, Node, n-null, n-var, n-select, n-update, n-call, n-bind, n-new, n-cast, n-fork, n-lock}
+use Rattle.script.specs.Syntax.{Point, Expr, null, var, select, update, call, bind, new, cast, fork, lock, constant, add, Node, n-null, n-var, n-select, n-update, n-call, n-bind, n-new, n-cast, n-fork, n-lock, n-constant, n-add}
 use Rattle.machine.specs.declared.Value.{Value}
 use Rattle.machine.specs.declared.Frame.{Frame}
 use Rattle.machine.specs.declared.Frame.the-variants.{Awaits as awaits, Casts as casts, Locks as locks}
@@ -67,6 +67,8 @@ text-unlocked m (new n c) = refl
 text-unlocked m (cast n t a) = text-unlocked m a
 text-unlocked m (fork n a b c) = rw (text-unlocked m a, text-unlocked m b, text-unlocked m c)
 text-unlocked m (lock n x a) = text-unlocked m a
+text-unlocked m (constant n z) = refl
+text-unlocked m (add n x y) = refl
 
 text-count : (o : ℕ) (m : ℕ → PVar) (e : Expr) → countIn o (lockedList (close m e)) ≡ 0
 unfolding countIn
@@ -84,6 +86,8 @@ gap-count s o m (n-new c) a = refl
 gap-count s o m (n-cast t p) a = refl
 gap-count s o m (n-fork p q r) a = refl
 gap-count s o m (n-lock x p) a = refl
+gap-count s o m (n-constant z) a = refl
+gap-count s o m (n-add x y) a = refl
 
 module _ (s : Code) (bs : List Binding) where
   -- so those of a thread's expression are its lock frames

@@ -9,7 +9,7 @@ use lib.Dec.{eqb}
 use lib.ListN.{length, length-append}
 use borrow.Author.Tests.{eq-eqb, ne-eqb, eqb-true}
 use Rattle.script.specs.Lists.{named}
-use Rattle.script.specs.Syntax.{Point, Expr, null, var, select, update, call, bind, new, cast, fork, lock}
+use Rattle.script.specs.Syntax.{Point, Expr, null, var, select, update, call, bind, new, cast, fork, lock, constant, add}
 use Rattle.machine.specs.declared.Value.{Value}
 use Rattle.machine.specs.declared.Frame.{Frame}
 use Rattle.machine.specs.Config.{Code, Binding, Stores, Tree}
@@ -144,6 +144,8 @@ module _ (x : ℕ) (v : PVar) where
   rename-close (cast n t a) m h = ap (p-cast t) (rename-close a m h)
   rename-close (fork n a b c) m h = λ i. p-fork (rename-close a m h i) (rename-close b m h i) (rename-close c m h i)
   rename-close (lock n y a) m h = ap (p-lock (renameVar x v (m y))) (rename-close a m h)
+  rename-close (constant n z) m h = refl
+  rename-close (add n y z) m h = refl
 
 -- the body of a let, in the environment with the new binding
 bound-name : (x z i : ℕ) (p : PVar) (q : Bool) → eqb x z ≡ q → (q ≡ false → renameVar x (fresh i) p ≡ p) → renameVar x (fresh i) (cond q (static z) p) ≡ cond q (fresh i) p

@@ -7,29 +7,31 @@ use mathlib.Core.Bool.{true, false}
 use mathlib.Core.List.{List, [], _∷_, _++_}
 use mathlib.Core.Option.{some}
 use lib.ListN.{length}
+use lib.IntN.{ℤ}
 use Rattle.script.specs.Lists.{_∈_}
-use Rattle.script.specs.Syntax.{Point, Node, n-null, n-var, n-select, n-update, n-call, n-bind, n-new, n-cast, n-fork, n-lock, build, parts, Program, Expr}
+use Rattle.script.specs.Syntax.{Point, Node, n-null, n-var, n-select, n-update, n-call, n-bind, n-new, n-cast, n-fork, n-lock, n-constant, n-add, build, parts, Program, Expr}
+use Rattle.script.proofs.Declarations.{declared-int}
 use Rattle.script.proofs.Reading.{first}
-use Rattle.typing.specs.Published.{BD-INFER-VAR, BD-INFER-CALL, BD-INFER-CAST, BD-INFER-SELECT, BD-INFER-UPDATE}
+use Rattle.typing.specs.Published.{BD-INFER-VAR, BD-INFER-CALL, BD-INFER-CAST, BD-INFER-SELECT, BD-INFER-UPDATE, BD-INFER-INT, BD-INFER-ADD}
 use Rattle.typing.proofs.Environments.{type-in}
 use Rattle.machine.specs.declared.Store.{Store}
 use Rattle.machine.specs.declared.Store.the-variants.{Frames}
 use Rattle.machine.specs.declared.Value.{Value}
-use Rattle.machine.specs.declared.Value.the-variants.{Null as nil, Ref as ref}
+use Rattle.machine.specs.declared.Value.the-variants.{Null as nil, Ref as ref, Int as int}
 use Rattle.machine.specs.declared.Frame.{Frame}
 use Rattle.machine.specs.declared.Frame.the-variants.{Awaits as awaits, Casts as casts}
 use Rattle.machine.specs.Config.{Code, Binding, Stores, Tree, running, returning, failed, join}
 use Rattle.machine.specs.Machine.{context, oneIf, lockFrames, Places, spare, frameCount, threadCount, descend, runNode, Outcome, still, full, moved, phase, inLeft, inRight, Path, here, left, right, moveAt, held, part}
 use Rattle.machine.specs.declared.Want.{Want}
 use Rattle.machine.specs.declared.Want.the-variants.{Any as any, Upto as upto}
-use Rattle.machine.specs.WellFormed.{ValueFits, fits-nil, Gives, gives-type, NodeGives, StoresOk, a-let, a-write, a-call, FramesOk, a-node, a-cast, TreeOk, running-ok, returning-ok, join-ok, lockCount, shutAt}
+use Rattle.machine.specs.WellFormed.{ValueFits, fits-nil, fits-int, Gives, gives-type, NodeGives, StoresOk, a-let, a-write, a-call, FramesOk, a-node, a-cast, TreeOk, running-ok, returning-ok, join-ok, lockCount, shutAt}
 use Rattle.machine.specs.Accepted.{LaterPart, AcceptedCode}
 use Rattle.machine.specs.Ends.{Waits, waits}
 use Rattle.published.specs.Steps.{PVar, fresh, PExpr, p-value, p-lock, close, fill, PTree, p-thread, p-join, p-failed, World, entryValue, Reduce, DYN-EVAL-LOCK, DYN-EVAL-LOCK-REENTRANT, DYN-NPE-LOCK, Step, reduces, DYN-EVAL-CONTEXT, DYN-EVAL-SPAWN-CONTEXT, DYN-EXCEPTION-CONTEXT, DYN-EVAL-ASYNC-LEFT, DYN-EVAL-ASYNC-RIGHT, DYN-EVAL-ASYNC-JOIN, DYN-EXCEPTION-ASYNC-LEFT, DYN-EXCEPTION-ASYNC-RIGHT}
 use Rattle.published.specs.ReadAs.{names, hole, plug, world, said, read}
 use Rattle.machine.specs.Silent.{quiet, quietIn}
 use Rattle.published.specs.Reach.{site, Near, itself, left-side, right-side, in-left, in-right}
-use Rattle.machine.proofs.Types.{null-meets, check-gives, let-parts, lock-parts, infer-gives}
+use Rattle.machine.proofs.Types.{null-given, check-gives, let-parts, lock-parts, infer-gives}
 use Rattle.soundness.proofs.Stores.{shutAt-object}
 use Rattle.soundness.proofs.Grow.{Grows, grows-same}
 use Rattle.soundness.proofs.Move.{Judged, no-move, a-move, run-good, resume-good}
@@ -37,8 +39,8 @@ use Rattle.soundness.proofs.Trees.{fold-broken}
 use Rattle.soundness.proofs.Ends.{frames-append}
 use Rattle.published.proofs.Names.{variable, read-grow}
 use Rattle.machine.proofs.Locks.{in-held}
-use Rattle.published.proofs.Steps.{thread-join, site-thread, Exact, published, give-step, make-step, spawn-step, lock-step, select-step, resume-step, last-grow}
-use Rattle.published.proofs.Unplug.{outs, unplug, Redex, r-var, r-new, r-fork, r-lock, r-select, r-hole, tag, fill-tag, value-stuck, only-reduce, redex-active, determined}
+use Rattle.published.proofs.Steps.{thread-join, site-thread, Exact, published, give-step, make-step, spawn-step, lock-step, select-step, add-step, resume-step, last-grow}
+use Rattle.published.proofs.Unplug.{outs, unplug, Redex, r-var, r-new, r-fork, r-lock, r-select, r-add, r-hole, tag, fill-tag, value-stuck, only-reduce, redex-active, determined}
 
 -- So many silent moves, at places of this kind.
 pub data Silently (s : Code) (lim : Places) (st : Stores) (above : List Frame) (on : Path → Type 0) : Tree → Tree → ℕ → Type 0 where
@@ -167,14 +169,22 @@ module _ {s : Code} {start : ℕ} {st : Stores} (ok : StoresOk s st) (acc : Acce
         go (suc k) z =
             first-silent (ap (runNode s (spare lim st (running a e fs)) st above fs e a) i ∙ m ∙ ap (descend st fs e f b) z) (rw i c) (rec (rw (← same-reading) at h))
 
+    -- null or a constant becomes a value
+    value-reach : (k : ℕ) (n : Node) (x : Value) → s .view a ≡ n → quiet n ≡ true
+        → runNode s (spare lim st (running a e fs)) st above fs e a n ≡ moved st (returning x fs)
+        → close (names (st .bindings) e) (build a (s .expr) n) ≡ p-value x → ValueFits s (st .objects) x v
+        → ((o : ℕ) → lockFrames o above + lockFrames o fs ≤ shutAt (st .objects) o)
+        → Step (s .program) (world st) (read s (st .bindings) above (running a e fs)) X T → Reached s lim st above (running a e fs) X T (suc k) here
+    value-reach k n x i c m q f d h =
+        first-silent (ap (runNode s (spare lim st (running a e fs)) st above fs e a) i ∙ m) (rw i c)
+        (at-most k (omega arith) (resume-reach fs x v r f d (rw (ap (close (names (st .bindings) e)) (node-expr acc a y n i) ∙ q) at h)))
+
     node-reach : (k : ℕ) (n : Node) → s .view a ≡ n → ((q : Point) → q ∈ parts n → LaterPart s a q) → Gives s (context (st .bindings) e) (build a (s .expr) n) v
         → ((o : ℕ) → lockFrames o above + lockFrames o fs ≤ shutAt (st .objects) o)
         → ((b : Point) (f : Frame) (u : Want) → LaterPart s a b → FramesOk s (st .bindings) w (f ∷ fs) u → NodeGives s (context (st .bindings) e) b u → ((o : ℕ) → lockFrames o (f ∷ fs) ≡ lockFrames o fs)
         → Step (s .program) (world st) (read s (st .bindings) above (running b e (f ∷ fs))) X T → Reached s lim st above (running b e (f ∷ fs)) X T k here)
         → Step (s .program) (world st) (read s (st .bindings) above (running a e fs)) X T → Reached s lim st above (running a e fs) X T (suc k) here
-    node-reach k n-null i t g d rec h =
-        let b = node-expr acc a y n-null i in
-        first-silent (ap (runNode s (spare lim st (running a e fs)) st above fs e a) i) (rw i) (at-most k (omega arith) (resume-reach fs nil v r (fits-nil (null-meets v)) d (rw b at h)))
+    node-reach k n-null i t g d rec h = value-reach k n-null nil i refl refl refl (fits-nil (null-given g)) d h
     node-reach k (n-var x) i t (gives-type (BD-INFER-VAR z j) m) d rec h =
         at-most (suc k) (omega arith)
         (redex-reach (n-var x) i t (gives-type (BD-INFER-VAR z j) m) r-var refl (give-step ok acc (spare lim st (running a e fs)) above fs v r e a x _ (node-expr acc a y (n-var x) i) (type-in j)) h)
@@ -203,6 +213,12 @@ module _ {s : Code} {start : ℕ} {st : Stores} (ok : StoresOk s st) (acc : Acce
     node-reach k (n-lock x b) i t g d rec h =
         at-most (suc k) (omega arith)
         (redex-reach (n-lock x b) i t g r-lock refl (lock-step ok acc (spare lim st (running a e fs)) above fs v r e a x _ b (node-expr acc a y (n-lock x b) i) (type-in (lock-parts g .1)) d) h)
+    node-reach k (n-constant z) i t (gives-type (BD-INFER-INT {t = u} c o) m) d rec h =
+        value-reach k (n-constant z) (int z) i refl refl refl (fits-int (acc .constants a z i) (rw (declared-int (s .program) u o) at m)) d h
+    node-reach k (n-add x z) i t (gives-type (BD-INFER-ADD (BD-INFER-VAR p j) (BD-INFER-VAR q l) o) m) d rec h =
+        at-most (suc k) (omega arith)
+        (redex-reach (n-add x z) i t (gives-type (BD-INFER-ADD (BD-INFER-VAR {n = a} p j) (BD-INFER-VAR {n = a} q l) o) m) r-add refl
+        (add-step ok acc (spare lim st (running a e fs)) above fs v r e a x z _ _ (node-expr acc a y (n-add x z) i) (type-in j) (type-in l)) h)
 
   run-reach : {w : Want} (k : ℕ) (a : Point) (fs : List Frame) (e : ℕ) (v : Want) → s .size ≤ a + k → FramesOk s (st .bindings) w fs v → e ≤ length (st .bindings)
       → NodeGives s (context (st .bindings) e) a v → ((o : ℕ) → lockFrames o above + lockFrames o fs ≤ shutAt (st .objects) o)
@@ -267,17 +283,27 @@ plug-value s bs (f ∷ fs) a v h =
     let q = plug-value s bs fs (fill (hole s bs f) a) v h in
     absurd (omega (arith, ap tag (q .1), fill-tag (hole s bs f) a))
 
-null-node : (m : ℕ → PVar) (n : Point) (f : Point → Expr) (x : Node) (v : Value) → close m (build n f x) ≡ p-value v → x ≡ n-null
-null-node m n f n-null v h = refl
-null-node m n f (n-var x) v h = cc
-null-node m n f (n-select x g) v h = cc
-null-node m n f (n-update x g p) v h = cc
-null-node m n f (n-call x g p) v h = cc
-null-node m n f (n-bind x p q) v h = cc
-null-node m n f (n-new c) v h = cc
-null-node m n f (n-cast t p) v h = cc
-null-node m n f (n-fork p q r) v h = cc
-null-node m n f (n-lock x p) v h = cc
+-- the nodes whose expression is a value
+data ValueNode : Node → Type 0 where
+  is-null : ValueNode n-null
+  is-constant : {z : ℤ} → ValueNode (n-constant z)
+
+value-other : {a : PExpr} {v : Value} → a ≡ p-value v → 1 ≤ tag a → ⊥
+value-other h n = omega (arith, ap tag h)
+
+value-node : (m : ℕ → PVar) (n : Point) (f : Point → Expr) (x : Node) (v : Value) → close m (build n f x) ≡ p-value v → ValueNode x
+value-node m n f n-null v h = is-null
+value-node m n f (n-var x) v h = absurd (value-other h (omega arith))
+value-node m n f (n-select x g) v h = absurd (value-other h (omega arith))
+value-node m n f (n-update x g p) v h = absurd (value-other h (omega arith))
+value-node m n f (n-call x g p) v h = absurd (value-other h (omega arith))
+value-node m n f (n-bind x p q) v h = absurd (value-other h (omega arith))
+value-node m n f (n-new c) v h = absurd (value-other h (omega arith))
+value-node m n f (n-cast t p) v h = absurd (value-other h (omega arith))
+value-node m n f (n-fork p q r) v h = absurd (value-other h (omega arith))
+value-node m n f (n-lock x p) v h = absurd (value-other h (omega arith))
+value-node m n f (n-constant z) v h = is-constant
+value-node m n f (n-add x y) v h = absurd (value-other h (omega arith))
 
 record Ready (s : Code) (lim : Places) (st : Stores) (above : List Frame) (t : Tree) (L : List ℕ) : Type 0 where
   value : Value
@@ -286,24 +312,33 @@ record Ready (s : Code) (lim : Places) (st : Stores) (above : List Frame) (t : T
   silently : Silently s lim st above (λ p. p ≡ here) t (returning value []) count
   locks : L ≡ held above
 
-ready-running : {s : Code} {lim : Places} {st : Stores} {above : List Frame} {L : List ℕ} (a : Point) (e : ℕ) (fs : List Frame) → L ≡ held (fs ++ above)
-    → fs ≡ [] → s .view a ≡ n-null → Ready s lim st above (running a e fs) L
-ready-running {s} {lim} {st} {above} a e fs h p n =
-    record {
-      value = nil;
-      count = 1;
-      few = omega arith;
-      silently = rw p (after {t = running a e []} {u = returning nil []} here refl (ap (runNode s (spare lim st (running a e [])) st above [] e a) n) (rw n) at-once);
-      locks = h ∙ ap (λ (z : List Frame). held (z ++ above)) p;
-    }
+module _ {s : Code} {lim : Places} {st : Stores} {above : List Frame} {L : List ℕ} (a : Point) (e : ℕ) (fs : List Frame)
+    (h : L ≡ held (fs ++ above)) (p : fs ≡ []) where
+  ready-value : (n : Node) (v : Value) → s .view a ≡ n → quiet n ≡ true
+      → runNode s (spare lim st (running a e [])) st above [] e a n ≡ moved st (returning v [])
+      → Ready s lim st above (running a e fs) L
+  ready-value n v i c m =
+      record {
+        value = v;
+        count = 1;
+        few = omega arith;
+        silently =
+            rw p
+            (after {t = running a e []} {u = returning v []} here refl (ap (runNode s (spare lim st (running a e [])) st above [] e a) i ∙ m) (rw i c) at-once);
+        locks = h ∙ ap (λ (z : List Frame). held (z ++ above)) p;
+      }
+
+  ready-running : (n : Node) → s .view a ≡ n → ValueNode n → Ready s lim st above (running a e fs) L
+  ready-running n-null i is-null = ready-value n-null nil i refl refl
+  ready-running (n-constant z) i is-constant = ready-value (n-constant z) (int z) i refl refl
 
 ready : {s : Code} {start : ℕ} {lim : Places} {st : Stores} {w : Want} → AcceptedCode s start → (above : List Frame) (t : Tree) (L : List ℕ) (v : Value) → TreeOk s st w t
     → p-thread L (p-value v) ≡ read s (st .bindings) above t → Ready s lim st above t L
 ready {s} {st = st} acc above (running a e fs) L v (running-ok le g r) h =
     let k : plug s (st .bindings) fs (said s (st .bindings) e a) ≡ p-value v = cc in
     let q = plug-value s (st .bindings) fs (said s (st .bindings) e a) v k in
-    let n = null-node (names (st .bindings) e) a (s .expr) (s .view a) v (rw (acc .built a (g .node)) at (q .1)) in
-    ready-running a e fs (cc) (q .0) n
+    let n = value-node (names (st .bindings) e) a (s .expr) (s .view a) v (rw (acc .built a (g .node)) at (q .1)) in
+    ready-running a e fs (cc) (q .0) (s .view a) refl n
 ready {s} {st = st} acc above (returning x fs) L v ok h =
     let k : plug s (st .bindings) fs (p-value x) ≡ p-value v = cc in
     let q = plug-value s (st .bindings) fs (p-value x) v k in

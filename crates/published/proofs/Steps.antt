@@ -7,24 +7,27 @@ use mathlib.Core.List.{List, [], _∷_, _++_}
 use mathlib.Core.Option.{Option, some}
 use lib.Dec.{eqb}
 use lib.ListN.{length}
-use borrow.Author.Tests.{eq-eqb}
-use Rattle.script.specs.Syntax.{Point, Node, n-null, n-var, n-select, n-update, n-call, n-bind, n-new, n-cast, n-fork, n-lock, build, pointOf, var, select, new, fork, lock, Program}
+use lib.IntN.{ℤ, _+ℤ_}
+use lib.Signed.{mag}
+use borrow.Author.Tests.{eq-eqb, ltb-true, ltb-false}
+use Rattle.words.specs.Integer.{HALF, rangeTest}
+use Rattle.script.specs.Syntax.{Point, Node, n-null, n-var, n-select, n-update, n-call, n-bind, n-new, n-cast, n-fork, n-lock, n-constant, n-add, build, pointOf, var, select, new, fork, lock, add, Program}
 use Rattle.typing.specs.declared.Answer.the-variants.{Typed}
 use Rattle.typing.specs.Members.{typeIn, fieldsOf}
-use Rattle.typing.specs.Published.{Sub, FieldIn, MsigIn, BD-INFER-VAR, BD-INFER-SELECT}
+use Rattle.typing.specs.Published.{Sub, FieldIn, MsigIn, BD-INFER-VAR, BD-INFER-SELECT, BD-INFER-ADD}
 use Rattle.typing.proofs.Environments.{type-in}
 use Rattle.machine.specs.declared.Store.{Store}
 use Rattle.machine.specs.declared.Value.{Value}
-use Rattle.machine.specs.declared.Value.the-variants.{Null as nil, Ref as ref}
+use Rattle.machine.specs.declared.Value.the-variants.{Null as nil, Ref as ref, Int as int}
 use Rattle.machine.specs.declared.Frame.{Frame}
 use Rattle.machine.specs.declared.Frame.the-variants.{Awaits as awaits, Casts as casts, Locks as locks}
 use Rattle.machine.specs.Config.{Code, Object, Binding, Stores, Tree, running, returning, failed, join, Config}
-use Rattle.machine.specs.Machine.{scope, context, find, object, setFields, setField, initials, oneIf, lockFrames, Places, Outcome, still, full, moved, give, descend, make, spawn, withShut, enter, shutAndEnter, onValue, onTarget, lockObject, extend, selectObject, updateObject, callBindings, callMethod, callObject, runNode, wake, resume, Phase, finished, broken, busy, phase, fold, inLeft, inRight, Path, here, left, right, moveAt, spare, move, held, part}
+use Rattle.machine.specs.Machine.{scope, context, find, object, setFields, setField, initials, oneIf, lockFrames, Places, Outcome, still, full, moved, give, descend, make, spawn, withShut, enter, shutAndEnter, onValue, onTarget, lockObject, extend, selectObject, giveSum, addValues, addBound, updateObject, callBindings, callMethod, callObject, runNode, wake, resume, Phase, finished, broken, busy, phase, fold, inLeft, inRight, Path, here, left, right, moveAt, spare, move, held, part}
 use Rattle.machine.specs.declared.Want.{Want}
 use Rattle.machine.specs.declared.Want.the-variants.{Any as any, Upto as upto}
 use Rattle.machine.specs.WellFormed.{meets-type, ValueFits, fits-ref, Gives, gives-type, StoresOk, Awaits, a-let, a-write, a-call, FramesOk, a-node, a-cast, TreeOk, running-ok, returning-ok, join-ok, lockCount, shutAt, WfConfig}
 use Rattle.machine.specs.Accepted.{AcceptedCode}
-use Rattle.published.specs.Steps.{fresh, PExpr, p-value, fill, PTree, p-thread, p-join, p-failed, World, remove, entryValue, DYN-EVAL-VAR, DYN-EVAL-LET, DYN-EVAL-CALL, DYN-EVAL-CAST, DYN-EVAL-SELECT, DYN-EVAL-UPDATE, DYN-EVAL-NEW, DYN-EVAL-LOCK, DYN-EVAL-LOCK-REENTRANT, DYN-EVAL-LOCK-RELEASE, DYN-EVAL-SPAWN, DYN-NPE-SELECT, DYN-NPE-UPDATE, DYN-NPE-CALL, DYN-NPE-LOCK, Step, reduces, DYN-EVAL-CONTEXT, DYN-EVAL-SPAWN-CONTEXT, DYN-EXCEPTION-CONTEXT, DYN-EVAL-ASYNC-LEFT, DYN-EVAL-ASYNC-RIGHT, DYN-EVAL-ASYNC-JOIN, DYN-EXCEPTION-ASYNC-LEFT, DYN-EXCEPTION-ASYNC-RIGHT}
+use Rattle.published.specs.Steps.{fresh, PExpr, p-value, fill, PTree, p-thread, p-join, p-failed, World, remove, entryValue, DYN-EVAL-VAR, DYN-EVAL-LET, DYN-EVAL-CALL, DYN-EVAL-CAST, DYN-EVAL-SELECT, DYN-EVAL-UPDATE, DYN-EVAL-NEW, DYN-EVAL-LOCK, DYN-EVAL-LOCK-REENTRANT, DYN-EVAL-LOCK-RELEASE, DYN-EVAL-SPAWN, DYN-NPE-SELECT, DYN-NPE-UPDATE, DYN-NPE-CALL, DYN-NPE-LOCK, DYN-EVAL-ADD, DYN-EXCEPTION-ADD, Step, reduces, DYN-EVAL-CONTEXT, DYN-EVAL-SPAWN-CONTEXT, DYN-EXCEPTION-CONTEXT, DYN-EVAL-ASYNC-LEFT, DYN-EVAL-ASYNC-RIGHT, DYN-EVAL-ASYNC-JOIN, DYN-EXCEPTION-ASYNC-LEFT, DYN-EXCEPTION-ASYNC-RIGHT}
 use Rattle.published.specs.ReadAs.{entries, names, hole, plug, world, said, read}
 use Rattle.machine.specs.Silent.{quiet, quietIn, SilentAt}
 use Rattle.published.specs.Means.{Means, silently, publicly}
@@ -119,6 +122,7 @@ module _ {s : Code} {st : Stores} (ok : StoresOk s st) (above : List Frame) wher
     where
       on : (i : ℕ) → names (st .bindings) e x ≡ fresh i → (v : Value) → entryValue (entries (st .bindings)) i ≡ some v → ValueFits s (st .objects) v (upto c) → Exact s st above t (onValue st go v)
       on i k nil j q = null i k j
+      on i k (int z) j q = no-change
       on i k (ref o) j (fits-ref {x = y} l (meets-type b)) = rw l (there i o y k j l b)
 
 module _ {s : Code} {w : Want} {st : Stores} (ok : StoresOk s st) {start : ℕ} (acc : AcceptedCode s start) (room : Places) (above fs : List Frame) where
@@ -181,6 +185,35 @@ module _ {s : Code} {w : Want} {st : Stores} (ok : StoresOk s st) {start : ℕ} 
         let q = fit-field (ok .heap o y l .fields) f u (ap (λ (n : ℕ). typeIn (fieldsOf (s .program) n) f) m ∙ d .1) in
         rw (q .there) (published {su = st} {u = returning (q .value) fs} (rw (z, n) (plug-step s (st .bindings) fs (reduces (DYN-EVAL-SELECT {t = u} j l (rw m k) (q .there)))))))
 
+    -- a sum of two variables that are numbers, in range or not
+    sum-step : (x y i j : ℕ) (a b : ℤ) → s .expr p ≡ add p x y → names (st .bindings) e x ≡ fresh i → names (st .bindings) e y ≡ fresh j
+        → entryValue (entries (st .bindings)) i ≡ some (int a) → entryValue (entries (st .bindings)) j ≡ some (int b) → (q : Bool) → rangeTest (a +ℤ b) ≡ q
+        → Exact s st above (running p e fs) (giveSum st fs (a +ℤ b) q)
+    sum-step x y i j a b z m n h k true q =
+        published {su = st} {u = returning (int (a +ℤ b)) fs}
+        (rw (z, m, n) (plug-step s (st .bindings) fs (reduces (DYN-EVAL-ADD h k (omega (arith, ltb-true (mag (a +ℤ b)) HALF q))))))
+    sum-step x y i j a b z m n h k false q =
+        published {su = st} {u = failed}
+        (rw (z, m, n) (plug-failed s (st .bindings) fs (reduces (DYN-EXCEPTION-ADD h k (λ r. omega (arith, ltb-false (mag (a +ℤ b)) HALF q))))))
+
+    values-step : (x y i j : ℕ) → s .expr p ≡ add p x y → names (st .bindings) e x ≡ fresh i → names (st .bindings) e y ≡ fresh j → (v w : Value)
+        → entryValue (entries (st .bindings)) i ≡ some v → entryValue (entries (st .bindings)) j ≡ some w
+        → Exact s st above (running p e fs) (addValues st fs v w)
+    values-step x y i j z m n nil w h k = no-change
+    values-step x y i j z m n (ref o) w h k = no-change
+    values-step x y i j z m n (int a) nil h k = no-change
+    values-step x y i j z m n (int a) (ref o) h k = no-change
+    values-step x y i j z m n (int a) (int b) h k = sum-step x y i j a b z m n h k (rangeTest (a +ℤ b)) refl
+
+    pub add-step : (x y t u : ℕ) → s .expr p ≡ add p x y → typeIn (context (st .bindings) e) x ≡ some t → typeIn (context (st .bindings) e) y ≡ some u
+        → Exact s st above (running p e fs) (addBound st fs (find (scope (st .bindings) e) x) (find (scope (st .bindings) e) y))
+    add-step x y t u z h k =
+        let f = fit-binding e x t (ok .bindings) h in
+        let g = fit-binding e y u (ok .bindings) k in
+        let m = variable (st .bindings) e x (f .binding) (f .there) in
+        let n = variable (st .bindings) e y (g .binding) (g .there) in
+        rw (f .there, g .there) (values-step x y (m .number) (n .number) z (m .name) (n .name) (f .binding .value) (g .binding .value) (m .value) (n .value))
+
     -- a part is run first: the reading stays
     descend-step : (a : Point) (f : Frame) → said s (st .bindings) e p ≡ fill (hole s (st .bindings) f) (said s (st .bindings) e a) → held (f ∷ (fs ++ above)) ≡ held (fs ++ above) → (k : ℕ)
         → Faithful s st above (running p e fs) here true (descend st fs e f a k)
@@ -200,6 +233,9 @@ module _ {s : Code} {w : Want} {st : Stores} (ok : StoresOk s st) {start : ℕ} 
     run-step (n-cast t a) i b g d = descend-step a (casts p) (rw (i, b)) refl (room .frames)
     run-step (n-fork a b c) i j g d = of-thread refl (spawn-step a b c j (room .threads))
     run-step (n-lock x a) i b g d = of-thread refl (lock-step x _ a b (type-in (lock-parts g .1)) d)
+    run-step (n-constant z) i b g d = silent {u = returning (int z) fs} (rw b)
+    run-step (n-add x y) i b (gives-type (BD-INFER-ADD (BD-INFER-VAR w h) (BD-INFER-VAR z k) o) m) d =
+        of-thread refl (add-step x y _ _ b (type-in h) (type-in k))
 
   module _ (p : Point) (e : ℕ) (v : Want) (x : Value) (r : FramesOk s (st .bindings) w fs v) where
     bind-step : (n t : ℕ) (a b : Point) → s .view p ≡ n-bind n a b → (k : ℕ)

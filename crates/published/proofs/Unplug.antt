@@ -3,11 +3,13 @@ use Prim.Native.Nat.{ℕ, _≤_}
 use native.Mathlib.Omega.{arith}
 use mathlib.Core.Path.{_≡_, refl, sym, _∙_, ap}
 use mathlib.Core.List.{List, [], _∷_}
+use lib.IntN.{ℤ, _+ℤ_}
+use Rattle.words.specs.Integer.{InRange}
 use Rattle.script.specs.Syntax.{Program}
 use Rattle.machine.specs.declared.Value.{Value}
 use Rattle.machine.specs.declared.Frame.{Frame}
 use Rattle.machine.specs.Config.{Code, Binding}
-use Rattle.published.specs.Steps.{PVar, PExpr, p-value, p-var, p-select, p-update, p-call, p-let, p-new, p-cast, p-fork, p-lock, p-locked, Hole, h-update, h-call, h-let, h-cast, h-locked, fill, PTree, p-thread, p-join, p-failed, World, Reduce, DYN-EVAL-VAR, DYN-EVAL-LET, DYN-EVAL-CALL, DYN-EVAL-CAST, DYN-EVAL-SELECT, DYN-EVAL-UPDATE, DYN-EVAL-NEW, DYN-EVAL-LOCK, DYN-EVAL-LOCK-REENTRANT, DYN-EVAL-LOCK-RELEASE, DYN-EVAL-SPAWN, DYN-NPE-SELECT, DYN-NPE-UPDATE, DYN-NPE-CALL, DYN-NPE-LOCK, Step, reduces, DYN-EVAL-CONTEXT, DYN-EVAL-SPAWN-CONTEXT, DYN-EXCEPTION-CONTEXT}
+use Rattle.published.specs.Steps.{PVar, PExpr, p-value, p-var, p-select, p-update, p-call, p-let, p-new, p-cast, p-fork, p-lock, p-locked, p-add, Hole, h-update, h-call, h-let, h-cast, h-locked, fill, PTree, p-thread, p-join, p-failed, World, Reduce, DYN-EVAL-VAR, DYN-EVAL-LET, DYN-EVAL-CALL, DYN-EVAL-CAST, DYN-EVAL-SELECT, DYN-EVAL-UPDATE, DYN-EVAL-NEW, DYN-EVAL-LOCK, DYN-EVAL-LOCK-REENTRANT, DYN-EVAL-LOCK-RELEASE, DYN-EVAL-SPAWN, DYN-NPE-SELECT, DYN-NPE-UPDATE, DYN-NPE-CALL, DYN-NPE-LOCK, DYN-EVAL-ADD, DYN-EXCEPTION-ADD, Step, reduces, DYN-EVAL-CONTEXT, DYN-EVAL-SPAWN-CONTEXT, DYN-EXCEPTION-CONTEXT}
 use Rattle.published.specs.ReadAs.{hole, plug}
 
 -- What a step of the expression in a hole makes of the whole.
@@ -105,6 +107,7 @@ pub data Redex : PExpr → Type 0 where
   r-fork : {a b c : PExpr} → Redex (p-fork a b c)
   r-lock : {x : PVar} {a : PExpr} → Redex (p-lock x a)
   r-select : {x : PVar} {f : ℕ} → Redex (p-select x f)
+  r-add : {x y : PVar} → Redex (p-add x y)
   r-hole : {a : PExpr} (E : Hole) (v : Value) → a ≡ fill E (p-value v) → Redex a
 
 -- the forms of expressions
@@ -120,6 +123,7 @@ tag (p-locked o a) = 5
 tag (p-select x f) = 6
 tag (p-update x f a) = 5
 tag (p-call x m a) = 5
+tag (p-add x y) = 7
 
 pub fill-tag : (E : Hole) (a : PExpr) → tag (fill E a) ≡ 5
 fill-tag (h-let x b) a = refl
@@ -144,6 +148,8 @@ reduce-tag (DYN-EVAL-CALL i j h k l m n o r) = omega arith
 reduce-tag (DYN-NPE-SELECT h) = omega arith
 reduce-tag (DYN-NPE-UPDATE h) = omega arith
 reduce-tag (DYN-NPE-CALL h) = omega arith
+reduce-tag (DYN-EVAL-ADD h k r) = omega arith
+reduce-tag (DYN-EXCEPTION-ADD h k n) = omega arith
 
 pub value-stuck : {p : Program} {W X : World} {L : List ℕ} {a : PExpr} {T : PTree} (v : Value) → a ≡ p-value v → Step p W (p-thread L a) X T → ⊥
 value-stuck v e (reduces h) = omega (arith, ap tag e, reduce-tag h)
@@ -157,6 +163,7 @@ no-context {b = b} r-new F e h = omega (arith, ap tag e, fill-tag F b)
 no-context {b = b} r-fork F e h = omega (arith, ap tag e, fill-tag F b)
 no-context {b = b} r-lock F e h = omega (arith, ap tag e, fill-tag F b)
 no-context {b = b} r-select F e h = omega (arith, ap tag e, fill-tag F b)
+no-context {b = b} r-add F e h = omega (arith, ap tag e, fill-tag F b)
 no-context {b = b} (r-hole E v k) F e h = value-stuck v (sym (same-hole E F (p-value v) b (sym k ∙ e) .1)) h
 
 pub only-reduce : {p : Program} {W X : World} {L : List ℕ} {a : PExpr} {T : PTree} → Redex a → Step p W (p-thread L a) X T → Reduce p W L a X T
@@ -171,7 +178,12 @@ redex-active r-new v h = omega (arith, ap tag h)
 redex-active r-fork v h = omega (arith, ap tag h)
 redex-active r-lock v h = omega (arith, ap tag h)
 redex-active r-select v h = omega (arith, ap tag h)
+redex-active r-add v h = omega (arith, ap tag h)
 redex-active (r-hole E w k) v h = omega (arith, ap tag h, ap tag k, fill-tag E (p-value w))
+
+-- a sum is in range or is not
+in-and-out : (y z : ℤ) → y ≡ z → InRange y → (InRange z → ⊥) → ⊥
+in-and-out y z e r n = n (rw e at r)
 
 -- a rule determines its result
 pub determined : {p : Program} {W X Y : World} {L : List ℕ} {a : PExpr} {T U : PTree} → Reduce p W L a X T → Reduce p W L a Y U → (X ≡ Y) × (T ≡ U)
@@ -202,3 +214,7 @@ determined (DYN-EVAL-CALL i₁ j₁ a₁ b₁ c₁ d₁ e₁ f₁ g₁) (DYN-EVA
 determined (DYN-EVAL-CALL i₁ j₁ a₁ b₁ c₁ d₁ e₁ f₁ g₁) (DYN-NPE-CALL k) = (cc, cc)
 determined (DYN-NPE-CALL k) (DYN-EVAL-CALL i₁ j₁ a₁ b₁ c₁ d₁ e₁ f₁ g₁) = (cc, cc)
 determined (DYN-NPE-CALL h) (DYN-NPE-CALL k) = (refl, refl)
+determined (DYN-EVAL-ADD h j r) (DYN-EVAL-ADD k l s) = (refl, cc)
+determined (DYN-EVAL-ADD {i = a} {j = b} h j r) (DYN-EXCEPTION-ADD {i = c} {j = d} k l n) = absurd (in-and-out (a +ℤ b) (c +ℤ d) (cc) r n)
+determined (DYN-EXCEPTION-ADD {i = a} {j = b} h j n) (DYN-EVAL-ADD {i = c} {j = d} k l r) = absurd (in-and-out (c +ℤ d) (a +ℤ b) (cc) r n)
+determined (DYN-EXCEPTION-ADD h j n) (DYN-EXCEPTION-ADD k l m) = (refl, cc)

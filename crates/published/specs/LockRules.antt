@@ -5,8 +5,8 @@ use mathlib.Core.List.{List, [], _∷_, _++_}
 use lib.ListN.{length}
 use Rattle.script.specs.Lists.{_∈_, countIn}
 use Rattle.machine.specs.Config.{Object}
-use Rattle.published.specs.Steps.{PExpr, p-value, p-var, p-select, p-update, p-call, p-let, p-new, p-cast, p-fork, p-lock, p-locked, PTree}
-use Rattle.published.specs.Steps.{p-thread, p-join, p-failed, remove}
+use Rattle.published.specs.Steps.{PExpr, p-value, p-var, p-select, p-update, p-call, p-let, p-new, p-cast, p-fork, p-lock, p-locked, p-add}
+use Rattle.published.specs.Steps.{PTree, p-thread, p-join, p-failed, remove}
 use Rattle.published.specs.HeldLocks.{Locked}
 
 -- lockList(e) = [ι | lockedι{e'} ∈ e]
@@ -22,6 +22,7 @@ lockedList (p-cast t a) = lockedList a
 lockedList (p-fork a b c) = lockedList a ++ (lockedList b ++ lockedList c)
 lockedList (p-lock x a) = lockedList a
 lockedList (p-locked o a) = o ∷ lockedList a
+lockedList (p-add x y) = []
 
 -- The set of a list's elements: the list with each of them once.
 abbrev pub asSet : List ℕ → List ℕ

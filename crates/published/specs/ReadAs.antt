@@ -4,7 +4,8 @@ use mathlib.Core.Bool.{cond}
 use mathlib.Core.List.{List, [], _∷_, _++_}
 use lib.Dec.{eqb}
 use lib.ListN.{length}
-use Rattle.script.specs.Syntax.{Point, Node, n-null, n-var, n-select, n-update, n-call, n-bind, n-new, n-cast, n-fork, n-lock, Program}
+use Rattle.script.specs.Syntax.{Point, Node, n-null, n-var, n-select, n-update, n-call, n-bind, n-new, n-cast, n-fork, n-lock, n-constant, n-add}
+use Rattle.script.specs.Syntax.{Program}
 use Rattle.machine.specs.declared.Frame.{Frame}
 use Rattle.machine.specs.declared.Frame.the-variants.{Awaits as awaits, Casts as casts, Locks as locks}
 use Rattle.machine.specs.Config.{Code, Binding, Stores, Tree, running, returning, failed, join, Config}
@@ -35,6 +36,8 @@ gap s m (n-new c) = h-cast 0
 gap s m (n-cast t a) = h-cast t
 gap s m (n-fork a b c) = h-cast 0
 gap s m (n-lock x a) = h-cast 0
+gap s m (n-constant z) = h-cast 0
+gap s m (n-add x y) = h-cast 0
 
 abbrev pub hole : Code → List Binding → Frame → Hole
 hole s bs (awaits n e) = gap s (names bs e) (s .view n)

@@ -1,4 +1,5 @@
--- The published small-step semantics over ⟨H; V; T⟩: Figures 8 and 9 and appendix A.2. Each rule keeps its name.
+-- The published small-step semantics over ⟨H; V; T⟩: Figures 8 and 9 and appendix A.2. Each rule keeps its name. Added are DYN-EVAL-ADD and DYN-EXCEPTION-ADD:
+-- "Demand 2 counts rules and moves that a request adds as published".
 use Prim.Native.Nat.{ℕ, suc}
 use mathlib.Core.Path.{_≡_}
 use mathlib.Core.Bool.{true, false, cond}
@@ -6,11 +7,13 @@ use mathlib.Core.List.{List, [], _∷_, _++_}
 use mathlib.Core.Option.{Option, none, some}
 use lib.Dec.{eqb}
 use lib.ListN.{length}
+use lib.IntN.{ℤ, _+ℤ_}
+use Rattle.words.specs.Integer.{InRange}
 use Rattle.script.specs.Lists.{_∈_}
-use Rattle.script.specs.Syntax.{Expr, null, var, select, update, call, bind, new, cast, fork, lock, Method, Program}
+use Rattle.script.specs.Syntax.{Expr, null, var, select, update, call, bind, new, cast, fork, lock, constant, add, Method, Program}
 use Rattle.typing.specs.Published.{FieldIn}
 use Rattle.machine.specs.declared.Value.{Value}
-use Rattle.machine.specs.declared.Value.the-variants.{Null as nil, Ref as ref}
+use Rattle.machine.specs.declared.Value.the-variants.{Null as nil, Ref as ref, Int as int}
 use Rattle.machine.specs.Config.{Object}
 use Rattle.typing.specs.Members.{fieldsOf, definedIn}
 use Rattle.machine.specs.Machine.{object, setShut, setFields, fieldValue, setField, initials}
@@ -33,6 +36,7 @@ pub data PExpr : Type 0 where
   p-fork : PExpr → PExpr → PExpr → PExpr
   p-lock : PVar → PExpr → PExpr
   p-locked : ℕ → PExpr → PExpr
+  p-add : PVar → PVar → PExpr
 
 -- e[x ↦ y]
 abbrev pub renameVar : ℕ → PVar → PVar → PVar
@@ -51,6 +55,7 @@ rename x y (p-cast t a) = p-cast t (rename x y a)
 rename x y (p-fork a b c) = p-fork (rename x y a) (rename x y b) (rename x y c)
 rename x y (p-lock z a) = p-lock (renameVar x y z) (rename x y a)
 rename x y (p-locked o a) = p-locked o (rename x y a)
+rename x y (p-add z w) = p-add (renameVar x y z) (renameVar x y w)
 
 -- An expression of the text, with a meaning for its free names; the same with one more name bound in the text.
 abbrev pub shadow : ℕ → (ℕ → PVar) → ℕ → PVar
@@ -67,6 +72,8 @@ close m (new n c) = p-new c
 close m (cast n t a) = p-cast t (close m a)
 close m (fork n a b c) = p-fork (close m a) (close m b) (close m c)
 close m (lock n x a) = p-lock (m x) (close m a)
+close m (constant n z) = p-value (int z)
+close m (add n x y) = p-add (m x) (m y)
 
 -- V
 pub record Entry : Type 0 where
@@ -144,6 +151,10 @@ pub data Reduce (p : Program) : World → List ℕ → PExpr → World → PTree
       → Reduce p W L (p-update (fresh x) f (p-value v)) W p-failed
   DYN-NPE-CALL : {W : World} {L : List ℕ} {x m : ℕ} {v : Value} → entryValue (W .vars) x ≡ some nil → Reduce p W L (p-call (fresh x) m (p-value v)) W p-failed
   DYN-NPE-LOCK : {W : World} {L : List ℕ} {x : ℕ} {a : PExpr} → entryValue (W .vars) x ≡ some nil → Reduce p W L (p-lock (fresh x) a) W p-failed
+  DYN-EVAL-ADD : {W : World} {L : List ℕ} {x y : ℕ} {i j : ℤ} → entryValue (W .vars) x ≡ some (int i) → entryValue (W .vars) y ≡ some (int j)
+      → InRange (i +ℤ j) → Reduce p W L (p-add (fresh x) (fresh y)) W (p-thread L (p-value (int (i +ℤ j))))
+  DYN-EXCEPTION-ADD : {W : World} {L : List ℕ} {x y : ℕ} {i j : ℤ} → entryValue (W .vars) x ≡ some (int i) → entryValue (W .vars) y ≡ some (int j)
+      → (InRange (i +ℤ j) → ⊥) → Reduce p W L (p-add (fresh x) (fresh y)) W p-failed
 
 -- cfg₁ ↪ cfg₂: one of these rules, or one of those about contexts and concurrency.
 pub data Step (p : Program) : World → PTree → World → PTree → Type 0 where

@@ -5,6 +5,7 @@ use mathlib.Core.List.{List, [], _∷_}
 use mathlib.Core.Option.{Option}
 use Prim.Native.Nat.{ℕ, zero, suc, _+_, _-_, _<_, _≤_, min}
 use native.Mathlib.Omega.{arith}
+use native.Mathlib.Numerals.{add-one}
 use lib.Dec.{eqb, leb, ltb}
 use lib.ListN.{getD, List·getD-eq-default}
 use borrow.Author.Tests.{eqb-true, eqb-false, eq-eqb, ne-eqb, not-true, not-false, lt-ltb, le-ltb}
@@ -19,7 +20,8 @@ use Rattle.script.specs.declared.Section.{Section}
 use Rattle.script.specs.declared.Section.the-variants.{Interfaces as interfaces, Classes as classes, Nodes as nodes}
 use Rattle.script.specs.Section.{countOf, recordAt, recordWord, nodeWord}
 use Rattle.script.specs.Syntax.{Point}
-use Rattle.script.specs.Reading.{Kind, null-kind, var-kind, select-kind, update-kind, call-kind, bind-kind, new-kind, cast-kind, fork-kind, lock-kind, unknown-kind, kindOf, shapeOf}
+use Rattle.script.specs.Reading.{Kind, null-kind, var-kind, select-kind, update-kind, call-kind, bind-kind, new-kind, cast-kind, fork-kind, lock-kind, constant-kind}
+use Rattle.script.specs.Reading.{add-kind, unknown-kind, kindOf, shapeOf}
 use Rattle.script.specs.Asking.{firstOut, lowestIn}
 use Rattle.script.specs.Questions.{earlierTest, interfaceTest, typeTest, interfaceTypeTest, classTypeTest, wordsTest, wordTest, usesIn, dueUses, nodeTest}
 use Rattle.sections.specs.Laid.{foundOf}
@@ -62,9 +64,9 @@ module _ (s : List ℕ) (i form b : ℕ) (f : form ≡ recordWord s interfaces i
 
 -- 6. Type words.
 module _ (s : List ℕ) (t n : ℕ) (p : n ≡ countOf s interfaces) where
-  pub type-is : (m : ℕ) → m ≡ countOf s classes → leb t (n + m) ≡ typeTest s t
+  pub type-is : (m : ℕ) → m ≡ countOf s classes → leb t (n + m + 1) ≡ typeTest s t
   unfolding typeTest
-  type-is m q = rw (p, q)
+  type-is m q = rw (p, q, add-one)
 
   pub interface-type-is : (t ≡ 0 → ⊥) → leb t n ≡ interfaceTypeTest s t
   unfolding interfaceTypeTest
@@ -90,16 +92,18 @@ module _ (s : List ℕ) (w v t : ℕ) (r : Bool) (p : t ≡ w) (e : r ≡ typeTe
   two-types-is u q h g k = and-yes (typeTest s w) (typeTest s v) r q (rw p at e) h (rw g at k)
 
 -- Shapes of nodes.
-five-more : (k n : ℕ) → n ≤ k → (k ≡ n → ⊥) → (k ≡ n + 1 → ⊥) → (k ≡ n + 2 → ⊥) → (k ≡ n + 3 → ⊥) → (k ≡ n + 4 → ⊥) → n + 5 ≤ k
-five-more k n h a b c d e = omega arith
+six-more :
+    (k n : ℕ) → n ≤ k → (k ≡ n → ⊥) → (k ≡ n + 1 → ⊥) → (k ≡ n + 2 → ⊥) → (k ≡ n + 3 → ⊥) → (k ≡ n + 4 → ⊥) → (k ≡ n + 5 → ⊥) → n + 6 ≤ k
+six-more k n h a b c d e f = omega arith
 
 pub shape-unknown :
     (k : ℕ) → (k ≡ 0 → ⊥) → (k ≡ 1 → ⊥) → (k ≡ 2 → ⊥) → (k ≡ 3 → ⊥) → (k ≡ 4 → ⊥) → (k ≡ 5 → ⊥) → (k ≡ 6 → ⊥) → (k ≡ 7 → ⊥) → (k ≡ 8 → ⊥) → (k ≡ 9 → ⊥)
-    → shapeOf unknown-kind ≡ shapeOf (kindOf k)
+    → (k ≡ 10 → ⊥) → (k ≡ 11 → ⊥) → shapeOf unknown-kind ≡ shapeOf (kindOf k)
 unfolding kindOf
-shape-unknown k a b c d e f g h i j =
-    let kinds : List Kind = null-kind ∷ var-kind ∷ select-kind ∷ update-kind ∷ call-kind ∷ bind-kind ∷ new-kind ∷ cast-kind ∷ fork-kind ∷ lock-kind ∷ [] in
-    ap shapeOf (sym (List·getD-eq-default kinds unknown-kind (five-more k 5 (five-more k 0 (omega arith) a b c d e) f g h i j)))
+shape-unknown k a b c d e f g h i j l m =
+    let kinds : List Kind = null-kind ∷ var-kind ∷ select-kind ∷ update-kind ∷ call-kind ∷ bind-kind ∷ new-kind ∷ cast-kind ∷ fork-kind ∷ lock-kind
+    ∷ constant-kind ∷ add-kind ∷ [] in
+    ap shapeOf (sym (List·getD-eq-default kinds unknown-kind (six-more k 6 (six-more k 0 (omega arith) a b c d e f) g h i j l m)))
 
 -- A word of a role that is known, and a part.
 pub word-is : (test : Role → ℕ → Bool) (role known : Role) (w : ℕ) (r : Bool) → role ≡ known → r ≡ test known w → r ≡ test role w

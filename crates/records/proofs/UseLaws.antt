@@ -16,7 +16,8 @@ use Rattle.script.specs.Lists.{run, countIn}
 use Rattle.script.specs.declared.Section.the-variants.{Methods as methods, Nodes as nodes}
 use Rattle.script.specs.Section.{countOf, recordWord, nodeWord}
 use Rattle.script.specs.Syntax.{Point, parts}
-use Rattle.script.specs.Reading.{Kind, null-kind, var-kind, select-kind, update-kind, call-kind, bind-kind, new-kind, cast-kind, fork-kind, lock-kind, unknown-kind, kindOf, shapeOf, nodeOf, viewAt}
+use Rattle.script.specs.Reading.{Kind, null-kind, var-kind, select-kind, update-kind, call-kind, bind-kind, new-kind, cast-kind, fork-kind, lock-kind, constant-kind}
+use Rattle.script.specs.Reading.{add-kind, unknown-kind, kindOf, shapeOf, nodeOf, viewAt}
 use Rattle.script.specs.Questions.{partsFrom, usesIn}
 use Rattle.records.specs.Uses.{partIn, Counted, Adds, bodiesIn}
 
@@ -85,6 +86,8 @@ parts-kind new-kind a b c = refl
 parts-kind cast-kind a b c = refl
 parts-kind fork-kind a b c = refl
 parts-kind lock-kind a b c = refl
+parts-kind constant-kind a b c = refl
+parts-kind add-kind a b c = refl
 parts-kind unknown-kind a b c = refl
 
 pub adds-parts :

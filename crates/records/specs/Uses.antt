@@ -10,7 +10,7 @@ use Rattle.records.specs.declared.nodes.Test.{Test}
 use Rattle.records.specs.declared.nodes.Test.the-variants.{Interface, SignatureTypes, Implements, FieldType, MethodTypes, TypeWords}
 use Rattle.records.specs.declared.nodes.Test.the-variants.{Body, Node, FieldCount}
 use Rattle.script.specs.declared.Role.{Role}
-use Rattle.script.specs.declared.Role.the-variants.{Unused, Variable, Member, Bound, NewClass, CastType, Expression, Unknown}
+use Rattle.script.specs.declared.Role.the-variants.{Unused, Variable, Member, Bound, NewClass, CastType, Expression, Constant, Unknown}
 use Rattle.script.specs.Lists.{run, countIn}
 use Rattle.script.specs.declared.Section.{Section}
 use Rattle.script.specs.declared.Section.the-variants.{Interfaces as interfaces, Signatures as signatures, Classes as classes, Fields as fields}
@@ -29,6 +29,7 @@ partIn Bound w = []
 partIn NewClass w = []
 partIn CastType w = []
 partIn Expression w = w ∷ []
+partIn Constant w = []
 partIn Unknown w = []
 
 -- A table says of each node how often it is in a list of uses, more than two uses counting as two.

@@ -65,12 +65,12 @@ fn interface_fits(s: &[u8], i: usize) -> bool
     earlier_fits(i, b)
 }
 
-// Is a word a type?
+// Is a word a type? The last is Int.
 fn type_fits(s: &[u8], t: u16) -> bool
     requires { ⌜ Laid (now s) ⌝ }
     ensures { λ r. ⌜ r ≡ typeTest (now (s .entry)) t ⌝ }
 {
-    t as usize <= count_of(s, Section::Interfaces) + count_of(s, Section::Classes)
+    t as usize <= count_of(s, Section::Interfaces) + count_of(s, Section::Classes) + 1
 }
 
 // Is a word the type of an interface?
@@ -124,6 +124,8 @@ fn shape_of(kind: u16) -> Shape
         7 => Shape(Role::CastType, Role::Expression, Role::Unused),
         8 => Shape(Role::Expression, Role::Expression, Role::Expression),
         9 => Shape(Role::Variable, Role::Expression, Role::Unused),
+        10 => Shape(Role::Constant, Role::Constant, Role::Unused),
+        11 => Shape(Role::Variable, Role::Variable, Role::Unused),
         _ => Shape(Role::Unknown, Role::Unknown, Role::Unknown),
     }
 }
@@ -141,6 +143,7 @@ fn type_word_fits(s: &[u8], role: Role, w: u16) -> bool
         Role::NewClass => class_type_fits(s, w),
         Role::CastType => type_fits(s, w),
         Role::Expression => true,
+        Role::Constant => true,
         Role::Unknown => true,
     }
 }
@@ -181,6 +184,7 @@ fn word_fits(s: &[u8], n: usize, role: Role, w: u16) -> bool
             }
             (w as usize) < count_of(s, Section::Nodes)
         }
+        Role::Constant => true,
         Role::Unknown => false,
     }
 }
@@ -313,6 +317,7 @@ fn count_word(uses: &mut [u8; Limits::NODES], role: Role, w: u16)
         Role::NewClass => {}
         Role::CastType => {}
         Role::Expression => count_use(uses, w),
+        Role::Constant => {}
         Role::Unknown => {}
     }
 }

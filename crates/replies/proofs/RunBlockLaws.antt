@@ -37,7 +37,9 @@ module _ {s b : List ℕ} (x : Runnable s b) where
       record {
         config = x .config;
         type = x .type;
-        represents = record { block = x .holds .is; few = well-fits s (x .within) (x .holds .well) .few };
+        represents =
+            let fit = well-fits s (x .within) (x .holds .well) in
+            record { block = x .holds .is; few = fit .few; storable = fit .values };
         accepted = x .accepted;
         formed = x .holds .well;
       }

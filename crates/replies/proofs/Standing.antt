@@ -35,7 +35,7 @@ module _ (s : List ℕ) (bytes : (i : ℕ) → getD s i 0 < 256) (t : ℕ) (acc 
       record {
         config = c;
         type = t;
-        represents = record { block = held .is; few = holds-fits s bytes t acc held .few };
+        represents = let fit = holds-fits s bytes t acc held in record { block = held .is; few = fit .few; storable = fit .values };
         accepted = accepts s bytes t acc;
         formed = held .well;
       }

@@ -23,12 +23,17 @@ use Rattle.block.specs.Layout.{WORDS, HEADER, VALUE, countWord, width, most, be
 use Rattle.block.specs.Values.{valueWords}
 use Rattle.block.specs.Block.{shutWord, objectWords, bindingWords, frameWords, Parts, rows, area, headerWords, laid}
 use Rattle.block.proofs.Rows.{Wide, wide-end, set-filled, sets-filled, filled-zeros, filled-nil, sets-inside, row-at, length-flatten, flatten-sets}
-use Rattle.block.proofs.Values.{values-wide}
-use Rattle.block.proofs.Words.{rows-wide, frame-width, length-area, area-zeros, ahead, behind, apart, ahead-length}
+use Rattle.block.proofs.Values.{value-width, values-wide}
+use Rattle.block.proofs.Words.{rows-wide, binding-width, frame-width, length-area, area-zeros, ahead, behind, apart, ahead-length}
 
 put-words-bytes : (ws : List ℕ) (i : ℕ) (vs : List ℕ) → putWords (bytes ws) (2 * i) vs ≡ bytes (sets ws i vs)
 put-words-bytes ws i [] = refl
 put-words-bytes ws i (v ∷ vs) = let e : 2 * i + 2 ≡ 2 * suc i = omega arith in rw (put-bytes ws i v, e) (put-words-bytes (set ws i v) (suc i) vs)
+
+pub put-append : (b : List ℕ) (at : ℕ) (xs ys : List ℕ) → putWords b at (xs ++ ys) ≡ putWords (putWords b at xs) (at + 2 * length xs) ys
+put-append b at [] ys = let e : at + 2 * 0 ≡ at = omega arith in rw e
+put-append b at (x ∷ xs) ys =
+    let e : at + 2 * suc (length xs) ≡ at + 2 + 2 * length xs = omega arith in rw e (put-append (putWord b at x) (at + 2) xs ys)
 
 map-set : {A B : Type 0} (f : A → B) (xs : List A) (i : ℕ) (x : A) → set (map f xs) i (f x) ≡ map f (set xs i x)
 map-set f [] i x = refl
@@ -181,7 +186,7 @@ row-end f xs x = map-append f xs (x ∷ [])
 null-words : (m : ℕ) → flatten (map valueWords (replicate m nil)) ≡ replicate (m * VALUE) 0
 unfolding flatten
 null-words zero = refl
-null-words (suc m) = let e : suc m * VALUE ≡ suc (m * VALUE) = omega arith in rw e (ap (λ (l : List ℕ). valueWords nil ++ l) (null-words m))
+null-words (suc m) = let e : suc m * VALUE ≡ suc (suc (suc (m * VALUE))) = omega arith in rw e (ap (λ (l : List ℕ). valueWords nil ++ l) (null-words m))
 
 null-zeros : (n m : ℕ) → filled n (flatten (map valueWords (replicate m nil))) ≡ replicate n 0
 null-zeros n m = rw (null-words m) (filled-zeros n [] (m * VALUE) ∙ filled-nil n)
@@ -201,11 +206,11 @@ field-set o k v h =
     let m = VALUE * k + 0 in
     let e : fieldWord k ≡ suc (suc m) = omega arith in
     let words : List ℕ = filled (VALUE * CLASS-FIELDS) (flatten vs) in
-    let row : sets (getD vs k []) 0 (valueWords v) ≡ valueWords v = sets-all (getD vs k []) (valueWords v) (wide k l) in
+    let row : sets (getD vs k []) 0 (valueWords v) ≡ valueWords v = sets-all (getD vs k []) (valueWords v) (wide k l ∙ sym (value-width v)) in
     let set-row : sets words m (valueWords v) ≡ filled (VALUE * CLASS-FIELDS) (flatten (map valueWords (set (o .fields) k v))) =
-    sets-filled (VALUE * CLASS-FIELDS) (flatten vs) m (valueWords v) (omega (arith, length-flatten VALUE vs wide))
+    sets-filled (VALUE * CLASS-FIELDS) (flatten vs) m (valueWords v) (omega (arith, length-flatten VALUE vs wide, value-width v))
     ∙ ap (filled (VALUE * CLASS-FIELDS))
-    (flatten-sets VALUE vs wide k 0 (valueWords v) l (omega arith)
+    (flatten-sets VALUE vs wide k 0 (valueWords v) l (omega (arith, value-width v))
     ∙ ap (λ (r : List ℕ). flatten (set vs k r)) row
     ∙ ap flatten (map-set valueWords (o .fields) k v))
     in
@@ -238,7 +243,7 @@ module _ (p : Parts) where
         → putWords (bytes (laid p)) (wordByte Objects i (fieldWord k)) (valueWords v) ≡ bytes (laid (withObjects p (set (p .objects) i (withField (getD (p .objects) i d) k v))))
     put-field k v l w =
         let o = getD (p .objects) i d in
-        put-object (fieldWord k) (valueWords v) (withField o k v) (omega arith) (field-set o k v l)
+        put-object (fieldWord k) (valueWords v) (withField o k v) (omega (arith, value-width v)) (field-set o k v l)
 
   -- frame i written
   pub put-frame :
@@ -273,8 +278,10 @@ module _ (p : Parts) where
       ≡ bytes (laid (withBindings p (p .bindings ++ x ∷ [])))
   put-new-binding x h =
       let n = length-map (p .bindings) bindingWords in
+      let whole = sets-all (replicate (width Bindings) 0) (bindingWords x) (sym (binding-width x)) in
       rw n at
-      (put-more p (withBindings p (p .bindings ++ x ∷ [])) Bindings refl (bindingWords x) (omega arith) (omega arith) (row-end bindingWords (p .bindings) x))
+      (put-more p (withBindings p (p .bindings ++ x ∷ [])) Bindings refl (bindingWords x) (omega arith) (omega (arith, binding-width x))
+      (row-end bindingWords (p .bindings) x ∙ rw whole))
 
   -- one frame more, at the end, and the count
   pub put-new-frame :

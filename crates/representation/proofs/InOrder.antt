@@ -9,7 +9,7 @@ use native.Mathlib.Decide.{decLt}
 use lib.Dec.{eqb}
 use lib.ListN.{length, getD, length-map, length-reverse, List·getD-eq-default, List·getD-map}
 use lib.Seq.{ext-getD}
-use Rattle.words.specs.Word.{bytes}
+use Rattle.words.specs.Word.{WORD, wordAt, bytes}
 use Rattle.limits.specs.Limits.{CLASS-FIELDS}
 use Rattle.script.specs.Lists.{_∈_, run, sumBelow}
 use Rattle.script.proofs.Lists.{length-run, getD-run}
@@ -20,15 +20,15 @@ use Rattle.machine.specs.Config.{Object, Tree, failed, Config}
 use Rattle.block.specs.Rows.{wordOf, cell}
 use Rattle.block.specs.declared.Area.{Area}
 use Rattle.block.specs.declared.Area.the-variants.{Objects, Bindings, Positions, Frames}
-use Rattle.block.specs.Layout.{VALUE, width, counted, wordIn, rowsIn, CLASS, SHUT, fieldWord, BOUND, KIND, ENV, WAITING}
-use Rattle.block.specs.Values.{valueWords, valueIn}
+use Rattle.block.specs.Layout.{VALUE, width, wordByte, counted, wordIn, rowsIn, CLASS, SHUT, fieldWord, BOUND, KIND, ENV, RESULT, WAITING}
+use Rattle.block.specs.Values.{valueWords, valueIn, ValueOk, Storable}
 use Rattle.block.specs.Block.{shutWord, objectWords, bindingWords, frameWords, preorder, framesOf, partsOf, rows, blockWords, encode}
-use Rattle.block.specs.Fits.{AllWords, Fits}
+use Rattle.block.specs.Fits.{AllWords, AllStorable, Fits}
 use Rattle.block.specs.Decode.{objectOf, bindingOf, frameOf, forest, configIn, decode}
 use Rattle.representation.specs.Shows.{Shows}
-use Rattle.representation.specs.InOrder.{Unused, ObjectOk, is-running, is-returning, is-failed, is-join, FrameOk, is-awaits, is-casts, is-locks, RecordOk, InOrder}
+use Rattle.representation.specs.InOrder.{Unused, FieldsInOrder, ObjectOk, is-running, is-returning, is-failed, is-join, FrameOk, is-awaits, is-casts, is-locks, RecordOk, InOrder}
 use Rattle.block.proofs.Rows.{row-at}
-use Rattle.block.proofs.Values.{word-back, value-words, field-cell}
+use Rattle.block.proofs.Values.{value-word, value-ok-same, said-storable, field-cell}
 use Rattle.block.proofs.Words.{object-width, rowsIn-length, rowsIn-wide, rowsIn-cell}
 use Rattle.representation.proofs.Shows.{shows-laid}
 use Rattle.block.proofs.Decode.{decode-encode}
@@ -59,8 +59,7 @@ module _ (fieldCount : ℕ → ℕ) (r : List ℕ) (wide : length r ≡ width Ob
             let z : 0 + k ≡ k = omega arith in
             ap (λ (row : List ℕ). wordOf row m) (row-at valueWords (run value 0 own) k nil (rw (length-run value 0 own) y))
             ∙ ap (λ (v : Value). wordOf (valueWords v) m) (getD-run value 0 own k nil y ∙ ap value z)
-            ∙ ap (λ (row : List ℕ). wordOf row m) (value-words (wordOf r) (fieldWord k))
-            ∙ getD-run (wordOf r) (fieldWord k) VALUE m 0 l
+            ∙ sym (value-word (wordOf r) (fieldWord k) (ok .values .each k y) m l)
         | no n ↦
             rw (List·getD-eq-default (map valueWords (run value 0 own)) [] {n = k} (omega (arith, length-map (run value 0 own) valueWords, length-run value 0 own)))
             (sym (ok .unused .zero (fieldWord k + m) (omega arith) (omega arith)))
@@ -81,9 +80,9 @@ module _ (fieldCount : ℕ → ℕ) (r : List ℕ) (wide : length r ≡ width Ob
       ext-getD 0 (objectWords (objectOf fieldCount r)) r (object-width (objectOf fieldCount r) ∙ sym wide)
       (λ j h. object-words-at j (omega (arith, object-width (objectOf fieldCount r))))
 
-binding-words : (r : List ℕ) → length r ≡ width Bindings → bindingWords (bindingOf r) ≡ r
+binding-words : (r : List ℕ) → length r ≡ width Bindings → ValueOk (wordOf r) BOUND → bindingWords (bindingOf r) ≡ r
 unfolding run
-binding-words r wide = let e = listed (width Bindings) r wide in let v = word-back (wordOf r BOUND) in cc
+binding-words r wide ok = rw (← ok) (listed (width Bindings) r wide)
 
 three-words : (r : List ℕ) → length r ≡ width Frames → getD r 0 0 ∷ getD r 1 0 ∷ getD r 2 0 ∷ [] ≡ r
 unfolding run
@@ -99,13 +98,17 @@ frame-words r wide (is-locks k a) = rw k (let e = three-words r wide in rw (k, a
 unused-same : {w v : ℕ → ℕ} (n : ℕ) {from to : ℕ} → ((j : ℕ) → j < n → v j ≡ w j) → to ≤ n → Unused w from to → Unused v from to
 unused-same n e h u = record { zero = λ j l k. e j (omega arith) ∙ u .zero j l k }
 
+fields-same : {w v : ℕ → ℕ} {n : ℕ} → n ≤ CLASS-FIELDS → ((j : ℕ) → j < width Objects → v j ≡ w j) → FieldsInOrder w n → FieldsInOrder v n
+fields-same {w} {v} few e ok = record { each = λ k l. value-ok-same w v (fieldWord k) (λ m h. e (fieldWord k + m) (omega arith)) (ok .each k l) }
+
 pub record-same : (fieldCount : ℕ → ℕ) (a : Area) (w v : ℕ → ℕ) → ((j : ℕ) → j < width a → v j ≡ w j) → RecordOk fieldCount a w → RecordOk fieldCount a v
 record-same fieldCount Objects w v e ok =
     let class = e CLASS (omega arith) in
-    record { shut = rw (e SHUT (omega arith)) (ok .shut); few = rw class (ok .few); unused = rw class (unused-same (width Objects) e (omega arith) (ok .unused)) }
-record-same fieldCount Bindings w v e ok = ok
+    record { shut = rw (e SHUT (omega arith)) (ok .shut); few = rw class (ok .few); values = rw class (fields-same (ok .few) e (ok .values)); unused = rw class (unused-same (width Objects) e (omega arith) (ok .unused)) }
+record-same fieldCount Bindings w v e ok = value-ok-same w v BOUND (λ m h. e (BOUND + m) (omega arith)) ok
 record-same fieldCount Positions w v e (is-running k u) = is-running (e KIND (omega arith) ∙ k) (unused-same (width Positions) e (omega arith) u)
-record-same fieldCount Positions w v e (is-returning k u) = is-returning (e KIND (omega arith) ∙ k) (unused-same (width Positions) e (omega arith) u)
+record-same fieldCount Positions w v e (is-returning k u ok) =
+    is-returning (e KIND (omega arith) ∙ k) (unused-same (width Positions) e (omega arith) u) (value-ok-same w v RESULT (λ m h. e (RESULT + m) (omega arith)) ok)
 record-same fieldCount Positions w v e (is-failed k u) = is-failed (e KIND (omega arith) ∙ k) (unused-same (width Positions) e (omega arith) u)
 record-same fieldCount Positions w v e (is-join k u) = is-join (e KIND (omega arith) ∙ k) (unused-same (width Positions) e (omega arith) u)
 record-same fieldCount Frames w v e (is-awaits k) = is-awaits (e KIND (omega arith) ∙ k)
@@ -159,6 +162,14 @@ each-row P [] h r m = absurd (List·Memᴰ·not-nil m)
 each-row P (x ∷ rows) h r m =
     ⊎-elim (λ (e : r ≡ x). rw e (h 0 (omega arith))) (λ (k : r ∈ rows). each-row P rows (λ i l. h (suc i) (omega arith)) r k) (List·Memᴰ·cases-cons m)
 
+-- what holds of each element of a run by its number holds of each element
+each-run : {A : Type 0} (P : A → Type 0) (f : ℕ → A) (i n : ℕ) → ((k : ℕ) → k < i + n → P (f k)) → (x : A) → x ∈ run f i n → P x
+unfolding run
+each-run P f i zero h x m = absurd (List·Memᴰ·not-nil m)
+each-run P f i (suc n) h x m =
+    ⊎-elim (λ (e : x ≡ f i). rw e (h i (omega arith)))
+    (λ (k : x ∈ run f (i + 1) n). each-run P f (i + 1) n (λ k l. h k (omega arith)) x k) (List·Memᴰ·cases-cons m)
+
 module _ (fieldCount : ℕ → ℕ) (b : List ℕ) (o : InOrder fieldCount b) where
   abbrev c : Config
   c = configIn fieldCount b
@@ -179,7 +190,7 @@ module _ (fieldCount : ℕ → ℕ) (b : List ℕ) (o : InOrder fieldCount b) wh
       (λ i h. object-words fieldCount (getD (rowsIn b Objects) i []) (rowsIn-wide b Objects i h) (record-ok Objects i h))
 
   bindings-are : map bindingWords (map bindingOf (rowsIn b Bindings)) ≡ rowsIn b Bindings
-  bindings-are = rows-same bindingWords bindingOf (rowsIn b Bindings) (λ i h. binding-words (getD (rowsIn b Bindings) i []) (rowsIn-wide b Bindings i h))
+  bindings-are = rows-same bindingWords bindingOf (rowsIn b Bindings) (λ i h. binding-words (getD (rowsIn b Bindings) i []) (rowsIn-wide b Bindings i h) (record-ok Bindings i h))
 
   frames-are : map frameWords (map frameOf (rowsIn b Frames)) ≡ rowsIn b Frames
   frames-are =
@@ -197,10 +208,22 @@ module _ (fieldCount : ℕ → ℕ) (b : List ℕ) (o : InOrder fieldCount b) wh
       (sum-same (λ i. cell (rowsIn b Positions) i WAITING) (λ i. wordIn b Positions i WAITING) (counted b Positions) (λ i l. rowsIn-cell b Positions i WAITING l (omega arith))
       ∙ o .all-frames)
 
+  -- every word of a record is a word
+  word-small : (n : ℕ) → wordAt b n < WORD
+  unfolding wordAt
+  word-small n = omega (arith, o .small n, o .small (n + 1))
+
+  cell-small : (a : Area) (i j : ℕ) → i < length (rowsIn b a) → j < width a → cell (rowsIn b a) i j < WORD
+  cell-small a i j h l = rw (rowsIn-cell b a i j (number a i h) l) (word-small (wordByte a i j))
+
+  -- so what it says is storable
+  said : (a : Area) (i j : ℕ) → i < length (rowsIn b a) → j + 2 < width a → Storable (valueIn (cell (rowsIn b a) i) j)
+  said a i j h l = said-storable (cell (rowsIn b a) i) j (cell-small a i (j + 1) h (omega arith)) (cell-small a i (j + 2) h l)
+
   growth : Grown (rowsIn b Positions) given-out 1
   growth =
       grown (rowsIn b Positions) given-out 1 (rw (firsts b Positions (omega arith)) (o .one-tree)) (rowsIn-wide b Positions)
-      (record-ok Positions) (omega (arith, sum-is, frames-many))
+      (record-ok Positions) (λ i h. said Positions i RESULT h (omega arith)) (omega (arith, sum-is, frames-many))
 
   root : forest (rowsIn b Positions) given-out .trees ≡ c .tree ∷ []
   unfolding configIn
@@ -247,12 +270,30 @@ module _ (fieldCount : ℕ → ℕ) (b : List ℕ) (o : InOrder fieldCount b) wh
       let e = values-many fieldCount (a .0) in
       rw (← a .2) (e, omega (arith, e, k .few))
 
+  values-storable : AllStorable (partsOf c)
+  unfolding configIn flatMap
+  values-storable Objects =
+      λ x m.
+      let a = Memᴰ·of-map (objectOf fieldCount) (rowsIn b Objects) m in
+      rw (← a .2)
+      (each-row (λ r. (v : Value) → v ∈ objectOf fieldCount r .fields → Storable v) (rowsIn b Objects)
+      (λ i h. each-run Storable _ 0 _ (λ k l. said Objects i (fieldWord k) h (omega (arith, record-ok Objects i h .few))))
+      (a .0) (a .1))
+  values-storable Bindings =
+      λ x m.
+      let a = Memᴰ·of-map bindingOf (rowsIn b Bindings) (rw (reverse-reverse (map bindingOf (rowsIn b Bindings))) at m) in
+      rw (← a .2)
+      (each-row (λ r. Storable (valueIn (wordOf r) BOUND)) (rowsIn b Bindings) (λ i h. said Bindings i BOUND h (omega arith)) (a .0) (a .1))
+  values-storable Positions = λ t m. growth .values t (rw (root, append-nil (preorder (c .tree))) m)
+  values-storable Frames = _
+
   in-order-fits : Fits fieldCount c
   in-order-fits =
       record {
         few = λ a. omega (arith, in-order-shows .counts a, o .areas a .few);
         own-fields = λ x m. object-fields x m .0;
         few-fields = λ x m. object-fields x m .1;
+        values = values-storable;
         words = words-small (blockWords c) (λ i. rw (← is-encoded) (o .small i));
       }
 

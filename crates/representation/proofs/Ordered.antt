@@ -9,20 +9,23 @@ use native.Mathlib.Decide.{decLt}
 use lib.ListN.{length, getD, length-append, length-map, length-reverse, List·getD-eq-default}
 use Rattle.limits.specs.Limits.{CLASS-FIELDS}
 use Rattle.script.specs.Lists.{_∈_, sumBelow}
+use Rattle.machine.specs.declared.Value.{Value}
+use Rattle.machine.specs.declared.Value.the-variants.{Null as nil}
 use Rattle.machine.specs.declared.Frame.{Frame}
 use Rattle.machine.specs.declared.Frame.the-variants.{Awaits as awaits, Casts as casts, Locks as locks}
-use Rattle.machine.specs.Config.{Object, Tree, running, returning, failed, join, Config}
+use Rattle.machine.specs.Config.{Object, Binding, Tree, running, returning, failed, join, Config}
 use Rattle.block.specs.Rows.{wordOf, cell}
 use Rattle.block.specs.declared.Area.{Area}
 use Rattle.block.specs.declared.Area.the-variants.{Objects, Bindings, Positions, Frames}
-use Rattle.block.specs.Layout.{VALUE, width, counted, wordIn, FIELDS, fieldWord, KIND, WAITING, RUNNING, RETURNING, FAILED}
-use Rattle.block.specs.Values.{valueWords}
-use Rattle.block.specs.Block.{shutWord, objectWords, frameWords, positionWords, waiting, preorder, framesOf, Parts, partsOf, rows, encode}
+use Rattle.block.specs.Layout.{VALUE, width, counted, wordIn, FIELDS, fieldWord, BOUND, KIND, RESULT, WAITING, RUNNING, RETURNING, FAILED}
+use Rattle.block.specs.Values.{valueWords, ValueOk, Storable}
+use Rattle.block.specs.Block.{returned}
+use Rattle.block.specs.Block.{shutWord, objectWords, bindingWords, frameWords, positionWords, waiting, preorder, framesOf, Parts, partsOf, rows, encode}
 use Rattle.block.specs.Fits.{Fits}
 use Rattle.block.specs.Decode.{decode}
 use Rattle.representation.specs.InOrder.{Unused, ObjectOk, PositionOk, is-running, is-returning, is-failed, is-join, FrameOk, is-awaits, is-casts, is-locks, RecordOk, AreaOk, Trees, no-tree, one-thread, one-join, OneTree, InOrder}
 use Rattle.block.proofs.Rows.{row-at}
-use Rattle.block.proofs.Values.{field-cell}
+use Rattle.block.proofs.Values.{value-ok, row-value, value-after, field-cell, field-words, storable-at}
 use Rattle.block.proofs.Words.{encode-length, count-is, word-is, rows-read, rest-blank}
 use Rattle.block.proofs.Fits.{all-small, encode-bytes}
 use Rattle.block.proofs.Decode.{encode-decode}
@@ -33,21 +36,32 @@ shut-bound : (s : Bool) → shutWord s ≤ 1
 shut-bound true = omega arith
 shut-bound false = omega arith
 
-object-ok : (fieldCount : ℕ → ℕ) (o : Object) → length (o .fields) ≡ fieldCount (o .class) → length (o .fields) ≤ CLASS-FIELDS → ObjectOk fieldCount (wordOf (objectWords o))
-object-ok fieldCount o e h =
+object-ok :
+    (fieldCount : ℕ → ℕ) (o : Object)
+    → length (o .fields) ≡ fieldCount (o .class)
+    → length (o .fields) ≤ CLASS-FIELDS
+    → ((v : Value) → v ∈ o .fields → Storable v)
+    → ObjectOk fieldCount (wordOf (objectWords o))
+object-ok fieldCount o e h s =
     record {
       shut = shut-bound (o .shut);
       few = omega arith;
+      values = record {
+        each = λ k l. value-ok (wordOf (objectWords o)) (fieldWord k) (getD (o .fields) k nil) (storable-at (o .fields) s k) (field-words o k (omega arith));
+      };
       unused = record {
         zero = λ j l m.
             let k = (j - FIELDS) / VALUE in
             let n = (j - FIELDS) % VALUE in
-            let s : fieldWord k + n ≡ j = omega arith in
-            rw (← s)
+            let at : fieldWord k + n ≡ j = omega arith in
+            rw (← at)
             (field-cell o k n (omega arith) (omega arith)
             ∙ rw (List·getD-eq-default (map valueWords (o .fields)) [] {n = k} (omega (arith, length-map (o .fields) valueWords))));
       };
     }
+
+binding-ok : (x : Binding) → Storable (x .value) → ValueOk (wordOf (bindingWords x)) BOUND
+binding-ok x s = value-ok (wordOf (bindingWords x)) BOUND (x .value) s (row-value (x .name ∷ x .type ∷ []) (x .value) (x .link ∷ []))
 
 -- words that are each 0
 none : {w : ℕ → ℕ} {j : ℕ} → Unused w j j
@@ -56,11 +70,13 @@ none = record { zero = λ k l h. absurd (omega arith) }
 more : {w : ℕ → ℕ} {from m : ℕ} → Unused w from m → w m ≡ 0 → Unused w from (m + 1)
 more {m = m} u z = record { zero = λ k l h. elim (decLt k m) [ yes y ↦ u .zero k l y | no y ↦ let e : k ≡ m = omega arith in rw e z ] }
 
-position-ok : (t : Tree) → PositionOk (wordOf (positionWords t))
-position-ok (running p e fs) = is-running refl (more none refl)
-position-ok (returning v fs) = is-returning refl (more (more none refl) refl)
-position-ok failed = is-failed refl (more (more (more (more none refl) refl) refl) refl)
-position-ok (join fs p e l r) = is-join refl (more none refl)
+position-ok : (t : Tree) → Storable (returned t) → PositionOk (wordOf (positionWords t))
+position-ok (running p e fs) s = is-running refl (more (more (more none refl) refl) refl)
+position-ok (returning v fs) s =
+    let row = RETURNING ∷ 0 ∷ 0 ∷ [] in
+    is-returning refl (more (more none refl) refl) (value-ok (wordOf (positionWords (returning v fs))) RESULT v s (row-value row v (length fs ∷ [])))
+position-ok failed s = is-failed refl (more (more (more (more (more (more none refl) refl) refl) refl) refl) refl)
+position-ok (join fs p e l r) s = is-join refl (more (more (more none refl) refl) refl)
 
 frame-ok : (f : Frame) → FrameOk (wordOf (frameWords f))
 frame-ok (awaits p e) = is-awaits refl
@@ -82,9 +98,9 @@ tree-kinds (join fs p e l r) ks n h =
     one-join refl all
 
 -- the numbers of frames add up to the frames there are
-frame-number : (t : Tree) → wordOf (positionWords t) WAITING ≡ length (waiting t)
+pub frame-number : (t : Tree) → wordOf (positionWords t) WAITING ≡ length (waiting t)
 frame-number (running p e fs) = refl
-frame-number (returning v fs) = refl
+frame-number (returning v fs) = value-after (RETURNING ∷ 0 ∷ 0 ∷ []) v (length fs ∷ []) 0
 frame-number failed = refl
 frame-number (join fs p e l r) = refl
 
@@ -96,7 +112,7 @@ frames-sum (t ∷ ts) =
     ∙ omega (arith, frames-sum ts, frame-number t, length-reverse (waiting t), length-append (reverse (waiting t)) (flatMap (λ t. reverse (waiting t)) ts))
 
 -- an element by its number is in the list
-at-in : {A : Type 0} (xs : List A) (i : ℕ) (d : A) → i < length xs → getD xs i d ∈ xs
+pub at-in : {A : Type 0} (xs : List A) (i : ℕ) (d : A) → i < length xs → getD xs i d ∈ xs
 at-in [] i d h = absurd (omega arith)
 at-in (x ∷ xs) zero d h = List·Memᴰ·head refl
 at-in (x ∷ xs) (suc i) d h = List·Memᴰ·tail (at-in xs i d (omega arith))
@@ -145,13 +161,18 @@ module _ (fieldCount : ℕ → ℕ) (c : Config) (fit : Fits fieldCount c) where
       let o = getD (p .objects) i d in
       let m = at-in (p .objects) i d l in
       record-same fieldCount Objects (wordOf (objectWords o)) (wordIn (encode c) Objects i) (element-word Objects objectWords (p .objects) i d refl l)
-      (object-ok fieldCount o (fit .own-fields o m) (fit .few-fields o m))
-  records-shown Bindings i h = tt
+      (object-ok fieldCount o (fit .own-fields o m) (fit .few-fields o m) (fit .values Objects o m))
+  records-shown Bindings i h =
+      let l : i < length (p .bindings) = rw (counts-list Bindings bindingWords (p .bindings) refl) at h in
+      let d : Binding = record { name = 0; type = 0; value = nil; link = 0 } in
+      let x = getD (p .bindings) i d in
+      record-same fieldCount Bindings (wordOf (bindingWords x)) (wordIn (encode c) Bindings i)
+      (element-word Bindings bindingWords (p .bindings) i d refl l) (binding-ok x (fit .values Bindings x (at-in (p .bindings) i d l)))
   records-shown Positions i h =
       let l : i < length (p .positions) = rw (counts-list Positions positionWords (p .positions) refl) at h in
       let t = getD (p .positions) i failed in
       record-same fieldCount Positions (wordOf (positionWords t)) (wordIn (encode c) Positions i)
-      (element-word Positions positionWords (p .positions) i failed refl l) (position-ok t)
+      (element-word Positions positionWords (p .positions) i failed refl l) (position-ok t (fit .values Positions t (at-in (p .positions) i failed l)))
   records-shown Frames i h =
       let l : i < length (p .frames) = rw (counts-list Frames frameWords (p .frames) refl) at h in
       let f = getD (p .frames) i (casts 0) in

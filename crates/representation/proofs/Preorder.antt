@@ -15,7 +15,7 @@ use Rattle.script.specs.Lists.{sumBelow}
 use Rattle.machine.specs.declared.Frame.{Frame}
 use Rattle.machine.specs.Config.{Code, Stores, Tree, running, returning, failed, join}
 use Rattle.machine.specs.Machine.{Places, Outcome, still, full, moved, Path, here, left, right, inLeft, inRight, moveAt, size, locate, part}
-use Rattle.block.specs.Block.{preorder, waiting, positionWords, framesOf}
+use Rattle.block.specs.Block.{preorder, waiting, framesOf}
 use Rattle.representation.specs.Changed.{frameStart}
 use Rattle.representation.specs.Preorder.{splice, Named, replaced, framesAbove, inTree, isJoin, joinsFrom}
 use Rattle.block.proofs.Rows.{flatMap-append}
@@ -148,13 +148,20 @@ no-join-last (join fs a e l r) ss =
     simp (reverse-cons (join fs a e l r) (preorder l ++ preorder r), reverse-append (preorder l) (preorder r), append-assoc)
     (no-join-last r (reverse (preorder l) ++ ((join fs a e l r ∷ []) ++ ss)))
 
+-- a position apart from the trees beneath it
+abbrev pub alone : Tree → Tree
+alone (running a e fs) = running a e fs
+alone (returning v fs) = returning v fs
+alone failed = failed
+alone (join fs a e l r) = join fs a e failed failed
+
 -- what stands before and after the records of a part
 record Cut (t : Tree) (n : ℕ) (p : Path) (u : Tree) : Type 0 where
   before : List Tree
   after : List Tree
   number : length before ≡ n
   records : preorder t ≡ before ++ (preorder u ++ after)
-  positions : (w : Tree) → map positionWords (preorder (replaced t p w)) ≡ map positionWords before ++ (map positionWords (preorder w) ++ map positionWords after)
+  positions : (w : Tree) → map alone (preorder (replaced t p w)) ≡ map alone before ++ (map alone (preorder w) ++ map alone after)
   frames : (w : Tree) → framesOf (replaced t p w) ≡ framesIn before ++ (framesOf w ++ framesIn after)
   above : (ss : List Tree) → framesAbove (joinFrames ss) t p ≡ joinFrames (reverse before ++ ss)
 
@@ -167,7 +174,7 @@ module _ {u : Tree} {n : ℕ} {p : Path} (fs : List Frame) (a : Point) (e : ℕ)
         after = c .after ++ preorder r;
         number = ap suc (c .number);
         records = rw (c .records) (simp append-assoc);
-        positions = λ w. rw (map-append positionWords (preorder (replaced l p w)) (preorder r), c .positions w, map-append positionWords (c .after) (preorder r)) (simp append-assoc);
+        positions = λ w. rw (map-append alone (preorder (replaced l p w)) (preorder r), c .positions w, map-append alone (c .after) (preorder r)) (simp append-assoc);
         frames = λ w. frames-join fs a e (replaced l p w) r ∙ simp (c .frames w, flatMap-append, append-assoc);
         above = λ ss. c .above (join fs a e l r ∷ ss) ∙ rw (reverse-cons (join fs a e l r) (c .before)) (simp append-assoc);
       }
@@ -180,7 +187,7 @@ module _ {u : Tree} {n : ℕ} {p : Path} (fs : List Frame) (a : Point) (e : ℕ)
         after = c .after;
         number = omega (arith, length-append (preorder l) (c .before), preorder-length l, c .number);
         records = rw (c .records) (simp append-assoc);
-        positions = λ w. rw (map-append positionWords (preorder l) (preorder (replaced r p w)), c .positions w, map-append positionWords (preorder l) (c .before)) (simp append-assoc);
+        positions = λ w. rw (map-append alone (preorder l) (preorder (replaced r p w)), c .positions w, map-append alone (preorder l) (c .before)) (simp append-assoc);
         frames = λ w. frames-join fs a e l (replaced r p w) ∙ simp (c .frames w, flatMap-append, append-assoc);
         above = λ ss.
             ap (λ (fs : List Frame). framesAbove fs r p) (sym (no-join-last l (join fs a e l r ∷ ss)))
@@ -196,7 +203,7 @@ cut {t} at-root =
       after = [];
       number = refl;
       records = sym (append-nil (preorder t));
-      positions = λ w. sym (append-nil (map positionWords (preorder w)));
+      positions = λ w. sym (append-nil (map alone (preorder w)));
       frames = λ w. sym (append-nil (framesOf w));
       above = λ ss. refl;
     }
@@ -249,14 +256,14 @@ frames-before ss (suc i) h =
 
 -- A part replaced: its records, and its frames, are exchanged for those of the new part, and all others stay.
 module _ (t : Tree) (n : ℕ) (p : Path) (u : Tree) (h : locate t n ≡ some p) (k : part t p ≡ some u) (w : Tree) where
-  pub records-replaced : map positionWords (preorder (replaced t p w)) ≡ splice (map positionWords (preorder t)) n (size u) (map positionWords (preorder w))
+  pub records-replaced : map alone (preorder (replaced t p w)) ≡ splice (map alone (preorder t)) n (size u) (map alone (preorder w))
   records-replaced =
       let c = cut (standing t n p u h k) in
-      spliced (map positionWords (c .before)) (map positionWords (preorder u)) (map positionWords (c .after)) (map positionWords (preorder w))
-      (ap (map positionWords) (c .records) ∙ simp map-append)
+      spliced (map alone (c .before)) (map alone (preorder u)) (map alone (c .after)) (map alone (preorder w))
+      (ap (map alone) (c .records) ∙ simp map-append)
       (c .positions w)
-      (length-map (c .before) positionWords ∙ c .number)
-      (length-map (preorder u) positionWords ∙ preorder-length u)
+      (length-map (c .before) alone ∙ c .number)
+      (length-map (preorder u) alone ∙ preorder-length u)
 
   pub frames-replaced : framesOf (replaced t p w) ≡ splice (framesOf t) (frameStart t n) (length (framesOf u)) (framesOf w)
   unfolding framesOf

@@ -9,23 +9,29 @@ use Rattle.limits.specs.Limits.{BLOCK, CLASS-FIELDS}
 use Rattle.script.specs.Lists.{run, sumBelow}
 use Rattle.block.specs.declared.Area.{Area}
 use Rattle.block.specs.declared.Area.the-variants.{Objects, Bindings, Positions, Frames}
-use Rattle.block.specs.Layout.{WORDS, width, most, END, counted, wordIn, CLASS, SHUT, fieldWord, KIND, NODE, ENV, RESULT, WAITING}
+use Rattle.block.specs.Layout.{WORDS, width, most, END, counted, wordIn, CLASS, SHUT, fieldWord, BOUND, KIND, NODE, ENV, RESULT, WAITING}
 use Rattle.block.specs.Layout.{RUNNING, RETURNING, FAILED, JOIN, AWAITS, CASTS, LOCKS}
+use Rattle.block.specs.Values.{ValueOk}
 
 -- "bytes with no meaning are 0": the words w, from `from` up to `to`.
 pub record Unused (w : ℕ → ℕ) (from to : ℕ) : Type 0 where
   pub zero : (j : ℕ) → from ≤ j → j < to → w j ≡ 0
 
--- An object whose words are w: it is open or shut, its class has at most 8 fields, and no other field has a value.
+-- The first n fields of an object whose words are w: each has a value.
+pub record FieldsInOrder (w : ℕ → ℕ) (n : ℕ) : Type 0 where
+  pub each : (k : ℕ) → k < n → ValueOk w (fieldWord k)
+
+-- An object whose words are w: it is open or shut, its class has at most 8 fields, each of them has a value, and no other field has one.
 pub record ObjectOk (fieldCount : ℕ → ℕ) (w : ℕ → ℕ) : Type 0 where
   pub shut : w SHUT ≤ 1
   pub few : fieldCount (w CLASS) ≤ CLASS-FIELDS
+  pub values : FieldsInOrder w (fieldCount (w CLASS))
   pub unused : Unused w (fieldWord (fieldCount (w CLASS))) (width Objects)
 
 -- A position whose words are w: its kind is known, and words without a meaning for that kind are 0.
 pub data PositionOk (w : ℕ → ℕ) : Type 0 where
   is-running : w KIND ≡ RUNNING → Unused w RESULT WAITING → PositionOk w
-  is-returning : w KIND ≡ RETURNING → Unused w NODE RESULT → PositionOk w
+  is-returning : w KIND ≡ RETURNING → Unused w NODE RESULT → ValueOk w RESULT → PositionOk w
   is-failed : w KIND ≡ FAILED → Unused w NODE (width Positions) → PositionOk w
   is-join : w KIND ≡ JOIN → Unused w RESULT WAITING → PositionOk w
 
@@ -35,10 +41,10 @@ pub data FrameOk (w : ℕ → ℕ) : Type 0 where
   is-casts : w KIND ≡ CASTS → Unused w ENV (width Frames) → FrameOk w
   is-locks : w KIND ≡ LOCKS → Unused w ENV (width Frames) → FrameOk w
 
--- A record of an area whose words are w. Any words are a binding.
+-- A record of an area whose words are w. A binding has a value, and its other words may be any.
 abbrev pub RecordOk : (ℕ → ℕ) → Area → (ℕ → ℕ) → Type 0
 RecordOk fieldCount Objects w = ObjectOk fieldCount w
-RecordOk fieldCount Bindings w = Unit {0}
+RecordOk fieldCount Bindings w = ValueOk w BOUND
 RecordOk fieldCount Positions w = PositionOk w
 RecordOk fieldCount Frames w = FrameOk w
 

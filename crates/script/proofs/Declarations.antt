@@ -4,12 +4,12 @@ use mathlib.Core.Path.{_≡_, refl, ap, _∙_}
 use mathlib.Core.Bool.{Bool, true, false}
 use mathlib.Core.List.{List, []}
 use native.Mathlib.Omega.{arith}
-use lib.Dec.{ltb}
+use lib.Dec.{eqb, ltb}
 use lib.ListN.{length, getD}
-use borrow.Author.Tests.{ltb-true, ltb-false, lt-ltb, le-ltb}
+use borrow.Author.Tests.{eqb-true, eq-eqb, ltb-true, ltb-false, lt-ltb, le-ltb}
 use Rattle.script.specs.Lists.{run}
 use Rattle.script.specs.Section.{interfaces, classes, countOf}
-use Rattle.script.specs.Syntax.{Interface, lists, Class, Program, an-interface, a-class, declared, declarationAt}
+use Rattle.script.specs.Syntax.{Interface, lists, Class, Program, an-interface, a-class, an-int, intOf, declared, declarationAt}
 use Rattle.script.specs.Reading.{interfaceAt, classAt, programOf}
 use Rattle.script.specs.Regular.{IsClass, IsInterface}
 use Rattle.script.proofs.Lists.{length-run, getD-run}
@@ -41,12 +41,13 @@ module _ (p : Program) where
       → (i : ℕ) × (i < length (p .interfaces)) × (t ≡ suc i) × (j ≡ interfaceOf p i)
   unfolding declarationAt
   interface-declared zero j e = absurd (let z : _≡_ {A = ℕ} 0 1 = cc in omega arith)
-  interface-declared (suc i) j e = go (ltb i (length (p .interfaces))) (ltb i (length (p .interfaces) + length (p .classes))) refl e
+  interface-declared (suc i) j e = go (ltb i (length (p .interfaces))) (ltb i (length (p .interfaces) + length (p .classes))) (eqb (suc i) (intOf p)) refl e
     where
-      go : (a b : Bool) → ltb i (length (p .interfaces)) ≡ a → declared p i a b ≡ an-interface j → (k : ℕ) × (k < length (p .interfaces)) × (suc i ≡ suc k) × (j ≡ interfaceOf p k)
-      go true b q d = (i, ltb-true i (length (p .interfaces)) q, refl, cc)
-      go false true q d = absurd (let z : _≡_ {A = ℕ} 0 1 = cc in omega arith)
-      go false false q d = absurd (let z : _≡_ {A = ℕ} 0 1 = cc in omega arith)
+      go : (a b d : Bool) → ltb i (length (p .interfaces)) ≡ a → declared p i a b d ≡ an-interface j → (k : ℕ) × (k < length (p .interfaces)) × (suc i ≡ suc k) × (j ≡ interfaceOf p k)
+      go true b c q d = (i, ltb-true i (length (p .interfaces)) q, refl, cc)
+      go false true c q d = absurd (let z : _≡_ {A = ℕ} 0 1 = cc in omega arith)
+      go false false true q d = absurd (let z : _≡_ {A = ℕ} 0 1 = cc in omega arith)
+      go false false false q d = absurd (let z : _≡_ {A = ℕ} 0 1 = cc in omega arith)
 
   -- Nothing else is declared a class.
   pub class-declared :
@@ -54,17 +55,18 @@ module _ (p : Program) where
       → (i : ℕ) × (i < length (p .classes)) × (t ≡ suc (length (p .interfaces) + i)) × (c ≡ classOf p i)
   unfolding declarationAt
   class-declared zero c e = absurd (let z : _≡_ {A = ℕ} 0 1 = cc in omega arith)
-  class-declared (suc i) c e = go (ltb i (length (p .interfaces))) (ltb i (length (p .interfaces) + length (p .classes))) refl refl e
+  class-declared (suc i) c e = go (ltb i (length (p .interfaces))) (ltb i (length (p .interfaces) + length (p .classes))) (eqb (suc i) (intOf p)) refl refl e
     where
       go :
-          (a b : Bool) → ltb i (length (p .interfaces)) ≡ a → ltb i (length (p .interfaces) + length (p .classes)) ≡ b → declared p i a b ≡ a-class c
+          (a b f : Bool) → ltb i (length (p .interfaces)) ≡ a → ltb i (length (p .interfaces) + length (p .classes)) ≡ b → declared p i a b f ≡ a-class c
           → (k : ℕ) × (k < length (p .classes)) × (suc i ≡ suc (length (p .interfaces) + k)) × (c ≡ classOf p k)
-      go true b q r d = absurd (let z : _≡_ {A = ℕ} 0 1 = cc in omega arith)
-      go false true q r d =
+      go true b f q r d = absurd (let z : _≡_ {A = ℕ} 0 1 = cc in omega arith)
+      go false true f q r d =
           let low : length (p .interfaces) ≤ i = ltb-false i (length (p .interfaces)) q in
           let high : i < length (p .interfaces) + length (p .classes) = ltb-true i (length (p .interfaces) + length (p .classes)) r in
           (i - length (p .interfaces), omega arith, omega arith, cc)
-      go false false q r d = absurd (let z : _≡_ {A = ℕ} 0 1 = cc in omega arith)
+      go false false true q r d = absurd (let z : _≡_ {A = ℕ} 0 1 = cc in omega arith)
+      go false false false q r d = absurd (let z : _≡_ {A = ℕ} 0 1 = cc in omega arith)
 
   -- What is declared an interface has the type number of one, and what has the type number of one is declared an interface.
   pub is-interface : (t : ℕ) (j : Interface) → declarationAt p t ≡ an-interface j → IsInterface p t
@@ -83,6 +85,24 @@ module _ (p : Program) where
       let c = t - suc (length (p .interfaces)) in
       let e : t ≡ suc (length (p .interfaces) + c) = omega arith in
       (classOf p c, ap (declarationAt p) e ∙ declares-class c (omega arith))
+
+  -- Type I + C + 1 is Int, and nothing else is.
+  pub int-declared : declarationAt p (intOf p) ≡ an-int
+  unfolding declarationAt
+  int-declared =
+      let i = length (p .interfaces) + length (p .classes) in
+      rw (le-ltb i (length (p .interfaces)) (omega arith), le-ltb i i (omega arith), eq-eqb (suc i) (suc i) refl)
+
+  pub declared-int : (t : ℕ) → declarationAt p t ≡ an-int → t ≡ intOf p
+  unfolding declarationAt
+  declared-int zero e = absurd (let z : _≡_ {A = ℕ} 0 1 = cc in omega arith)
+  declared-int (suc i) e = go (ltb i (length (p .interfaces))) (ltb i (length (p .interfaces) + length (p .classes))) (eqb (suc i) (intOf p)) refl e
+    where
+      go : (a b c : Bool) → eqb (suc i) (intOf p) ≡ c → declared p i a b c ≡ an-int → suc i ≡ intOf p
+      go true b c q d = absurd (let z : _≡_ {A = ℕ} 0 1 = cc in omega arith)
+      go false true c q d = absurd (let z : _≡_ {A = ℕ} 0 1 = cc in omega arith)
+      go false false true q d = eqb-true (suc i) (intOf p) q
+      go false false false q d = absurd (let z : _≡_ {A = ℕ} 0 1 = cc in omega arith)
 
 -- What the first records of a section are read as.
 run-at : {A : Type 0} (f : ℕ → A) (k i : ℕ) (d : A) → i < k → getD (run f 0 k) i d ≡ f i

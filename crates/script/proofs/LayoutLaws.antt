@@ -14,7 +14,7 @@ use Rattle.limits.specs.Limits.{CONTENTS, FILE, CLASS-FIELDS}
 use Rattle.script.specs.declared.Question.{Question}
 use Rattle.script.specs.declared.Question.the-variants.{Length, Counts, Places, Interfaces, Owners, Types, Nodes, Names, Joins}
 use Rattle.script.specs.declared.Role.{Role}
-use Rattle.script.specs.declared.Role.the-variants.{Unused, Variable, Member, Bound, NewClass, CastType, Expression, Unknown}
+use Rattle.script.specs.declared.Role.the-variants.{Unused, Variable, Member, Bound, NewClass, CastType, Expression, Constant, Unknown}
 use Rattle.script.specs.Lists.{sumBelow, countIn}
 use Rattle.script.specs.Section.{Section, interfaces, signatures, classes, fields, methods, nodes, sections, mostOf, sizeOf, bodyAt, countOf, endOf, recordWord}
 use Rattle.script.specs.Syntax.{Point}
@@ -116,6 +116,7 @@ decides-type-word s Bound w = holds tt
 decides-type-word s NewClass w = decides-class s w
 decides-type-word s CastType w = decides-type s w
 decides-type-word s Expression w = holds tt
+decides-type-word s Constant w = holds tt
 decides-type-word s Unknown w = holds tt
 
 decides-words :
@@ -139,6 +140,7 @@ decides-word s n Bound w = decides-le 2 w
 decides-word s n NewClass w = holds tt
 decides-word s n CastType w = holds tt
 decides-word s n Expression w = decides-part s n w
+decides-word s n Constant w = holds tt
 decides-word s n Unknown w = fails (λ h. h)
 
 -- Whether node n is used as often as it is to be.

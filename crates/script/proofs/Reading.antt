@@ -7,8 +7,8 @@ use native.Mathlib.Omega.{arith}
 use lib.ListN.{getD}
 use Rattle.script.specs.Lists.{_∈_}
 use Rattle.script.specs.Section.{nodes, countOf, nodeWord}
-use Rattle.script.specs.Syntax.{Point, Expr, null, update, call, bind, cast, fork, lock, Node, n-null, n-var, n-select, n-update, n-call, n-bind, n-new, n-cast, n-fork, n-lock, parts, build}
-use Rattle.script.specs.Reading.{Kind, null-kind, var-kind, select-kind, update-kind, call-kind, bind-kind, new-kind, cast-kind, fork-kind, lock-kind, unknown-kind, kindOf, shapeOf, nodeOf, viewAt, lastExprs, exprAt}
+use Rattle.script.specs.Syntax.{Point, Expr, null, update, call, bind, cast, fork, lock, Node, n-null, n-var, n-select, n-update, n-call, n-bind, n-new, n-cast, n-fork, n-lock, n-constant, n-add, parts, build}
+use Rattle.script.specs.Reading.{Kind, null-kind, var-kind, select-kind, update-kind, call-kind, bind-kind, new-kind, cast-kind, fork-kind, lock-kind, constant-kind, add-kind, unknown-kind, kindOf, shapeOf, nodeOf, viewAt, lastExprs, exprAt}
 use Rattle.script.specs.Statements.{Part, WordIs, WithinLayout}
 
 -- The first, second and third part of a node are among its parts.
@@ -33,6 +33,8 @@ build-same n f g (n-new c) h = refl
 build-same n f g (n-cast t p) h = ap (cast n t) (h p first)
 build-same n f g (n-fork p q r) h = λ i. fork n (h p first i) (h q second i) (h r third i)
 build-same n f g (n-lock x p) h = ap (lock n x) (h p first)
+build-same n f g (n-constant z) h = refl
+build-same n f g (n-add x y) h = refl
 
 module _ (s : List ℕ) where
   -- The table of the last j + k nodes ends in that of the last k.
@@ -74,6 +76,8 @@ module _ (s : List ℕ) where
   part-words n cast-kind a b c x y z = all-more y all-none
   part-words n fork-kind a b c x y z = all-more x (all-more y (all-more z all-none))
   part-words n lock-kind a b c x y z = all-more y all-none
+  part-words n constant-kind a b c x y z = all-none
+  part-words n add-kind a b c x y z = all-none
   part-words n unknown-kind a b c x y z = all-none
 
   module _ (w : WithinLayout s) (n : Point) (h : n < countOf s nodes) where

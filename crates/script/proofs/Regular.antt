@@ -6,7 +6,7 @@ use native.Mathlib.Omega.{arith}
 use Rattle.script.specs.Lists.{_∈_, run, sumBelow}
 use Rattle.script.specs.Section.{interfaces, classes, fields, methods, nodes, countOf, recordWord, nodeWord}
 use Rattle.script.specs.Syntax.{Point, Expr, parts, build, Signature}
-use Rattle.script.specs.Reading.{Kind, null-kind, var-kind, select-kind, update-kind, call-kind, bind-kind, new-kind, cast-kind, fork-kind, lock-kind, unknown-kind, kindOf, shapeOf, nodeOf, viewAt, exprAt, ownSignatures, ownFields, ownMethods, signatureAt, interfaceAt, fieldAt, methodAt, classAt, programOf}
+use Rattle.script.specs.Reading.{Kind, null-kind, var-kind, select-kind, update-kind, call-kind, bind-kind, new-kind, cast-kind, fork-kind, lock-kind, constant-kind, add-kind, unknown-kind, kindOf, shapeOf, nodeOf, viewAt, exprAt, ownSignatures, ownFields, ownMethods, signatureAt, interfaceAt, fieldAt, methodAt, classAt, programOf}
 use Rattle.script.specs.Statements.{InterfaceIs, a-list, a-join, TypeWord, TypeWordIs, Fresh, WithinLayout}
 use Rattle.script.specs.Regular.{IsType, Formed, Unique, TypedSignature, RegularInterface, RegularClass, Regular}
 use Rattle.script.proofs.Lists.{in-run, run-unique, sum-more}
@@ -44,10 +44,12 @@ module _ (s : List ℕ) where
   formed-node n f update-kind a b c h e = e c first
   formed-node n f call-kind a b c h e = e c first
   formed-node n f bind-kind a b c h e = (e b first, e c second)
-  formed-node n f new-kind a b c h e = record { past = rw (length-interfaces s) (h .past); last = word-type a (h .last) }
+  formed-node n f new-kind a b c h e = record { past = rw (length-interfaces s) (h .past); last = rw (length-interfaces s, length-classes s) (h .last) }
   formed-node n f cast-kind a b c h e = (word-type a h, e b first)
   formed-node n f fork-kind a b c h e = (e a first, e b second, e c third)
   formed-node n f lock-kind a b c h e = e b first
+  formed-node n f constant-kind a b c h e = tt
+  formed-node n f add-kind a b c h e = tt
   formed-node n f unknown-kind a b c h e = tt
 
   module _ (w : WithinLayout s) where

@@ -7,7 +7,7 @@ use lib.ListN.{length}
 use Rattle.limits.specs.Limits.{CONTENTS, FILE, CLASS-FIELDS}
 use Rattle.script.specs.declared.Question.the-variants.{Length, Counts, Places, Interfaces, Owners, Types, Nodes, Names}
 use Rattle.script.specs.declared.Role.{Role}
-use Rattle.script.specs.declared.Role.the-variants.{Unused, Variable, Member, Bound, NewClass, CastType, Expression, Unknown}
+use Rattle.script.specs.declared.Role.the-variants.{Unused, Variable, Member, Bound, NewClass, CastType, Expression, Constant, Unknown}
 use Rattle.script.specs.Lists.{run, sumBelow, countIn}
 use Rattle.script.specs.Section.{Section, interfaces, signatures, classes, fields, methods, nodes, sections, mostOf, bodyAt, countOf, endOf}
 use Rattle.script.specs.Section.{recordWord, nodeWord}
@@ -61,7 +61,7 @@ ownersTest s =
 
 -- 6. "Is every type word a type, a class's interface an interface, a `new` operand a class?"
 unfoldable pub typeTest : List ℕ → ℕ → Bool
-typeTest s t = leb t (countOf s interfaces + countOf s classes)
+typeTest s t = leb t (suc (countOf s interfaces + countOf s classes))
 
 unfoldable pub interfaceTypeTest : List ℕ → ℕ → Bool
 interfaceTypeTest s t = ltb 0 t && leb t (countOf s interfaces)
@@ -78,6 +78,7 @@ typeWordTest s Bound w = true
 typeWordTest s NewClass w = classTypeTest s w
 typeWordTest s CastType w = typeTest s w
 typeWordTest s Expression w = true
+typeWordTest s Constant w = true
 typeWordTest s Unknown w = true
 
 -- Do the words a, b and c of a node pass a test by their roles?
@@ -110,6 +111,7 @@ wordTest s n Bound w = leb 2 w
 wordTest s n NewClass w = true
 wordTest s n CastType w = true
 wordTest s n Expression w = partTest s n w
+wordTest s n Constant w = true
 wordTest s n Unknown w = false
 
 -- Every use of a node: the body words of the methods, and the parts of the k nodes from n on.

@@ -4,22 +4,25 @@ use mathlib.Core.Bool.{cond}
 use mathlib.Core.List.{List, [], _∷_}
 use lib.Dec.{eqb}
 use lib.ListN.{getD}
-use Rattle.script.specs.declared.Role.the-variants.{Unused, Variable, Member, Bound, NewClass, CastType, Expression, Unknown}
+use Rattle.words.specs.Integer.{integer}
+use Rattle.script.specs.declared.Role.the-variants.{Unused, Variable, Member, Bound, NewClass, CastType, Expression, Constant, Unknown}
 use Rattle.script.specs.declared.Shape.{Shape}
 use Rattle.script.specs.Lists.{run, sumBelow}
 use Rattle.script.specs.Section.{interfaces, signatures, classes, fields, methods, nodes, countOf, recordWord, nodeWord}
 use Rattle.script.specs.Syntax.{Point, Expr, null, Node, n-null, n-var, n-select, n-update, n-call, n-bind, n-new, n-cast, n-fork, n-lock}
-use Rattle.script.specs.Syntax.{build, Slot, Signature, Method, Interface, lists, extends, Class, Program}
+use Rattle.script.specs.Syntax.{n-constant, n-add, build, Slot, Signature, Method, Interface, lists, extends, Class, Program}
 
 -- "Kinds: 0 null; 1 variable a; 2 read field b of variable a; 3 the same field gets the value of c; 4 call method b of variable a with argument c;
--- 5 let a = b in c; 6 new class a; 7 cast to type a of b; 8 fork, asyncs a and b, then c; 9 lock variable a during b."
+-- 5 let a = b in c; 6 new class a; 7 cast to type a of b; 8 fork, asyncs a and b, then c; 9 lock variable a during b." "Kind 10 is a constant (a low word, b
+-- high word, two's complement)", "kind 11 adds variables a and b".
 pub data Kind : Type 0 where
-  null-kind var-kind select-kind update-kind call-kind bind-kind new-kind cast-kind fork-kind lock-kind unknown-kind : Kind
+  null-kind var-kind select-kind update-kind call-kind bind-kind new-kind cast-kind fork-kind lock-kind constant-kind add-kind unknown-kind : Kind
 
 unfoldable pub kindOf : ℕ → Kind
 kindOf k =
     getD
-    (null-kind ∷ var-kind ∷ select-kind ∷ update-kind ∷ call-kind ∷ bind-kind ∷ new-kind ∷ cast-kind ∷ fork-kind ∷ lock-kind ∷ [])
+    (null-kind ∷ var-kind ∷ select-kind ∷ update-kind ∷ call-kind ∷ bind-kind ∷ new-kind ∷ cast-kind ∷ fork-kind ∷ lock-kind
+    ∷ constant-kind ∷ add-kind ∷ [])
     k
     unknown-kind
 
@@ -35,6 +38,8 @@ shapeOf new-kind = record { 0 = NewClass; 1 = Unused; 2 = Unused }
 shapeOf cast-kind = record { 0 = CastType; 1 = Expression; 2 = Unused }
 shapeOf fork-kind = record { 0 = Expression; 1 = Expression; 2 = Expression }
 shapeOf lock-kind = record { 0 = Variable; 1 = Expression; 2 = Unused }
+shapeOf constant-kind = record { 0 = Constant; 1 = Constant; 2 = Unused }
+shapeOf add-kind = record { 0 = Variable; 1 = Variable; 2 = Unused }
 shapeOf unknown-kind = record { 0 = Unknown; 1 = Unknown; 2 = Unknown }
 
 abbrev pub shapeAt : List ℕ → Point → Shape
@@ -52,6 +57,8 @@ nodeOf new-kind a b c = n-new a
 nodeOf cast-kind a b c = n-cast a b
 nodeOf fork-kind a b c = n-fork a b c
 nodeOf lock-kind a b c = n-lock a b
+nodeOf constant-kind a b c = n-constant (integer a b)
+nodeOf add-kind a b c = n-add a b
 nodeOf unknown-kind a b c = n-null
 
 unfoldable pub viewAt : List ℕ → Point → Node

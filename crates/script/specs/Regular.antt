@@ -5,12 +5,12 @@ use mathlib.Core.Path.{_≡_}
 use mathlib.Core.List.{List, [], _∷_}
 use lib.ListN.{length}
 use Rattle.script.specs.Lists.{_∈_}
-use Rattle.script.specs.Syntax.{Expr, null, var, select, update, call, bind, new, cast, fork, lock, Slot, Signature, Method, Interface, lists}
-use Rattle.script.specs.Syntax.{extends, Class, Program, declarationAt, an-interface, a-class}
+use Rattle.script.specs.Syntax.{Expr, null, var, select, update, call, bind, new, cast, fork, lock, constant, add, Slot, Signature, Method}
+use Rattle.script.specs.Syntax.{Interface, lists, extends, Class, Program, intOf, declarationAt, an-interface, a-class}
 
 -- A type number of the program, and one of a class.
 abbrev pub IsType : Program → ℕ → Type 0
-IsType p t = t ≤ length (p .interfaces) + length (p .classes)
+IsType p t = t ≤ intOf p
 
 pub record IsClass (p : Program) (t : ℕ) : Type 0 where
   pub past : length (p .interfaces) < t
@@ -32,6 +32,8 @@ Formed p (new n c) = IsClass p c
 Formed p (cast n t e) = IsType p t × Formed p e
 Formed p (fork n e₁ e₂ e₃) = Formed p e₁ × Formed p e₂ × Formed p e₃
 Formed p (lock n x e) = Formed p e
+Formed p (constant n z) = Unit {0}
+Formed p (add n x y) = Unit {0}
 
 -- No two elements of a list have one name.
 pub data Unique {A : Type 0} (name : A → ℕ) : List A → Type 0 where

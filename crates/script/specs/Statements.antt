@@ -1,11 +1,11 @@
 -- Questions 1 to 8 as plain statements, to be held against document 01. `Questions` computes the answers, and `proofs/` shows that they are these.
-use Prim.Native.Nat.{ℕ, _+_, _<_, _≤_}
+use Prim.Native.Nat.{ℕ, suc, _+_, _<_, _≤_}
 use mathlib.Core.Path.{_≡_}
 use mathlib.Core.List.{List, [], _∷_}
 use lib.ListN.{length}
 use Rattle.limits.specs.Limits.{CONTENTS, FILE, CLASS-FIELDS}
 use Rattle.script.specs.declared.Role.{Role}
-use Rattle.script.specs.declared.Role.the-variants.{Unused, Variable, Member, Bound, NewClass, CastType, Expression, Unknown}
+use Rattle.script.specs.declared.Role.the-variants.{Unused, Variable, Member, Bound, NewClass, CastType, Expression, Constant, Unknown}
 use Rattle.script.specs.Lists.{sumBelow, countIn}
 use Rattle.script.specs.Section.{Section, interfaces, signatures, classes, fields, methods, nodes, sections, mostOf, bodyAt, countOf, endOf}
 use Rattle.script.specs.Section.{recordWord, nodeWord}
@@ -54,7 +54,7 @@ pub record OwnersAre (s : List ℕ) : Type 0 where
 
 -- 6. "Is every type word a type, a class's interface an interface, a `new` operand a class?"
 abbrev pub TypeWord : List ℕ → ℕ → Type 0
-TypeWord s t = t ≤ countOf s interfaces + countOf s classes
+TypeWord s t = t ≤ suc (countOf s interfaces + countOf s classes)
 
 pub record InterfaceWord (s : List ℕ) (t : ℕ) : Type 0 where
   pub first : 0 < t
@@ -73,6 +73,7 @@ TypeWordIs s Bound w = Unit {0}
 TypeWordIs s NewClass w = ClassWord s w
 TypeWordIs s CastType w = TypeWord s w
 TypeWordIs s Expression w = Unit {0}
+TypeWordIs s Constant w = Unit {0}
 TypeWordIs s Unknown w = Unit {0}
 
 -- The words a, b and c of a node, each by its role.
@@ -104,6 +105,7 @@ WordIs s n Bound w = 2 ≤ w
 WordIs s n NewClass w = Unit {0}
 WordIs s n CastType w = Unit {0}
 WordIs s n Expression w = Part s n w
+WordIs s n Constant w = Unit {0}
 WordIs s n Unknown w = ⊥
 
 pub record NodeIs (s : List ℕ) (n : Point) : Type 0 where

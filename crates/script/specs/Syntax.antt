@@ -1,8 +1,10 @@
--- The syntax of OOlong, Figure 2. Names are numbers, and so are types: "Type 0 is Unit; interfaces are 1 to I, classes I+1 to I+C".
+-- The syntax of OOlong, Figure 2. Names are numbers, and so are types: "Type 0 is Unit; interfaces are 1 to I, classes I+1 to I+C" and
+-- "Type I+C+1 is Int".
 use Prim.Native.Nat.{ℕ, zero, suc, _+_, _-_}
 use mathlib.Core.Bool.{Bool, true, false}
 use mathlib.Core.List.{List, [], _∷_}
-use lib.Dec.{ltb}
+use lib.Dec.{eqb, ltb}
+use lib.IntN.{ℤ}
 use lib.ListN.{length, getD}
 
 -- A place in the program: the number of a node.
@@ -22,6 +24,9 @@ pub data Expr : Type 0 where
   cast : Point → ℕ → Expr → Expr
   fork : Point → Expr → Expr → Expr → Expr
   lock : Point → ℕ → Expr → Expr
+  -- "Kind 10 is a constant", and "kind 11 adds variables a and b"
+  constant : Point → ℤ → Expr
+  add : Point → ℕ → ℕ → Expr
 
 -- One layer of an expression: the node at a point, whose parts are points.
 pub data Node : Type 0 where
@@ -35,6 +40,8 @@ pub data Node : Type 0 where
   n-cast : ℕ → Point → Node
   n-fork : Point → Point → Point → Node
   n-lock : ℕ → Point → Node
+  n-constant : ℤ → Node
+  n-add : ℕ → ℕ → Node
 
 -- A node's parts, in running order.
 abbrev pub parts : Node → List Point
@@ -48,6 +55,8 @@ parts (n-new c) = []
 parts (n-cast t p) = p ∷ []
 parts (n-fork p q r) = p ∷ q ∷ r ∷ []
 parts (n-lock x p) = p ∷ []
+parts (n-constant z) = []
+parts (n-add x y) = []
 
 -- The expression of the node at point n, where f gives those of its parts.
 abbrev pub build : Point → (Point → Expr) → Node → Expr
@@ -61,6 +70,8 @@ build n f (n-new c) = new n c
 build n f (n-cast t p) = cast n t (f p)
 build n f (n-fork p q r) = fork n (f p) (f q) (f r)
 build n f (n-lock x p) = lock n x (f p)
+build n f (n-constant z) = constant n z
+build n f (n-add x y) = add n x y
 
 -- The node of an expression.
 abbrev pub pointOf : Expr → Point
@@ -74,6 +85,8 @@ pointOf (new n c) = n
 pointOf (cast n t e) = n
 pointOf (fork n e₁ e₂ e₃) = n
 pointOf (lock n x e) = n
+pointOf (constant n z) = n
+pointOf (add n x y) = n
 
 abbrev pub isNull : Expr → Bool
 isNull (null n) = true
@@ -86,6 +99,8 @@ isNull (new n c) = false
 isNull (cast n t e) = false
 isNull (fork n e₁ e₂ e₃) = false
 isNull (lock n x e) = false
+isNull (constant n z) = false
+isNull (add n x y) = false
 
 -- A name with its type: Fd ::= f : t, and x : t in an environment.
 pub record Slot : Type 0 where
@@ -125,14 +140,21 @@ pub data Declaration : Type 0 where
   a-unit : Declaration
   an-interface : Interface → Declaration
   a-class : Class → Declaration
+  an-int : Declaration
   no-type : Declaration
 
--- What P declares under type number i + 1, by whether there is such an interface, and such a class.
-abbrev pub declared : Program → ℕ → Bool → Bool → Declaration
-declared p i true c = an-interface (getD (p .interfaces) i (lists []))
-declared p i false true = a-class (getD (p .classes) (i - length (p .interfaces)) (record { implements = 0; fields = []; methods = [] }))
-declared p i false false = no-type
+-- "Type I+C+1 is Int"
+abbrev pub intOf : Program → ℕ
+intOf p = suc (length (p .interfaces) + length (p .classes))
+
+-- What P declares under type number i + 1, by whether there is such an interface, such a class, and whether it is Int.
+abbrev pub declared : Program → ℕ → Bool → Bool → Bool → Declaration
+declared p i true c d = an-interface (getD (p .interfaces) i (lists []))
+declared p i false true d = a-class (getD (p .classes) (i - length (p .interfaces)) (record { implements = 0; fields = []; methods = [] }))
+declared p i false false true = an-int
+declared p i false false false = no-type
 
 unfoldable pub declarationAt : Program → ℕ → Declaration
 declarationAt p zero = a-unit
-declarationAt p (suc i) = declared p i (ltb i (length (p .interfaces))) (ltb i (length (p .interfaces) + length (p .classes)))
+declarationAt p (suc i) =
+    declared p i (ltb i (length (p .interfaces))) (ltb i (length (p .interfaces) + length (p .classes))) (eqb (suc i) (intOf p))

@@ -38,6 +38,7 @@ pub enum Role {
     NewClass,
     CastType,
     Expression,
+    Constant,
     Unknown,
 }
 

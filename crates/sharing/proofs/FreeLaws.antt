@@ -1,5 +1,5 @@
 -- Free variables of nodes, as the code of `forks` goes through them.
-use Prim.Native.Nat.{ℕ, _+_, _^_, _<_}
+use Prim.Native.Nat.{ℕ, _+_, _*_, _^_, _<_}
 use mathlib.Core.Path.{_≡_, refl, sym, _∙_}
 use mathlib.Core.Bool.{Bool, true, false, _||_}
 use mathlib.Core.List.{List, [], _∷_, _++_}
@@ -14,16 +14,17 @@ use Rattle.limits.specs.Limits.{NODES}
 use Rattle.script.specs.declared.Section.the-variants.{Nodes as nodes}
 use Rattle.script.specs.Lists.{_∈_}
 use Rattle.script.specs.Section.{countOf, nodeWord}
-use Rattle.script.specs.Syntax.{Point, Expr, Node, n-null, n-var, n-select, n-update, n-call, n-bind, n-new, n-cast, n-fork, n-lock, parts, build}
+use Rattle.script.specs.Syntax.{Point, Expr, Node, n-null, n-var, n-select, n-update, n-call, n-bind, n-new, n-cast, n-fork, n-lock, n-constant, n-add, parts, build}
 use Rattle.script.specs.Reading.{kindOf, nodeOf, viewAt, exprAt}
 use Rattle.script.specs.Statements.{WithinLayout}
 use Rattle.script.proofs.Reading.{first, second, third, expr-at, in-order, every-node}
 use Rattle.script.proofs.Tests.{true-false}
 use Rattle.typing.specs.Typing.{without, fv, isIn}
-use Rattle.names.specs.Ranks.{nameIn, Names, RankOf, of-node}
+use Rattle.names.specs.Ranks.{slotOf, nameIn, Names, RankOf, of-node}
 use Rattle.names.specs.Filling.{namesKind}
 use Rattle.names.proofs.KindLaws.{by-kind, a-name}
-use Rattle.sharing.specs.Free.{SPAN, MaskOf, RankMask, FreeMask, Along, Ahead, ForkMark}
+use Rattle.names.proofs.SearchLaws.{rank-first}
+use Rattle.sharing.specs.Free.{SPAN, MaskOf, RankMask, FreeMask, maskAt, Along, Ahead, ForkMark}
 use Rattle.sharing.proofs.MaskLaws.{in-append, in-without, mask-none, mask-or, mask-without, mask-rank, masks-meet}
 use Rattle.sharing.proofs.MarkLaws.{mark-kept}
 
@@ -39,11 +40,13 @@ AFork (n-new c) = ⊥
 AFork (n-cast t p) = ⊥
 AFork (n-fork p q r) = Unit {0}
 AFork (n-lock x p) = ⊥
+AFork (n-constant z) = ⊥
+AFork (n-add x y) = ⊥
 
 only-fork : (a b c k : ℕ) → AFork (nodeOf (kindOf k) a b c) → k ≡ 8
 unfolding kindOf
 only-fork a b c =
-    by-kind (λ k. AFork (nodeOf (kindOf k) a b c) → k ≡ 8) absurd absurd absurd absurd absurd absurd absurd absurd (λ h. refl) absurd (λ k h. absurd h)
+    by-kind (λ k. AFork (nodeOf (kindOf k) a b c) → k ≡ 8) absurd absurd absurd absurd absurd absurd absurd absurd (λ h. refl) absurd absurd absurd (λ k h. absurd h)
 
 module _ (s : List ℕ) (n : ℕ) where
   -- A node of this kind, with its words.
@@ -61,18 +64,18 @@ module _ (s : List ℕ) (n : ℕ) where
   pub part-of : (k p : ℕ) → nodeWord s n 0 ≡ k → p ∈ parts (nodeIs k) → p ∈ parts (viewAt s n)
   part-of k p e h = rw (view-is k e) h
 
-  -- A node of a kind that names a variable.
-  pub naming : (k : ℕ) → nodeWord s n 0 ≡ k → namesKind (kindOf k) ≡ true → n < countOf s nodes → Names s n (nodeWord s n 1)
-  naming k e f h = record { there = h; name = a-name s n k (nodeWord s n 1) true (sym e) refl (sym f) refl }
+  -- A node of a kind that names a variable at place j.
+  pub naming : (k j : ℕ) → nodeWord s n 0 ≡ k → j < namesKind (kindOf k) → n < countOf s nodes → Names s n j (nodeWord s n (1 + j))
+  naming k j e l h = record { there = h; name = a-name s n j k (namesKind (kindOf k)) (sym e) refl l }
 
   -- A fork names none.
-  pub fork-nameless : nodeWord s n 0 ≡ 8 → nameIn (viewAt s n) ≡ none
+  pub fork-nameless : (j : ℕ) → nodeWord s n 0 ≡ 8 → nameIn j (viewAt s n) ≡ none
   unfolding kindOf
-  fork-nameless e = rw (view-is 8 e)
+  fork-nameless j e = rw (view-is 8 e)
 
-  no-fv : (f : Point → Expr) (k : ℕ) → (k ≡ 1 → ⊥) → (k ≡ 2 → ⊥) → (k ≡ 3 → ⊥) → (k ≡ 4 → ⊥) → (k ≡ 5 → ⊥) → (k ≡ 7 → ⊥) → (k ≡ 8 → ⊥) → (k ≡ 9 → ⊥) → fv (build n f (nodeIs k)) ≡ []
+  no-fv : (f : Point → Expr) (k : ℕ) → (k ≡ 1 → ⊥) → (k ≡ 2 → ⊥) → (k ≡ 3 → ⊥) → (k ≡ 4 → ⊥) → (k ≡ 5 → ⊥) → (k ≡ 7 → ⊥) → (k ≡ 8 → ⊥) → (k ≡ 9 → ⊥) → (k ≡ 11 → ⊥) → fv (build n f (nodeIs k)) ≡ []
   unfolding kindOf fv
-  no-fv f k n1 n2 n3 n4 n5 n7 n8 n9 = go k refl
+  no-fv f k n1 n2 n3 n4 n5 n7 n8 n9 n11 = go k refl
     where
       go : (j : ℕ) → k ≡ j → fv (build n f (nodeIs j)) ≡ []
       go =
@@ -88,6 +91,8 @@ module _ (s : List ℕ) (n : ℕ) where
           (λ q. absurd (n7 q))
           (λ q. absurd (n8 q))
           (λ q. absurd (n9 q))
+          (λ q. refl)
+          (λ q. absurd (n11 q))
           (λ j q. refl)
 
 or-cases : (a b : Bool) → (a || b) ≡ true → (a ≡ true) ⊎ (b ≡ true)
@@ -113,18 +118,20 @@ module _ (P : ℕ → Type 0) where
   all-without : (y : ℕ) (l : List ℕ) → All l → All (without y l)
   all-without y l f x e = f x (in-without y x l e)
 
-  all-node : (n : Point) (f : Point → Expr) (v : Node) → ((x : ℕ) → nameIn v ≡ some x → P x) → ((p : Point) → p ∈ parts v → All (fv (f p))) → All (fv (build n f v))
+  all-node : (n : Point) (f : Point → Expr) (v : Node) → ((j x : ℕ) → nameIn j v ≡ some x → P x) → ((p : Point) → p ∈ parts v → All (fv (f p))) → All (fv (build n f v))
   unfolding fv
   all-node n f n-null u h = all-none
-  all-node n f (n-var x) u h = all-cons x [] (u x refl) all-none
-  all-node n f (n-select x g) u h = all-cons x [] (u x refl) all-none
-  all-node n f (n-update x g p) u h = all-cons x (fv (f p)) (u x refl) (h p first)
-  all-node n f (n-call x m p) u h = all-cons x (fv (f p)) (u x refl) (h p first)
+  all-node n f (n-var x) u h = all-cons x [] (u 0 x refl) all-none
+  all-node n f (n-select x g) u h = all-cons x [] (u 0 x refl) all-none
+  all-node n f (n-update x g p) u h = all-cons x (fv (f p)) (u 0 x refl) (h p first)
+  all-node n f (n-call x m p) u h = all-cons x (fv (f p)) (u 0 x refl) (h p first)
   all-node n f (n-bind x p q) u h = all-append (fv (f p)) (without x (fv (f q))) (h p first) (all-without x (fv (f q)) (h q second))
   all-node n f (n-new c) u h = all-none
   all-node n f (n-cast t p) u h = h p first
   all-node n f (n-fork p q r) u h = all-append (fv (f p)) (fv (f q) ++ fv (f r)) (h p first) (all-append (fv (f q)) (fv (f r)) (h q second) (h r third))
-  all-node n f (n-lock x p) u h = all-cons x (fv (f p)) (u x refl) (h p first)
+  all-node n f (n-lock x p) u h = all-cons x (fv (f p)) (u 0 x refl) (h p first)
+  all-node n f (n-constant z) u h = all-none
+  all-node n f (n-add x y) u h = all-cons x (y ∷ []) (u 0 x refl) (all-cons y [] (u 1 y refl) all-none)
 
 module _ (s : List ℕ) (layout : WithinLayout s) where
   -- Every free variable of an expression is named by a node, so it has a rank.
@@ -136,7 +143,7 @@ module _ (s : List ℕ) (layout : WithinLayout s) where
       (in-order s layout)
       (λ n h ih.
       rw (expr-at s n h (in-order s layout n h))
-      (all-node (λ x. (k : ℕ) × RankOf s facts x k) n (exprAt s) (viewAt s n) (λ x e. (getD facts n 0, of-node (record { there = h; name = e }))) ih))
+      (all-node (λ x. (k : ℕ) × RankOf s facts x k) n (exprAt s) (viewAt s n) (λ j x e. (getD facts (slotOf n j) 0, of-node (record { there = h; name = e }))) ih))
 
   -- A part's mask is in the table.
   pub part-within : (masks : List ℕ) (n p : ℕ) → length masks ≡ NODES → n < countOf s nodes → p ∈ parts (viewAt s n) → p < length masks
@@ -147,26 +154,26 @@ module _ (s facts masks : List ℕ) (start n : ℕ) (h : Ahead s facts masks sta
   part-free : (p m : ℕ) → p ∈ parts (viewAt s n) → m ≡ getD masks p 0 → MaskOf s facts start m (fv (exprAt s p))
   part-free p m i e = let q = in-order s (h .layout) n (h .there) p i in rw e (h .later p (omega (arith, q .later)) (q .there))
 
-  own-free : (own : ℕ) → Names s n (nodeWord s n 1) → RankMask start (getD facts n 0) own → MaskOf s facts start own (nodeWord s n 1 ∷ [])
-  own-free own q o = mask-rank s facts start (h .count) (nodeWord s n 1) (getD facts n 0) own (h .ranked) (of-node q) o
+  own-free : (own : ℕ) → Names s n 0 (nodeWord s n 1) → RankMask start (getD facts (2 * n) 0) own → MaskOf s facts start own (nodeWord s n 1 ∷ [])
+  own-free own q o = mask-rank s facts start (h .count) (nodeWord s n 1) (getD facts (2 * n) 0) own (h .ranked) (rank-first q) o
 
   -- The mask of a node of kind k.
   mask-is : (k m : ℕ) → nodeWord s n 0 ≡ k → MaskOf s facts start m (fv (build n (exprAt s) (nodeIs s n k))) → FreeMask s facts start n m
   mask-is k m e q = rw (expr-at s n (h .there) (in-order s (h .layout) n (h .there)), view-is s n k e) q
 
-  -- A word of node n has its place in the table of facts.
-  pub fact-within : n < length facts
+  -- The slots of node n are in the table of facts.
+  pub fact-within : 2 * n + 1 < length facts
   fact-within = omega (arith, h .there, h .layout .counts-are .within nodes, h .ranked .size)
 
-  pub mask-var : (own : ℕ) → nodeWord s n 0 ≡ 1 → RankMask start (getD facts n 0) own → FreeMask s facts start n own
+  pub mask-var : (own : ℕ) → nodeWord s n 0 ≡ 1 → RankMask start (getD facts (2 * n) 0) own → FreeMask s facts start n own
   unfolding kindOf fv
-  mask-var own k o = mask-is 1 own k (own-free own (naming s n 1 k refl (h .there)) o)
+  mask-var own k o = mask-is 1 own k (own-free own (naming s n 1 0 k (omega arith) (h .there)) o)
 
-  pub mask-select : (own : ℕ) → nodeWord s n 0 ≡ 2 → RankMask start (getD facts n 0) own → FreeMask s facts start n own
+  pub mask-select : (own : ℕ) → nodeWord s n 0 ≡ 2 → RankMask start (getD facts (2 * n) 0) own → FreeMask s facts start n own
   unfolding kindOf fv
-  mask-select own k o = mask-is 2 own k (own-free own (naming s n 2 k refl (h .there)) o)
+  mask-select own k o = mask-is 2 own k (own-free own (naming s n 2 0 k (omega arith) (h .there)) o)
 
-  pub mask-use : (p own m : ℕ) → Names s n (nodeWord s n 1) → p ∈ parts (viewAt s n) → RankMask start (getD facts n 0) own → m ≡ getD masks p 0 → MaskOf s facts start (bitOr own m) (nodeWord s n 1 ∷ fv (exprAt s p))
+  pub mask-use : (p own m : ℕ) → Names s n 0 (nodeWord s n 1) → p ∈ parts (viewAt s n) → RankMask start (getD facts (2 * n) 0) own → m ≡ getD masks p 0 → MaskOf s facts start (bitOr own m) (nodeWord s n 1 ∷ fv (exprAt s p))
   mask-use p own m q i o e = mask-or s facts start own m (nodeWord s n 1 ∷ []) (fv (exprAt s p)) (own-free own q o) (part-free p m i e)
 
   pub mask-update : (m : ℕ) → nodeWord s n 0 ≡ 3 → MaskOf s facts start m (nodeWord s n 1 ∷ fv (exprAt s (nodeWord s n 3))) → FreeMask s facts start n m
@@ -181,12 +188,12 @@ module _ (s facts masks : List ℕ) (start n : ℕ) (h : Ahead s facts masks sta
   unfolding kindOf fv
   mask-lock m k q = mask-is 9 m k q
 
-  pub mask-let : (own a b : ℕ) → nodeWord s n 0 ≡ 5 → RankMask start (getD facts n 0) own → a ≡ getD masks (nodeWord s n 2) 0 → b ≡ getD masks (nodeWord s n 3) 0 → FreeMask s facts start n (bitOr a (bitXor (bitOr b own) own))
+  pub mask-let : (own a b : ℕ) → nodeWord s n 0 ≡ 5 → RankMask start (getD facts (2 * n) 0) own → a ≡ getD masks (nodeWord s n 2) 0 → b ≡ getD masks (nodeWord s n 3) 0 → FreeMask s facts start n (bitOr a (bitXor (bitOr b own) own))
   unfolding kindOf fv
   mask-let own a b k o ea eb =
       let p = part-free (nodeWord s n 2) a (part-of s n 5 _ k first) ea in
       let q = part-free (nodeWord s n 3) b (part-of s n 5 _ k second) eb in
-      let w = own-free own (naming s n 5 k refl (h .there)) o in
+      let w = own-free own (naming s n 5 0 k (omega arith) (h .there)) o in
       mask-is 5 _ k (mask-or s facts start a _ (fv (exprAt s (nodeWord s n 2))) _ p (mask-without s facts start b own _ (fv (exprAt s (nodeWord s n 3))) q w))
 
   pub mask-fork : (a b c : ℕ) → nodeWord s n 0 ≡ 8 → a ≡ getD masks (nodeWord s n 1) 0 → b ≡ getD masks (nodeWord s n 2) 0 → c ≡ getD masks (nodeWord s n 3) 0 → FreeMask s facts start n (bitOr a (bitOr b c))
@@ -201,17 +208,24 @@ module _ (s facts masks : List ℕ) (start n : ℕ) (h : Ahead s facts masks sta
       k
       (mask-or s facts start a _ (fv (exprAt s (nodeWord s n 1))) _ p (mask-or s facts start b c (fv (exprAt s (nodeWord s n 2))) (fv (exprAt s (nodeWord s n 3))) q r))
 
+  pub mask-sum : (a b : ℕ) → nodeWord s n 0 ≡ 11 → RankMask start (getD facts (2 * n) 0) a → RankMask start (getD facts (2 * n + 1) 0) b → FreeMask s facts start n (bitOr a b)
+  unfolding kindOf fv
+  mask-sum a b k o p =
+      let x = own-free a (naming s n 11 0 k (omega arith) (h .there)) o in
+      let y = mask-rank s facts start (h .count) (nodeWord s n 2) (getD facts (2 * n + 1) 0) b (h .ranked) (of-node (naming s n 11 1 k (omega arith) (h .there))) p in
+      mask-is 11 _ k (mask-or s facts start a b (nodeWord s n 1 ∷ []) (nodeWord s n 2 ∷ []) x y)
+
   pub mask-cast : (m : ℕ) → nodeWord s n 0 ≡ 7 → m ≡ getD masks (nodeWord s n 2) 0 → FreeMask s facts start n m
   unfolding kindOf fv
   mask-cast m k e = mask-is 7 m k (part-free (nodeWord s n 2) m (part-of s n 7 _ k first) e)
 
-  pub mask-rest : (k : ℕ) → k ≡ nodeWord s n 0 → (k ≡ 1 → ⊥) → (k ≡ 2 → ⊥) → (k ≡ 3 → ⊥) → (k ≡ 4 → ⊥) → (k ≡ 5 → ⊥) → (k ≡ 7 → ⊥) → (k ≡ 8 → ⊥) → (k ≡ 9 → ⊥) → FreeMask s facts start n 0
-  mask-rest k e n1 n2 n3 n4 n5 n7 n8 n9 = mask-is k 0 (sym e) (rw (no-fv s n (exprAt s) k n1 n2 n3 n4 n5 n7 n8 n9) (mask-none s facts start))
+  pub mask-rest : (k : ℕ) → k ≡ nodeWord s n 0 → (k ≡ 1 → ⊥) → (k ≡ 2 → ⊥) → (k ≡ 3 → ⊥) → (k ≡ 4 → ⊥) → (k ≡ 5 → ⊥) → (k ≡ 7 → ⊥) → (k ≡ 8 → ⊥) → (k ≡ 9 → ⊥) → (k ≡ 11 → ⊥) → FreeMask s facts start n 0
+  mask-rest k e n1 n2 n3 n4 n5 n7 n8 n9 n11 = mask-is k 0 (sym e) (rw (no-fv s n (exprAt s) k n1 n2 n3 n4 n5 n7 n8 n9 n11) (mask-none s facts start))
 
 -- The mark of a node after one more span.
 module _ (s masks : List ℕ) (n t : ℕ) where
   abbrev pub Marks : ℕ → Type 0
-  Marks r = (facts : List ℕ) (start : ℕ) → Along (FreeMask s facts start) masks n (countOf s nodes) → ForkMark s facts start n t → ForkMark s facts (start + SPAN) n r
+  Marks r = (facts : List ℕ) (start : ℕ) → Along (FreeMask s facts start) (maskAt masks) n (countOf s nodes) → ForkMark s facts start n t → ForkMark s facts (start + SPAN) n r
 
   pub mark-other : (k : ℕ) → k ≡ nodeWord s n 0 → (k ≡ 8 → ⊥) → Marks t
   mark-other k e n8 facts start masked mark a b c v = absurd (n8 (e ∙ fork-kind s n a b c v))
@@ -222,7 +236,7 @@ module _ (s masks : List ℕ) (n t : ℕ) where
     unfolding kindOf
     words p q r v = let e : n-fork (nodeWord s n 1) (nodeWord s n 2) (nodeWord s n 3) ≡ n-fork p q r = sym (view-is s n 8 (sym k-is ∙ fork)) ∙ v in (cc, cc)
 
-    async : (facts : List ℕ) (start p m : ℕ) → Along (FreeMask s facts start) masks n (countOf s nodes) → p ∈ parts (viewAt s n) → m ≡ getD masks p 0 → MaskOf s facts start m (fv (exprAt s p))
+    async : (facts : List ℕ) (start p m : ℕ) → Along (FreeMask s facts start) (maskAt masks) n (countOf s nodes) → p ∈ parts (viewAt s n) → m ≡ getD masks p 0 → MaskOf s facts start m (fv (exprAt s p))
     async facts start p m masked i e = let w = in-order s layout n there p i in rw e (masked p (omega (arith, w .later)) (w .there))
 
     pub mark-same : bitAnd a b ≡ 0 → Marks t

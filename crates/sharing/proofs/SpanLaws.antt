@@ -1,5 +1,5 @@
 -- The loops of `forks`: a law for each turn and each end.
-use Prim.Native.Nat.{ℕ, _+_, _<_, _≤_}
+use Prim.Native.Nat.{ℕ, _+_, _*_, _<_, _≤_}
 use mathlib.Core.Path.{_≡_, sym, _∙_}
 use mathlib.Core.List.{List}
 use mathlib.Core.Logic.{⊎-elim}
@@ -19,28 +19,28 @@ use Rattle.names.specs.Ranks.{Ranked, Indexed}
 use Rattle.slices.specs.Bits.{flagOf}
 use Rattle.names.specs.Facts.{Facts}
 use Rattle.names.specs.Filling.{Nameless}
-use Rattle.sharing.specs.Free.{SPAN, FreeMask, Along, Ahead, ForkMark, ForkMarks, IsFork, Like}
+use Rattle.sharing.specs.Free.{SPAN, FreeMask, maskAt, markAt, Along, Ahead, ForkMark, ForkMarks, IsFork, Like}
 use Rattle.sharing.proofs.MarkLaws.{mark-none, mark-done}
 use Rattle.sharing.proofs.FreeLaws.{free-ranked, fork-kind, fork-nameless, Marks}
 use Rattle.sharing.proofs.LikeLaws.{like-self, like-then, like-back, like-set, ranked-like, indexed-like, mask-like, mark-like}
 
--- A store right before the entries that are known, and one past them.
-module _ (P : ℕ → ℕ → Type 0) (table : List ℕ) (n v : ℕ) where
-  along-more : (j : ℕ) → n < length table → P n v → Along P table (n + 1) j → Along P (set table n v) n j
-  along-more j h p along i b t =
+-- A store for node n, right before the nodes that are known, and one past them.
+module _ (P : ℕ → ℕ → Type 0) (value value′ : ℕ → ℕ) (n : ℕ) (other : (i : ℕ) → (i ≡ n → ⊥) → value′ i ≡ value i) where
+  along-more : (j : ℕ) → P n (value′ n) → Along P value (n + 1) j → Along P value′ n j
+  along-more j p along i b t =
       ⊎-elim
-      (λ (e : n ≡ i). rw (sym e, getD-set-same table n v 0 h) p)
-      (λ (l : n < i). rw (getD-set-other table n i v 0 (λ e. omega arith)) (along i (omega arith) t))
+      (λ (e : n ≡ i). rw (sym e) p)
+      (λ (l : n < i). rw (other i (λ e. omega arith)) (along i (omega arith) t))
       (eq-or-lt-of-le b)
 
-  along-before : (j : ℕ) → j ≤ n → Along P table 0 j → Along P (set table n v) 0 j
-  along-before j h along i b t = rw (getD-set-other table n i v 0 (λ e. omega arith)) (along i b t)
+  along-before : (j : ℕ) → j ≤ n → Along P value 0 j → Along P value′ 0 j
+  along-before j h along i b t = rw (other i (λ e. omega arith)) (along i b t)
 
 module _ (s : List ℕ) (layout : WithinLayout s) where
   -- Before the first span no fork is marked.
   pub marks-none : (facts : List ℕ) → Nameless s facts → ForkMarks s 0 facts
   marks-none facts z n b h p q r v =
-      rw (z .zero n h (fork-nameless s n (fork-kind s n p q r v))) (mark-none s facts (fv (exprAt s p)) (fv (exprAt s q)))
+      rw (z .zero n h (fork-nameless s n 0 (fork-kind s n p q r v))) (mark-none s facts (fv (exprAt s p)) (fv (exprAt s q)))
 
   -- Past every rank the marks are the answers.
   pub marks-all : (facts facts′ : List ℕ) (count bound : ℕ) → Like s facts facts′ → Ranked s facts count → Indexed s facts → count ≤ bound → ForkMarks s bound facts′ → Facts s facts′
@@ -50,7 +50,7 @@ module _ (s : List ℕ) (layout : WithinLayout s) where
       ranked′ : Ranked s facts′ count
       ranked′ = ranked-like l ranked
 
-      flags : (n a b c : ℕ) → n < countOf s nodes → viewAt s n ≡ n-fork a b c → getD facts′ n 0 ≡ flagOf (shares (fv (exprAt s a)) (fv (exprAt s b)))
+      flags : (n a b c : ℕ) → n < countOf s nodes → viewAt s n ≡ n-fork a b c → getD facts′ (2 * n) 0 ≡ flagOf (shares (fv (exprAt s a)) (fv (exprAt s b)))
       flags n a b c h v =
           mark-done
           s
@@ -58,7 +58,7 @@ module _ (s : List ℕ) (layout : WithinLayout s) where
           (fv (exprAt s a))
           (fv (exprAt s b))
           bound
-          (getD facts′ n 0)
+          (getD facts′ (2 * n) 0)
           (λ x i.
           let u = free-ranked s layout facts′ a (in-order s layout n h a (rw v first) .there) x i in
           (u .0, (omega (arith, ranked′ .below (u .1)), u .1)))
@@ -74,9 +74,9 @@ pub record SpanTo (s : List ℕ) (start : ℕ) (masks facts facts′ : List ℕ)
   pub within : n ≤ countOf s nodes
   pub masks-size : length masks ≡ NODES
   pub like : Like s facts facts′
-  pub masked : Along (FreeMask s facts start) masks n (countOf s nodes)
-  pub after : Along (ForkMark s facts (start + SPAN)) facts′ n (countOf s nodes)
-  pub before : Along (ForkMark s facts start) facts′ 0 n
+  pub masked : Along (FreeMask s facts start) (maskAt masks) n (countOf s nodes)
+  pub after : Along (ForkMark s facts (start + SPAN)) (markAt facts′) n (countOf s nodes)
+  pub before : Along (ForkMark s facts start) (markAt facts′) 0 n
 
 pub span-none : (s : List ℕ) (start : ℕ) (masks facts : List ℕ) (n : ℕ) → n ≡ countOf s nodes → length masks ≡ NODES → ForkMarks s start facts → SpanTo s start masks facts facts n
 span-none s start masks facts n e p marks =
@@ -105,14 +105,13 @@ module _ (s : List ℕ) (layout : WithinLayout s) (start : ℕ) (masks facts fac
         later = λ i b l. mask-like (h .like) (h .masked i (omega arith) l);
       }
 
-  span-within : (k < length masks) × (k < length facts′)
+  span-within : (k < length masks) × (2 * k < length facts′)
   span-within =
       let most : countOf s nodes ≤ NODES = layout .counts-are .within nodes in
       (omega (arith, h .within, h .masks-size), omega (arith, h .within, h .like .size, ranks .1 .size))
 
-  pub span-step : (m r : ℕ) → FreeMask s facts′ start k m → Marks s (set masks k m) k (getD facts′ k 0) r → ((IsFork s k → ⊥) → r ≡ getD facts′ k 0) → SpanTo s start (set masks k m) facts (set facts′ k r) k
+  pub span-step : (m r : ℕ) → FreeMask s facts′ start k m → Marks s (set masks k m) k (getD facts′ (2 * k) 0) r → ((IsFork s k → ⊥) → r ≡ getD facts′ (2 * k) 0) → SpanTo s start (set masks k m) facts (set facts′ (2 * k) r) k
   span-step m r p q f =
-      let masked : Along (FreeMask s facts start) (set masks k m) k (countOf s nodes) = along-more (FreeMask s facts start) masks k m (countOf s nodes) (span-within .0) (mask-like (like-back (h .like)) p) (rw turn at (h .masked)) in
       record {
         within = omega (arith, h .within);
         masks-size = length-set masks k m ∙ h .masks-size;
@@ -121,12 +120,28 @@ module _ (s : List ℕ) (layout : WithinLayout s) (start : ℕ) (masks facts fac
         after =
             along-more
             (ForkMark s facts (start + SPAN))
-            facts′
+            (markAt facts′)
+            (markAt (set facts′ (2 * k) r))
             k
-            r
+            other
             (countOf s nodes)
-            (span-within .1)
-            (q facts start masked (h .before k (omega arith) (omega arith)))
+            (rw (getD-set-same facts′ (2 * k) r 0 (span-within .1)) (q facts start masked (h .before k (omega arith) (omega arith))))
             (rw turn at (h .after));
-        before = along-before (ForkMark s facts start) facts′ k r k (omega arith) (λ i b t. h .before i b (omega arith));
+        before =
+            along-before (ForkMark s facts start) (markAt facts′) (markAt (set facts′ (2 * k) r)) k other k (omega arith) (λ i b t. h .before i b (omega arith));
       }
+    where
+      other : (i : ℕ) → (i ≡ k → ⊥) → markAt (set facts′ (2 * k) r) i ≡ markAt facts′ i
+      other i d = getD-set-other facts′ (2 * k) (2 * i) r 0 (λ e. d (omega arith))
+
+      masked : Along (FreeMask s facts start) (maskAt (set masks k m)) k (countOf s nodes)
+      masked =
+          along-more
+          (FreeMask s facts start)
+          (maskAt masks)
+          (maskAt (set masks k m))
+          k
+          (λ i d. getD-set-other masks k i m 0 d)
+          (countOf s nodes)
+          (rw (getD-set-same masks k m 0 (span-within .0)) (mask-like (like-back (h .like)) p))
+          (rw turn at (h .masked))

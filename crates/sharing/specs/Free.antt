@@ -1,5 +1,5 @@
 -- What the code of `forks` keeps of free variables: for each node a mask, with a bit for each rank of a span of 32, and a mark for each fork.
-use Prim.Native.Nat.{ℕ, _+_, _<_, _≤_}
+use Prim.Native.Nat.{ℕ, _+_, _*_, _/_, _<_, _≤_}
 use mathlib.Core.Path.{_≡_}
 use mathlib.Core.Bool.{true}
 use mathlib.Core.List.{List}
@@ -32,18 +32,25 @@ RankMask start rank m = (k : ℕ) → k < SPAN → bitOf m k ≡ flagOf (eqb ran
 abbrev pub FreeMask : List ℕ → List ℕ → ℕ → ℕ → ℕ → Type 0
 FreeMask s facts start n m = MaskOf s facts start m (fv (exprAt s n))
 
--- What holds of the entries of a table from i up to j.
-abbrev pub Along : (ℕ → ℕ → Type 0) → List ℕ → ℕ → ℕ → Type 0
-Along P table i j = (n : ℕ) → i ≤ n → n < j → P n (getD table n 0)
+-- What a table has for node n: its mask, and its mark, which stands at its first slot.
+abbrev pub maskAt : List ℕ → ℕ → ℕ
+maskAt masks n = getD masks n 0
 
--- What the mask of node n is made from: its variable's rank, and the masks of the nodes after it.
+abbrev pub markAt : List ℕ → ℕ → ℕ
+markAt facts n = getD facts (2 * n) 0
+
+-- What holds of each node from i up to j, and of what a table has for it.
+abbrev pub Along : (ℕ → ℕ → Type 0) → (ℕ → ℕ) → ℕ → ℕ → Type 0
+Along P value i j = (n : ℕ) → i ≤ n → n < j → P n (value n)
+
+-- What the mask of node n is made from: the ranks of its variables, and the masks of the nodes after it.
 pub record Ahead (s facts masks : List ℕ) (start n : ℕ) : Type 0 where
   pub layout : WithinLayout s
   pub there : n < countOf s nodes
   pub count : ℕ
   pub ranked : Ranked s facts count
   pub size : length masks ≡ NODES
-  pub later : Along (FreeMask s facts start) masks (n + 1) (countOf s nodes)
+  pub later : Along (FreeMask s facts start) (maskAt masks) (n + 1) (countOf s nodes)
 
 -- The mark of two lists: 1 if they share a variable, 0 if they share none whose rank is below the bound.
 pub data Mark (s facts : List ℕ) (bound : ℕ) (l m : List ℕ) : ℕ → Type 0 where
@@ -56,13 +63,13 @@ ForkMark s facts bound n t = (a b c : ℕ) → viewAt s n ≡ n-fork a b c → M
 
 -- The marks of all forks.
 abbrev pub ForkMarks : List ℕ → ℕ → List ℕ → Type 0
-ForkMarks s bound facts = Along (ForkMark s facts bound) facts 0 (countOf s nodes)
+ForkMarks s bound facts = Along (ForkMark s facts bound) (markAt facts) 0 (countOf s nodes)
 
 -- Node n is a fork.
 abbrev pub IsFork : List ℕ → ℕ → Type 0
 IsFork s n = (n < countOf s nodes) × (nodeWord s n 0 ≡ 8)
 
--- Two tables that have the same words, but for those of forks.
+-- Two tables of facts that have the same words, but for those at the slots of forks.
 pub record Like (s facts facts′ : List ℕ) : Type 0 where
   pub size : length facts′ ≡ length facts
-  pub others : (n : ℕ) → (IsFork s n → ⊥) → getD facts′ n 0 ≡ getD facts n 0
+  pub others : (k : ℕ) → (IsFork s (k / 2) → ⊥) → getD facts′ k 0 ≡ getD facts k 0

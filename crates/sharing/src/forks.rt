@@ -16,10 +16,10 @@ ghost use Rattle.script.specs.Syntax.{parts};
 ghost use Rattle.script.specs.Reading.{viewAt, exprAt};
 ghost use Rattle.script.specs.Statements.{WithinLayout};
 ghost use Rattle.typing.specs.Typing.{fv};
-ghost use Rattle.names.specs.Ranks.{Names, Ranked, Indexed};
+ghost use Rattle.names.specs.Ranks.{FACTS, Names, Ranked, Indexed};
 ghost use Rattle.names.specs.Facts.{Facts};
 ghost use Rattle.names.specs.Filling.{Nameless};
-ghost use Rattle.sharing.specs.Free.{SPAN, MaskOf, RankMask, FreeMask, Along, Ahead, ForkMark, ForkMarks, IsFork, Like};
+ghost use Rattle.sharing.specs.Free.{SPAN, MaskOf, RankMask, FreeMask, maskAt, Along, Ahead, ForkMark, ForkMarks, IsFork, Like};
 
 // The ranks of a mask, a bit each.
 const SPAN: usize = 32;
@@ -62,12 +62,12 @@ fn bit_of(rank: usize, start: usize) -> u32
     1u32 << k
 }
 
-// The mask of the variable that node n names.
-fn name_mask(facts: &[u16], n: usize, start: usize) -> u32
-    requires { ⌜ n < length (now facts) ⌝ }
-    ensures { λ r. ⌜ RankMask start (getD (now (facts .entry)) n 0) r ⌝ }
+// The mask of the variable that stands at a slot.
+fn name_mask(facts: &[u16], slot: usize, start: usize) -> u32
+    requires { ⌜ slot < length (now facts) ⌝ }
+    ensures { λ r. ⌜ RankMask start (getD (now (facts .entry)) slot 0) r ⌝ }
 {
-    let rank = facts[n] as usize;
+    let rank = facts[slot] as usize;
     bit_of(rank, start)
 }
 
@@ -82,14 +82,14 @@ fn part_mask(s: &[u8], masks: &[u32], n: usize, j: usize) -> u32
 
 // The mask of node n, which uses a variable and whose part is word j.
 fn use_mask(s: &[u8], facts: &[u16], masks: &[u32], start: usize, n: usize, j: usize) -> u32
-    requires { ⌜ Ahead (now s) (now facts) (now masks) start n × Names (now s) n (nodeWord (now s) n 1) ⌝ }
+    requires { ⌜ Ahead (now s) (now facts) (now masks) start n × Names (now s) n 0 (nodeWord (now s) n 1) ⌝ }
     requires { ⌜ (j < 4) × (nodeWord (now s) n j ∈ parts (viewAt (now s) n)) ⌝ }
     ensures { λ r. ⌜
         MaskOf (now (s .entry)) (now (facts .entry)) start r
         (nodeWord (now (s .entry)) n 1 ∷ fv (exprAt (now (s .entry)) (nodeWord (now (s .entry)) n j)))
         ⌝ }
 {
-    let own = name_mask(facts, n, start);
+    let own = name_mask(facts, 2 * n, start);
     own | part_mask(s, masks, n, j)
 }
 
@@ -98,7 +98,7 @@ fn let_mask(s: &[u8], facts: &[u16], masks: &[u32], start: usize, n: usize) -> u
     requires { ⌜ Ahead (now s) (now facts) (now masks) start n × (nodeWord (now s) n 0 ≡ 5) ⌝ }
     ensures { λ r. ⌜ FreeMask (now (s .entry)) (now (facts .entry)) start n r ⌝ }
 {
-    let own = name_mask(facts, n, start);
+    let own = name_mask(facts, 2 * n, start);
     let first = part_mask(s, masks, n, 2);
     let body = part_mask(s, masks, n, 3);
     first | ((body | own) ^ own)
@@ -117,6 +117,17 @@ fn fork_mask(s: &[u8], masks: &[u32], n: usize) -> u32
     a | (b | c)
 }
 
+// The mask of node n, which is a sum: that of both its variables.
+fn sum_mask(facts: &[u16], start: usize, n: usize) -> u32
+    requires { ⌜ (length (now facts) ≡ FACTS) × (n < NODES) ⌝ }
+    ensures { λ r. ⌜
+        ((s masks : List ℕ) → Ahead s (now (facts .entry)) masks start n → nodeWord s n 0 ≡ 11 → FreeMask s (now (facts .entry)) start n r)
+        ⌝ }
+{
+    let left = name_mask(facts, 2 * n, start);
+    left | name_mask(facts, 2 * n + 1, start)
+}
+
 // The mask of node n.
 fn mask_of(s: &[u8], facts: &[u16], masks: &[u32], start: usize, n: usize) -> u32
     requires { ⌜ Ahead (now s) (now facts) (now masks) start n ⌝ }
@@ -124,23 +135,24 @@ fn mask_of(s: &[u8], facts: &[u16], masks: &[u32], start: usize, n: usize) -> u3
 {
     let kind = node_index(s, n, 0);
     match kind {
-        1 => name_mask(facts, n, start),
-        2 => name_mask(facts, n, start),
+        1 => name_mask(facts, 2 * n, start),
+        2 => name_mask(facts, 2 * n, start),
         3 => use_mask(s, facts, masks, start, n, 3),
         4 => use_mask(s, facts, masks, start, n, 3),
         5 => let_mask(s, facts, masks, start, n),
         7 => part_mask(s, masks, n, 2),
         8 => fork_mask(s, masks, n),
         9 => use_mask(s, facts, masks, start, n, 2),
+        11 => sum_mask(facts, start, n),
         _ => 0,
     }
 }
 
-// The word of node n after one more span: 1 if it is a fork whose asyncs share a variable of the span, else as before.
+// The mark of node n after one more span: 1 if it is a fork whose asyncs share a variable of the span, else as before.
 fn mark_of(s: &[u8], masks: &[u32], n: usize, before: u16) -> u16
     requires { ⌜ WithinLayout (now s) × (n < countOf (now s) nodes) × (length (now masks) ≡ NODES) ⌝ }
     ensures { λ r. ⌜
-        ((facts : List ℕ) (start : ℕ) → Along (FreeMask (now (s .entry)) facts start) (now (masks .entry)) n (countOf (now (s .entry)) nodes) →
+        ((facts : List ℕ) (start : ℕ) → Along (FreeMask (now (s .entry)) facts start) (maskAt (now (masks .entry))) n (countOf (now (s .entry)) nodes) →
         ForkMark (now (s .entry)) facts start n before → ForkMark (now (s .entry)) facts (start + SPAN) n r)
         ⌝ }
     ensures { λ r. ⌜ ((IsFork (now (s .entry)) n → ⊥) → r ≡ before) ⌝ }
@@ -167,7 +179,8 @@ fn fill_span(s: &[u8], start: usize, masks: &mut [u32], facts: &mut [u16])
     while n > 0 {
         n -= 1;
         masks[n] = mask_of(s, facts, masks, start, n);
-        facts[n] = mark_of(s, masks, n, facts[n]);
+        let slot = 2 * n;
+        facts[slot] = mark_of(s, masks, n, facts[slot]);
     }
 }
 
@@ -185,7 +198,7 @@ fn fill_spans(s: &[u8], count: usize, masks: &mut [u32], facts: &mut [u16])
     }
 }
 
-// Finds which forks have asyncs that share a variable: such a fork's word becomes 1. There are `count` ranks.
+// Finds which forks have asyncs that share a variable: such a fork's first word in the table becomes 1. There are `count` ranks.
 pub fn fill_forks(s: &[u8], count: usize, facts: &mut [u16])
     requires { ⌜ WithinLayout (now s) × Ranked (now s) (now facts) count × Indexed (now s) (now facts) × Nameless (now s) (now facts) ⌝ }
     ensures { λ r. ⌜ Facts (now (s .entry)) (now (facts .exit)) ⌝ }

@@ -6,7 +6,7 @@ use mathlib.Core.Bool.{true, false}
 use mathlib.Core.List.{List, [], _∷_, _++_}
 use mathlib.Core.Logic.{_↔_}
 use mathlib.Core.Option.{Option, none, some}
-use Rattle.script.specs.Syntax.{Point, Node, n-null, n-var, n-select, n-update, n-call, n-bind, n-new, n-cast, n-fork, n-lock, Method}
+use Rattle.script.specs.Syntax.{Point, Node, n-null, n-var, n-select, n-update, n-call, n-bind, n-new, n-cast, n-fork, n-lock, n-constant, n-add, Method}
 use Rattle.typing.specs.declared.Answer.the-variants.{Typed}
 use Rattle.typing.specs.Typing.{inferred}
 use Rattle.machine.specs.declared.Store.{Store}
@@ -47,6 +47,8 @@ module _ {s : Code} {start : ℕ} (acc : AcceptedCode s start) (room : Places) (
   descend-stops above fs e p (n-cast t a) d z = rw z
   descend-stops above fs e p (n-fork a b c) d z = absurd (let z : _≡_ {A = ℕ} 0 1 = cc in omega arith)
   descend-stops above fs e p (n-lock x a) d z = absurd (let z : _≡_ {A = ℕ} 0 1 = cc in omega arith)
+  descend-stops above fs e p (n-constant i) d z = absurd (let z : _≡_ {A = ℕ} 0 1 = cc in omega arith)
+  descend-stops above fs e p (n-add x y) d z = absurd (let z : _≡_ {A = ℕ} 0 1 = cc in omega arith)
 
   let-typed : (e : ℕ) {x t : ℕ} {a b : Point} {v : Want} → Awaits s (context (st .bindings) e) (n-bind x a b) t v → inferred (s .program) (context (st .bindings) e) (s .expr a) ≡ Typed t
   let-typed e (a-let h k) = infer-computes acc h

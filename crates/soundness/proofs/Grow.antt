@@ -13,7 +13,7 @@ use Rattle.machine.specs.Config.{Code, Object, Binding, Stores, Tree}
 use Rattle.typing.specs.Members.{fieldsOf}
 use Rattle.machine.specs.Machine.{scope, slot, context, object, setShut, setFields}
 use Rattle.machine.specs.declared.Want.{Want}
-use Rattle.machine.specs.WellFormed.{ValueFits, fits-nil, fits-ref, Gives, NodeGives, BindingsOk, no-bindings, a-binding, FieldsOk, no-fields, a-field, TypedObject, FramesOk, no-frames, a-node, a-cast, a-lock, TreeOk, running-ok, returning-ok, failed-ok, join-ok}
+use Rattle.machine.specs.WellFormed.{ValueFits, fits-nil, fits-ref, fits-int, Gives, NodeGives, BindingsOk, no-bindings, a-binding, FieldsOk, no-fields, a-field, TypedObject, FramesOk, no-frames, a-node, a-cast, a-lock, TreeOk, running-ok, returning-ok, failed-ok, join-ok}
 use Rattle.soundness.proofs.Stores.{Keeps, keeps-same, scope-older}
 
 -- Objects keep their classes, and environments their bindings.
@@ -29,6 +29,7 @@ fits-grows g (fits-nil m) = fits-nil m
 fits-grows {s} g (fits-ref {o = o} {x = x} {w = w} h m) =
     let k = g o x h in
     fits-ref {w = w} (k .there) (rw (k .class) m)
+fits-grows g (fits-int r m) = fits-int r m
 
 pub bindings-grow : {s : Code} {xs ys : List Object} {bs : List Binding} → Keeps xs ys → BindingsOk s xs bs → BindingsOk s ys bs
 bindings-grow g no-bindings = no-bindings

@@ -1,6 +1,7 @@
 pub mod Maps
 pub mod SpentChoices
 pub mod Places
+pub mod Values
 pub mod Stores
 pub mod Grow
 pub mod Move

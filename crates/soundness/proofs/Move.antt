@@ -6,30 +6,34 @@ use mathlib.Core.Bool.{Bool, true, false}
 use mathlib.Core.List.{List, [], _∷_, map}
 use mathlib.Core.Option.{Option, some}
 use lib.ListN.{length}
+use lib.IntN.{ℤ, _+ℤ_}
 use borrow.Author.Tests.{eq-eqb}
+use Rattle.words.specs.Integer.{rangeTest}
+use Rattle.words.proofs.Integers.{range-exactly}
 use Rattle.script.specs.Lists.{_∈_}
-use Rattle.script.specs.Syntax.{Point, Node, n-null, n-var, n-select, n-update, n-call, n-bind, n-new, n-cast, n-fork, n-lock, build, parts, Signature}
+use Rattle.script.specs.Syntax.{Point, Node, n-null, n-var, n-select, n-update, n-call, n-bind, n-new, n-cast, n-fork, n-lock, n-constant, n-add, build, parts, Signature, an-int, intOf, declarationAt}
 use Rattle.script.specs.Regular.{IsClass}
-use Rattle.script.proofs.Declarations.{is-class}
+use Rattle.script.proofs.Declarations.{is-class, declared-int}
 use Rattle.script.proofs.Reading.{first, second, third}
 use Rattle.typing.specs.declared.Answer.the-variants.{Typed}
 use Rattle.typing.specs.Members.{typeIn, fieldsOf}
-use Rattle.typing.specs.Published.{WfType, Sub, FieldIn, MsigIn, BD-INFER-VAR, BD-INFER-CALL, BD-INFER-CAST, BD-INFER-SELECT, BD-INFER-UPDATE, BD-INFER-NEW}
+use Rattle.typing.specs.Published.{WfType, Sub, FieldIn, MsigIn, BD-INFER-VAR, BD-INFER-CALL, BD-INFER-CAST, BD-INFER-SELECT, BD-INFER-UPDATE, BD-INFER-NEW, BD-INFER-INT, BD-INFER-ADD}
 use Rattle.typing.proofs.Types.{type-wf}
 use Rattle.typing.proofs.Environments.{type-in}
 use Rattle.machine.specs.declared.Store.{Store}
 use Rattle.machine.specs.declared.Value.{Value}
-use Rattle.machine.specs.declared.Value.the-variants.{Null as nil, Ref as ref}
+use Rattle.machine.specs.declared.Value.the-variants.{Null as nil, Ref as ref, Int as int}
 use Rattle.machine.specs.declared.Frame.{Frame}
 use Rattle.machine.specs.declared.Frame.the-variants.{Awaits as awaits, Casts as casts, Locks as locks}
 use Rattle.machine.specs.Config.{Code, Object, Binding, Stores, Tree, running, returning, failed}
-use Rattle.machine.specs.Machine.{scope, slot, context, find, ValueOf, object, setShut, setFields, setField, initials, oneIf, lockFrames, Places, Outcome, still, full, moved, give, descend, make, spawn, enter, shutAndEnter, onValue, onTarget, lockObject, extend, selectObject, updateObject, callMethod, callObject, runNode, wake, resume}
+use Rattle.machine.specs.Machine.{scope, slot, context, find, ValueOf, object, setShut, setFields, setField, initials, oneIf, lockFrames, Places, Outcome, still, full, moved, give, descend, make, spawn, enter, shutAndEnter, onValue, onTarget, lockObject, extend, selectObject, updateObject, callMethod, callObject, giveSum, addBound, runNode, wake, resume}
 use Rattle.machine.specs.declared.Want.{Want}
 use Rattle.machine.specs.declared.Want.the-variants.{Any as any, Upto as upto}
-use Rattle.machine.specs.WellFormed.{Meets, meets-type, ValueFits, fits-nil, fits-ref, Gives, gives-type, NodeGives, a-binding, FieldsOk, StoresOk, Awaits, a-let, a-write, a-call, FramesOk, no-frames, a-node, a-cast, a-lock, TreeOk, running-ok, returning-ok, failed-ok, join-ok, lockCount, failures, shutAt}
+use Rattle.machine.specs.WellFormed.{Meets, meets-type, ValueFits, fits-nil, fits-ref, fits-int, Gives, gives-type, NodeGives, a-binding, FieldsOk, StoresOk, Awaits, a-let, a-write, a-call, FramesOk, no-frames, a-node, a-cast, a-lock, TreeOk, running-ok, returning-ok, failed-ok, join-ok, lockCount, failures, shutAt}
 use Rattle.machine.specs.Accepted.{LaterPart, AcceptedCode}
 use Rattle.machine.specs.Ends.{Waits, waits}
-use Rattle.machine.proofs.Types.{meets-below, null-meets, check-gives, gives-meets, let-parts, lock-parts, fork-parts, below-class, below-method, infer-computes, infer-wf, infer-gives, field-declared, class-below, Defined, defined}
+use Rattle.machine.proofs.Types.{null-unit, null-meets, check-gives, gives-meets, field-no-int, method-no-int, null-given, let-parts, lock-parts, fork-parts, below-class, below-method, infer-computes, infer-wf, infer-gives, field-declared, class-below, Defined, defined}
+use Rattle.soundness.proofs.Values.{fits-meets, no-number, a-number}
 use Rattle.soundness.proofs.Stores.{keeps-append, keeps-shut, keeps-fields, scope-newest, scope-empty, shutAt-fields, fit-field, set-field, initials-ok, fit-binding, object-last, shutAt-new, shutAt-le, shutAt-object, opens, shuts}
 use Rattle.soundness.proofs.Grow.{Grows, grows-same, grows-objects, grows-binding, grows-call, heap-grows, heap-append, heap-shut, heap-fields, fields-grow, fits-grows, bindings-grow, frames-grow}
 
@@ -49,11 +53,6 @@ pub data Judged (s : Code) (w : Want) (st : Stores) (t : Tree) (Q : Type 0) : Ou
 
 abbrev pub Waiting : Code → Stores → List Frame → Tree → Type 0
 Waiting s st above t = (o : ℕ) × Waits s st above o t
-
--- a value of a type fits what the type meets
-fits-meets : {s : Code} {xs : List Object} {v : Value} {t : ℕ} {u : Want} → ValueFits s xs v (upto t) → Meets s t u → ValueFits s xs v u
-fits-meets {u = u} (fits-nil n) m = fits-nil (null-meets u)
-fits-meets (fits-ref h (meets-type b)) m = fits-ref h (meets-below b m)
 
 module _ {s : Code} {w : Want} {st : Stores} (ok : StoresOk s st) where
   -- the stores stay, and so do the lock frames
@@ -78,22 +77,40 @@ module _ {s : Code} {w : Want} {st : Stores} (ok : StoresOk s st) where
         whole = λ f. absurd (omega arith);
       }
 
-  -- a target: with null the thread fails, and an object is of a class below the variable's type
-  target-good : {t : Tree} {Q : Type 0} (e x c : ℕ) (go : ℕ → Option Object → Outcome) → typeIn (context (st .bindings) e) x ≡ some c
+  -- a target, whose type is not Int: with null the thread fails, and an object is of a class below the variable's type
+  target-good : {t : Tree} {Q : Type 0} {start : ℕ} → AcceptedCode s start → (e x c : ℕ) (go : ℕ → Option Object → Outcome)
+      → (declarationAt (s .program) c ≡ an-int → ⊥) → typeIn (context (st .bindings) e) x ≡ some c
       → ((o : ℕ) (y : Object) → ValueOf st e x (ref o) → object (st .objects) o ≡ some y → Sub (s .program) (y .class) c → Judged s w st t Q (go o (some y)))
       → Judged s w st t Q (onTarget st go (find (scope (st .bindings) e) x))
-  target-good {t} {Q} e x c go h there = let f = fit-binding e x c (ok .bindings) h in rw (f .there) (on (f .binding) (f .there) (f .binding .value) refl (f .fits))
+  target-good {t} {Q} acc e x c go n h there = let f = fit-binding e x c (ok .bindings) h in rw (f .there) (on (f .binding) (f .there) (f .binding .value) refl (f .fits))
     where
       on : (b : Binding) → find (scope (st .bindings) e) x ≡ some b → (v : Value) → b .value ≡ v → ValueFits s (st .objects) v (upto c) → Judged s w st t Q (onValue st go v)
       on b k nil i f = a-move (fails t)
       on b k (ref o) i (fits-ref {x = y} l (meets-type m)) = rw l (there o y (record { binding = b; there = k; value = i }) l m)
+      on b k (int z) i f = absurd (no-number acc n f)
 
   module _ {start : ℕ} (acc : AcceptedCode s start) (room : Places) (above fs : List Frame) (p : Point) (v : Want) (r : FramesOk s (st .bindings) w fs v) (e : ℕ) (le : e ≤ length (st .bindings)) where
     give-good : {Q : Type 0} (x t : ℕ) → typeIn (context (st .bindings) e) x ≡ some t → Meets s t v
         → Judged s w st (running p e fs) Q (give st fs (find (scope (st .bindings) e) x))
     give-good x t h m =
         let f = fit-binding e x t (ok .bindings) h in
-        rw (f .there) (a-move (kept _ _ (returning-ok (fits-meets (f .fits) m) r) refl (λ o. refl)))
+        rw (f .there) (a-move (kept _ _ (returning-ok (fits-meets acc (f .fits) m) r) refl (λ o. refl)))
+
+    -- the two variables of a sum hold numbers, and their sum is in the range, or the thread fails
+    sum-good : {Q : Type 0} (i j : ℤ) → Meets s (intOf (s .program)) v → (q : Bool) → rangeTest (i +ℤ j) ≡ q
+        → Judged s w st (running p e fs) Q (giveSum st fs (i +ℤ j) q)
+    sum-good i j m true h = a-move (kept _ _ (returning-ok (fits-int (range-exactly (i +ℤ j) .0 h) m) r) refl (λ o. refl))
+    sum-good i j m false h = a-move (fails _)
+
+    add-good : {Q : Type 0} (x y t : ℕ) → typeIn (context (st .bindings) e) x ≡ some t → typeIn (context (st .bindings) e) y ≡ some t
+        → declarationAt (s .program) t ≡ an-int → Meets s t v
+        → Judged s w st (running p e fs) Q (addBound st fs (find (scope (st .bindings) e) x) (find (scope (st .bindings) e) y))
+    add-good x y t h k d m =
+        let f = fit-binding e x t (ok .bindings) h in
+        let g = fit-binding e y t (ok .bindings) k in
+        let i = a-number acc ok d (f .fits) in
+        let j = a-number acc ok d (g .fits) in
+        rw (f .there, g .there, i .1, j .1) (sum-good (i .0) (j .0) (rw (declared-int (s .program) t d) at m) (rangeTest (i .0 +ℤ j .0)) refl)
 
     -- a part is run first
     descend-good : {Q : Type 0} (a : Point) {u : Want} (f : Frame) → NodeGives s (context (st .bindings) e) a u → FramesOk s (st .bindings) w (f ∷ fs) u → ((o : ℕ) → lockFrames o (f ∷ fs) ≡ lockFrames o fs)
@@ -120,7 +137,7 @@ module _ {s : Code} {w : Want} {st : Stores} (ok : StoresOk s st) where
           stores =
               record {
                 bindings = bindings-grow q (ok .bindings);
-                heap = heap-append (st .objects) y (heap-grows (st .objects) q (ok .heap)) (record { class = i; fields = initials-ok (s .program) (fieldsOf (s .program) c) });
+                heap = heap-append (st .objects) y (heap-grows (st .objects) q (ok .heap)) (record { class = i; fields = initials-ok (fieldsOf (s .program) c) });
               };
           tree = returning-ok (fits-ref (object-last (st .objects) _) m) (frames-grow g r);
           fewer = λ o. omega (arith, shutAt-new (st .objects) c (initials (s .program) (fieldsOf (s .program) c)) o);
@@ -159,13 +176,13 @@ module _ {s : Code} {w : Want} {st : Stores} (ok : StoresOk s st) where
         let q = field-declared acc d in
         let i : y .class ≡ c = below-class acc (q .0) b in
         let j = fit-field (ok .heap o y l .fields) f u (ap (λ (n : ℕ). typeIn (fieldsOf (s .program) n) f) i ∙ q .1) in
-        rw (j .there) (a-move (kept _ _ (returning-ok (fits-meets (j .fits) m) r) refl (λ o. refl)))
+        rw (j .there) (a-move (kept _ _ (returning-ok (fits-meets acc (j .fits) m) r) refl (λ o. refl)))
 
     pub run-good : (n : Node) → p < s .size → s .view p ≡ n → ((q : Point) → q ∈ parts n → LaterPart s p q) → Gives s (context (st .bindings) e) (build p (s .expr) n) v
         → Judged s w st (running p e fs) (Waiting s st above (running p e fs)) (runNode s room st above fs e p n)
-    run-good n-null q i y g = a-move (kept _ _ (returning-ok (fits-nil (null-meets _)) r) refl (λ o. refl))
+    run-good n-null q i y g = a-move (kept _ _ (returning-ok (fits-nil (null-given g)) r) refl (λ o. refl))
     run-good (n-var x) q i y (gives-type (BD-INFER-VAR z h) m) = give-good x _ (type-in h) m
-    run-good (n-select x f) q i y (gives-type (BD-INFER-SELECT (BD-INFER-VAR z h) d w) m) = target-good e x _ (λ o. selectObject s st fs f) (type-in h) (λ o y k l b. select-object f _ _ o y d m l b)
+    run-good (n-select x f) q i y (gives-type (BD-INFER-SELECT (BD-INFER-VAR z h) d w) m) = target-good acc e x _ (λ o. selectObject s st fs f) (field-no-int d) (type-in h) (λ o y k l b. select-object f _ _ o y d m l b)
     run-good (n-update x f a) q i y (gives-type (BD-INFER-UPDATE {t = t} (BD-INFER-VAR z h) c d o) m) =
         descend-good a (awaits p e) (record { node = y a first .there; gives = check-gives c }) (a-node {t = t} q le (rw i (a-write h d m)) r) (λ o. refl) (room .frames)
     run-good (n-call x n a) q i y (gives-type (BD-INFER-CALL {t₂ = t} (BD-INFER-VAR z h) c d o) m) =
@@ -181,7 +198,10 @@ module _ {s : Code} {w : Want} {st : Stores} (ok : StoresOk s st) where
         spawn-good a b c (record { node = y a first .there; gives = k .0 }) (record { node = y b second .there; gives = k .1 }) (record { node = y c third .there; gives = k .2 }) (room .threads)
     run-good (n-lock x a) q i y g =
         let k = lock-parts g in
-        target-good e x _ (lockObject st above fs a e (room .frames)) (type-in (k .1)) (λ o z j l b. lock-object x o a z i j l (record { node = y a first .there; gives = k .2 }) (z .shut) refl)
+        target-good acc e x _ (lockObject st above fs a e (room .frames)) (k .3) (type-in (k .1)) (λ o z j l b. lock-object x o a z i j l (record { node = y a first .there; gives = k .2 }) (z .shut) refl)
+    run-good (n-constant z) q i y (gives-type (BD-INFER-INT {t = t} c d) m) =
+        a-move (kept _ _ (returning-ok (fits-int (acc .constants p z i) (rw (declared-int (s .program) t d) at m)) r) refl (λ o. refl))
+    run-good (n-add x y) q i l (gives-type (BD-INFER-ADD {t = t} (BD-INFER-VAR c h) (BD-INFER-VAR z k) d) m) = add-good x y t (type-in h) (type-in k) d m
 
   module _ {start : ℕ} (acc : AcceptedCode s start) (room : Places) (x : Value) (i : Point) where
     bind-good : {Q : Type 0} (n e t : ℕ) (b : Point) (fs : List Frame) (v : Want) → n < 65536 → b < s .size → e ≤ length (st .bindings) → WfType (s .program) t
@@ -207,10 +227,10 @@ module _ {s : Code} {w : Want} {st : Stores} (ok : StoresOk s st) where
           whole = λ j. (refl, λ o. omega arith);
         })
 
-    update-object : (e : ℕ) (fs : List Frame) (v : Want) (o : ℕ) (y : Object) → FramesOk s (st .bindings) w fs v → object (st .objects) o ≡ some y
+    update-object : (e : ℕ) (fs : List Frame) (v : Want) (o : ℕ) (y : Object) → Meets s 0 v → FramesOk s (st .bindings) w fs v → object (st .objects) o ≡ some y
         → (l : List Value) → FieldsOk s (st .objects) (fieldsOf (s .program) (y .class)) l
         → Fine s w st (returning x (awaits i e ∷ fs)) (record { objects = setFields l (st .objects) o; bindings = st .bindings }) (returning nil fs)
-    update-object e fs v o y r h l q =
+    update-object e fs v o y m r h l q =
         let g = grows-objects st (setFields l (st .objects) o) (keeps-fields l (st .objects) o) in
         record {
           grows = g;
@@ -221,18 +241,18 @@ module _ {s : Code} {w : Want} {st : Stores} (ok : StoresOk s st) where
                     heap-fields l (st .objects) o (heap-grows (st .objects) (g .objects) (ok .heap))
                     (λ z j. let k : y ≡ z = cc in fields-grow (g .objects) (rw k at q));
               };
-          tree = returning-ok (fits-nil (null-meets v)) r;
+          tree = returning-ok (fits-nil (null-meets acc (null-unit (s .program)) m)) r;
           fewer = λ p. omega (arith, shutAt-fields l (st .objects) o p);
           whole = λ z. (refl, λ p. omega (arith, shutAt-fields l (st .objects) o p));
         }
 
-    update-there : {Q : Type 0} (f e c u : ℕ) (fs : List Frame) (v : Want) → FieldIn (s .program) c f u → FramesOk s (st .bindings) w fs v → ValueFits s (st .objects) x (upto u)
+    update-there : {Q : Type 0} (f e c u : ℕ) (fs : List Frame) (v : Want) → FieldIn (s .program) c f u → Meets s 0 v → FramesOk s (st .bindings) w fs v → ValueFits s (st .objects) x (upto u)
         → (o : ℕ) (y : Object) → object (st .objects) o ≡ some y → Sub (s .program) (y .class) c → Judged s w st (returning x (awaits i e ∷ fs)) Q (updateObject s st fs f x o (some y))
-    update-there f e c u fs v d r j o y l b =
+    update-there f e c u fs v d m r j o y l b =
         let h = field-declared acc d in
         let z : y .class ≡ c = below-class acc (h .0) b in
         let q = set-field x (ok .heap o y l .fields) f u (ap (λ (n : ℕ). typeIn (fieldsOf (s .program) n) f) z ∙ h .1) j in
-        a-move (update-object e fs v o y r l (setField x (fieldsOf (s .program) (y .class)) (y .fields) f) q)
+        a-move (update-object e fs v o y m r l (setField x (fieldsOf (s .program) (y .class)) (y .fields) f) q)
 
     call-method : {Q : Type 0} (e : ℕ) (fs : List Frame) (v : Want) (o : ℕ) (y : Object) {g : Signature} → FramesOk s (st .bindings) w fs v → object (st .objects) o ≡ some y
         → (b : Defined s (y .class) g) → Meets s (b .method .signature .result) v → ValueFits s (st .objects) x (upto (b .method .signature .param)) → (k : ℕ)
@@ -254,12 +274,12 @@ module _ {s : Code} {w : Want} {st : Stores} (ok : StoresOk s st) where
               record {
                 bindings =
                     a-binding {b = arg} {bs = self ∷ st .bindings} (record { name = omega arith; type = b .param; link = omega arith; value = f })
-                    (a-binding {b = self} {bs = st .bindings} (record { name = omega arith; type = i .last; link = omega arith; value = fits-ref h (meets-type (class-below acc i)) }) (ok .bindings));
+                    (a-binding {b = self} {bs = st .bindings} (record { name = omega arith; type = omega (arith, i .last); link = omega arith; value = fits-ref h (meets-type (class-below acc i)) }) (ok .bindings));
                 heap = ok .heap;
               };
           tree =
               running-ok {e = suc (suc (length (st .bindings)))} (omega arith)
-              (record { node = b .node; gives = rw (← b .body, ← c) at (gives-meets (check-gives (b .checked)) k) })
+              (record { node = b .node; gives = rw (← b .body, ← c) at (gives-meets acc (check-gives (b .checked)) k) })
               (frames-grow gr r);
           fewer = λ o. omega arith;
           whole = λ z. (refl, λ o. omega arith);
@@ -277,16 +297,16 @@ module _ {s : Code} {w : Want} {st : Stores} (ok : StoresOk s st) where
     wake-good e t fs v le (n-bind y a b) j k (a-let p q) r f =
         rw (infer-computes acc p) (bind-good y e t b fs v (acc .words i y a b j) (k b second .there) le (infer-wf acc p) q r f (room .bindings))
     wake-good e t fs v le (n-update y f a) j k (a-write {c = c} h d m) r l =
-        target-good e y c (updateObject s st fs f x) (type-in h) (λ o z g i b. update-there f e c t fs v d r l o z i b)
+        target-good acc e y c (updateObject s st fs f x) (field-no-int d) (type-in h) (λ o z g i b. update-there f e c t fs v d m r l o z i b)
     wake-good e t fs v le (n-call y n a) j k (a-call {c = c} {u = u} h d m) r l =
-        target-good e y c (callObject s st fs n x (room .bindings)) (type-in h) (λ o z g i b. call-there n e c t u fs v d m r l o z i b)
+        target-good acc e y c (callObject s st fs n x (room .bindings)) (method-no-int d) (type-in h) (λ o z g i b. call-there n e c t u fs v d m r l o z i b)
 
   module _ {start : ℕ} (acc : AcceptedCode s start) (room : Places) (x : Value) where
     pub resume-good : (fs : List Frame) (v : Want) → FramesOk s (st .bindings) w fs v → ValueFits s (st .objects) x v
         → ((o : ℕ) → lockFrames o fs ≤ shutAt (st .objects) o) → Judged s w st (returning x fs) (fs ≡ []) (resume s room st x fs)
     resume-good [] v r f k = no-move refl
     resume-good (awaits n e ∷ fs) v (a-node {t = t} {v = v′} i le h r) f k = wake-good acc room x n e t fs v′ le (s .view n) refl (acc .in-order n i) h r f
-    resume-good (casts n ∷ fs) v (a-cast i h m r) f k = a-move (kept _ _ (returning-ok (fits-meets f m) r) refl (λ o. refl))
+    resume-good (casts n ∷ fs) v (a-cast i h m r) f k = a-move (kept _ _ (returning-ok (fits-meets acc f m) r) refl (λ o. refl))
     resume-good (locks o ∷ fs) v (a-lock r) f k =
         let c : shutAt (st .objects) o ≡ 1 = omega (arith, k o, shutAt-le (st .objects) o, ap oneIf (eq-eqb o o refl)) in
         let g = grows-objects st (setShut false (st .objects) o) (keeps-shut false (st .objects) o) in

@@ -1,4 +1,4 @@
--- No move makes a thread failed except at a null target or by a failed side.
+-- No move makes a thread failed except at a null target, by a sum outside the range or by a failed side.
 use Prim.Native.Nat.{ℕ}
 use native.Mathlib.Omega.{arith}
 use mathlib.Core.Path.{_≡_, refl, ap}
@@ -50,7 +50,8 @@ module _ (s : Code) (room : Places) (st : Stores) where
   cause-made : {su : Stores} {p : Path} {t u : Tree} → Made s room st t p (moved su u) → (q : Path) → part u q ≡ some failed → Cause t p q
   cause-made (made-move x) q k = cause x q k
 
--- A thread that is failed after a move was failed before it, or stands where the move was made, whose target was null or one of whose sides was failed.
+-- A thread that is failed after a move was failed before it, or stands where the move was made, whose target was null,
+-- whose sum was outside the range or one of whose sides was failed.
 pub on-null : (lim : Places) (s : Code) (c : Config) (p : Path) {su : Stores} {u : Tree} → move s lim c p ≡ moved su u → (q : Path) → part u q ≡ some failed
     → (part (c .tree) q ≡ some failed) ⊎ ((q ≡ p) × (t : Tree) × (part (c .tree) p ≡ some t) × Fails s (c .stores) t)
 unfolding move

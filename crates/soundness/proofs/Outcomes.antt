@@ -1,4 +1,4 @@
--- What the move due at a place comes to. At a thread or a join there is none, or it needs more places than a store has left, or it fails on null or by a failed side, or it goes on with
+-- What the move due at a place comes to. At a thread or a join there is none, or it needs more places than a store has left, or it fails on null, on a sum outside the range or by a failed side, or it goes on with
 -- no failed thread and takes no more places than are left. In the whole tree that part changes, and all else stays.
 use Prim.Native.Nat.{ℕ, zero, suc, _+_, _≤_}
 use native.Mathlib.Omega.{arith}
@@ -7,21 +7,24 @@ use mathlib.Core.Bool.{Bool, true, false}
 use mathlib.Core.List.{List, [], _∷_, _++_}
 use mathlib.Core.Logic.{_⊎_, inl, inr}
 use mathlib.Core.Option.{Option, none, some}
+use lib.IntN.{ℤ, _+ℤ_}
 use lib.ListN.{length, length-append}
-use Rattle.script.specs.Syntax.{Point, Node, n-null, n-var, n-select, n-update, n-call, n-bind, n-new, n-cast, n-fork, n-lock, Method}
+use Rattle.words.specs.Integer.{rangeTest}
+use Rattle.words.proofs.Integers.{range-exactly}
+use Rattle.script.specs.Syntax.{Point, Node, n-null, n-var, n-select, n-update, n-call, n-bind, n-new, n-cast, n-fork, n-lock, n-constant, n-add, Method}
 use Rattle.typing.specs.declared.Answer.{Answer}
 use Rattle.typing.specs.declared.Answer.the-variants.{Typed, Faulty}
 use Rattle.typing.specs.Members.{fieldsOf, definedIn}
 use Rattle.typing.specs.Typing.{inferred}
 use Rattle.machine.specs.declared.Store.{Store}
 use Rattle.machine.specs.declared.Value.{Value}
-use Rattle.machine.specs.declared.Value.the-variants.{Null as nil, Ref as ref}
+use Rattle.machine.specs.declared.Value.the-variants.{Null as nil, Ref as ref, Int as int}
 use Rattle.machine.specs.declared.Frame.{Frame}
 use Rattle.machine.specs.declared.Frame.the-variants.{Awaits as awaits, Casts as casts, Locks as locks}
 use Rattle.machine.specs.Config.{Code, Object, Binding, Stores, Tree, running, returning, failed, join}
-use Rattle.machine.specs.Machine.{scope, context, find, ValueOf, object, setShut, setFields, fieldValue, lockFrames, Places, frameCount, threadCount, Outcome, still, full, moved, give, onValue, onTarget, descend, make, spawn, enter, shutAndEnter, lockObject, extend, selectField, selectObject, updateObject, callMethod, callObject, runNode, wake, resume, Phase, finished, broken, busy, phase, fold, inLeft, inRight, Path, here, left, right, moveAt, part}
+use Rattle.machine.specs.Machine.{scope, context, find, ValueOf, object, setShut, setFields, fieldValue, lockFrames, Places, frameCount, threadCount, Outcome, still, full, moved, give, onValue, onTarget, descend, make, spawn, enter, shutAndEnter, lockObject, extend, selectField, selectObject, updateObject, callMethod, callObject, giveSum, addValues, addBound, runNode, wake, resume, Phase, finished, broken, busy, phase, fold, inLeft, inRight, Path, here, left, right, moveAt, part}
 use Rattle.machine.specs.Silent.{descends, ChangedAt, changed-here, changed-left, changed-right}
-use Rattle.machine.specs.OnNull.{Fails, null-read, null-lock, null-write, null-call, left-failed, right-failed}
+use Rattle.machine.specs.OnNull.{Fails, null-read, null-lock, null-write, null-call, sum-outside, left-failed, right-failed}
 use Rattle.machine.specs.FullStore.{Short, no-object, no-binding, no-two, no-frame, no-lock, no-thread}
 use Rattle.soundness.proofs.Trees.{is-broken}
 
@@ -74,6 +77,7 @@ module _ (s : Code) (room : Places) (st : Stores) where
     on-value : (b : Binding) → find (scope (st .bindings) e) x ≡ some b → (v : Value) → b .value ≡ v → Why s room st t (onValue st go v)
     on-value b h nil i = fails _ (null (record { binding = b; there = h; value = i }))
     on-value b h (ref o) i = there o (record { binding = b; there = h; value = i }) (object (st .objects) o) refl
+    on-value b h (int z) i = tt
 
     on-target : (q : Option Binding) → find (scope (st .bindings) e) x ≡ q → Why s room st t (onTarget st go q)
     on-target none h = tt
@@ -122,6 +126,28 @@ module _ (s : Code) (room : Places) (st : Stores) where
     select-why f none = tt
     select-why f (some y) = field-why (fieldValue (fieldsOf (s .program) (y .class)) (y .fields) f)
 
+    -- a sum
+    module _ (x y : ℕ) (i : s .view p ≡ n-add x y) where
+      sum-why : {j k : ℤ} → ValueOf st e x (int j) → ValueOf st e y (int k) → (q : Bool) → rangeTest (j +ℤ k) ≡ q
+          → Why s room st (running p e fs) (giveSum st fs (j +ℤ k) q)
+      sum-why v w true h = stays _ _ u-returning (omega arith) (omega arith)
+      sum-why {j} {k} v w false h =
+          fails _ (sum-outside i v w (λ r. let t : rangeTest (j +ℤ k) ≡ true = range-exactly (j +ℤ k) .1 r in let z : _≡_ {A = ℕ} 0 1 = cc in omega arith))
+
+      values-why : (v w : Value) → ValueOf st e x v → ValueOf st e y w → Why s room st (running p e fs) (addValues st fs v w)
+      values-why nil w g h = tt
+      values-why (ref o) w g h = tt
+      values-why (int j) nil g h = tt
+      values-why (int j) (ref o) g h = tt
+      values-why (int j) (int k) g h = sum-why g h (rangeTest (j +ℤ k)) refl
+
+      add-why : (q r : Option Binding) → find (scope (st .bindings) e) x ≡ q → find (scope (st .bindings) e) y ≡ r
+          → Why s room st (running p e fs) (addBound st fs q r)
+      add-why none r g h = tt
+      add-why (some b) none g h = tt
+      add-why (some b) (some c) g h =
+          values-why (b .value) (c .value) (record { binding = b; there = g; value = refl }) (record { binding = c; there = h; value = refl })
+
     run-why : (n : Node) → s .view p ≡ n → Why s room st (running p e fs) (runNode s room st above fs e p n)
     run-why n-null i = stays _ _ u-returning (omega arith) (omega arith)
     run-why (n-var x) i = give-why (find (scope (st .bindings) e) x)
@@ -133,6 +159,8 @@ module _ (s : Code) (room : Places) (st : Stores) where
     run-why (n-cast t a) i = descend-why (ap descends i) (casts p) a (room .frames) refl
     run-why (n-fork a b c) i = spawn-why a b c (room .threads) i refl
     run-why (n-lock x a) i = on-target e x (lockObject st above fs a e (room .frames)) (null-lock i) (object-why x a i) (find (scope (st .bindings) e) x) refl
+    run-why (n-constant z) i = stays _ _ u-returning (omega arith) (omega arith)
+    run-why (n-add x y) i = add-why x y i (find (scope (st .bindings) e) x) (find (scope (st .bindings) e) y) refl refl
 
     -- a value at a waiting node
     module _ (v : Value) where
@@ -167,6 +195,8 @@ module _ (s : Code) (room : Places) (st : Stores) where
       wake-why (n-cast t a) i = tt
       wake-why (n-fork a b c) i = tt
       wake-why (n-lock x a) i = tt
+      wake-why (n-constant z) i = tt
+      wake-why (n-add x y) i = tt
 
   resume-why : (v : Value) (fs : List Frame) → Why s room st (returning v fs) (resume s room st v fs)
   resume-why v [] = tt

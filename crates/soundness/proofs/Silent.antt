@@ -7,9 +7,10 @@ use mathlib.Core.List.{List, [], _∷_}
 use mathlib.Core.Option.{Option, none, some}
 use Rattle.limits.specs.Limits.{SILENT}
 use Rattle.script.specs.Lists.{_∈_}
-use Rattle.script.specs.Syntax.{Point, Node, n-null, n-var, n-select, n-update, n-call, n-bind, n-new, n-cast, n-fork, n-lock, build, parts}
+use Rattle.script.specs.Syntax.{Point, Node, n-null, n-var, n-select, n-update, n-call, n-bind, n-new, n-cast, n-fork, n-lock, n-constant, n-add, build, parts}
 use Rattle.script.proofs.Reading.{first}
-use Rattle.machine.specs.declared.Value.the-variants.{Null as nil}
+use Rattle.machine.specs.declared.Value.{Value}
+use Rattle.machine.specs.declared.Value.the-variants.{Null as nil, Int as int}
 use Rattle.machine.specs.declared.Frame.{Frame}
 use Rattle.machine.specs.declared.Frame.the-variants.{Awaits as awaits, Casts as casts}
 use Rattle.machine.specs.Config.{Code, Stores, Tree, running, returning, failed, join, Config}
@@ -19,7 +20,7 @@ use Rattle.machine.specs.WellFormed.{TreeOk, running-ok, WfConfig}
 use Rattle.machine.specs.Accepted.{AcceptedCode}
 use Rattle.soundness.proofs.Places.{part-ok}
 use Rattle.soundness.proofs.Outcomes.{Made, made-move, made}
-use Rattle.machine.specs.Silent.{quiet, quietIn, SilentMove, null-value, into-write, into-call, into-let, into-cast, ChangedAt, changed-here, changed-left, changed-right, SilentAt, chain, due, Row, row-none, and-then, meanwhile, samePlace}
+use Rattle.machine.specs.Silent.{quiet, quietIn, SilentMove, null-value, constant-value, into-write, into-call, into-let, into-cast, ChangedAt, changed-here, changed-left, changed-right, SilentAt, chain, due, Row, row-none, and-then, meanwhile, samePlace}
 
 -- a thread at a place is at a node
 abbrev pub OnNode : Code → Option Tree → Type 0
@@ -49,6 +50,8 @@ module _ (s : Code) (room : Places) (st : Stores) where
   silent-now above fs e a (n-cast t b) i q m = rw (descended st fs e (casts a) b (room .frames) m) (into-cast i)
   silent-now above fs e a (n-fork b c d) i q m = absurd (let z : _≡_ {A = ℕ} 0 1 = cc in omega arith)
   silent-now above fs e a (n-lock x b) i q m = absurd (let z : _≡_ {A = ℕ} 0 1 = cc in omega arith)
+  silent-now above fs e a (n-constant k) {u = u} i q m = let z : u ≡ returning (int k) fs = cc in rw z (constant-value i)
+  silent-now above fs e a (n-add x y) i q m = absurd (let z : _≡_ {A = ℕ} 0 1 = cc in omega arith)
 
   silent-root : (above : List Frame) (t : Tree) {su : Stores} {u : Tree} → quietIn s (some t) ≡ true → moveAt s room st above t here ≡ moved su u → SilentMove s t u
   silent-root above (running a e fs) q m = silent-now above fs e a (s .view a) refl q m
@@ -75,8 +78,13 @@ module _ {s : Code} {start : ℕ} (acc : AcceptedCode s start) where
       let y = h a e fs refl in
       (λ q k hs z. let j : q ≡ b = cc in rw j (acc .in-order a y b (rw i m) .there), rw (acc .built a y, i) (sym c))
 
+  into-value : {a : Point} {e : ℕ} {v : Value} {fs : List Frame} (n : Node) → OnNode s (some (running a e fs)) → s .view a ≡ n → chain (build a (s .expr) n) ≡ 1
+      → OnNode s (some (returning v fs)) × (1 ≡ chain (s .expr a))
+  into-value {a} {e} {fs = fs} n h i c = (λ b d gs k. absurd (let z : _≡_ {A = ℕ} 0 1 = cc in omega arith), rw (acc .built a (h a e fs refl), i) (sym c))
+
   silent-counts : {t u : Tree} → SilentMove s t u → OnNode s (some t) → OnNode s (some u) × (suc (due s (some u)) ≡ due s (some t))
-  silent-counts (null-value {a = a} {e = e} {fs = fs} i) h = (λ b d gs k. absurd (let z : _≡_ {A = ℕ} 0 1 = cc in omega arith), rw (acc .built a (h a e fs refl), i) refl)
+  silent-counts (null-value i) h = into-value _ h i refl
+  silent-counts (constant-value i) h = into-value _ h i refl
   silent-counts (into-write i) h = into _ h i first refl
   silent-counts (into-call i) h = into _ h i first refl
   silent-counts (into-let i) h = into _ h i first refl
@@ -94,6 +102,7 @@ module _ {s : Code} {start : ℕ} (acc : AcceptedCode s start) where
 -- while every other place stays as it was.
 leaf-below : {s : Code} {t u : Tree} → SilentMove s t u → (q : Path) → (part u (left q) ≡ part t (left q)) × (part u (right q) ≡ part t (right q))
 leaf-below (null-value i) q = (refl, refl)
+leaf-below (constant-value i) q = (refl, refl)
 leaf-below (into-write i) q = (refl, refl)
 leaf-below (into-call i) q = (refl, refl)
 leaf-below (into-let i) q = (refl, refl)
@@ -132,6 +141,8 @@ module _ {s : Code} {start : ℕ} (acc : AcceptedCode s start) where
   chain-node n (n-cast t b) r h = let k = r b first in (omega (arith, k .0, k .1), omega arith)
   chain-node n (n-fork b c d) r h = (omega arith, refl)
   chain-node n (n-lock x b) r h = (omega arith, refl)
+  chain-node n (n-constant z) r h = (omega arith, omega arith)
+  chain-node n (n-add x y) r h = (omega arith, refl)
 
   chain-bound : (k : ℕ) (n : Point) → s .size ≤ n + k → n < s .size → (n + chain (s .expr n) ≤ s .size) × Counted (quiet (s .view n)) (chain (s .expr n))
   chain-bound zero n l h = absurd (omega arith)

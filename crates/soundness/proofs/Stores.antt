@@ -9,14 +9,14 @@ use lib.Dec.{eqb, eqb·zero-suc, eqb·suc-zero, eqb·suc-suc}
 use lib.ListN.{length}
 use borrow.Author.Tests.{eq-eqb, ne-eqb}
 use Rattle.script.specs.Lists.{named}
-use Rattle.script.specs.Syntax.{Slot, Program}
+use Rattle.script.specs.Syntax.{Slot}
 use Rattle.typing.specs.Members.{typeIn}
 use Rattle.machine.specs.declared.Value.{Value}
 use Rattle.machine.specs.Config.{Code, Object, Binding}
 use Rattle.machine.specs.Machine.{scope, slot, context, find, object, setShut, setFields, fieldValue, setField, initials, oneIf}
 use Rattle.machine.specs.declared.Want.the-variants.{Upto as upto}
-use Rattle.machine.specs.WellFormed.{ValueFits, fits-nil, BindingsOk, no-bindings, a-binding, FieldsOk, no-fields, a-field, shutAt}
-use Rattle.machine.proofs.Types.{null-meets}
+use Rattle.machine.specs.WellFormed.{ValueFits, BindingsOk, no-bindings, a-binding, FieldsOk, no-fields, a-field, shutAt}
+use Rattle.soundness.proofs.Values.{initial-fits}
 
 -- either branch of a test
 cond-both {ℓ κ} : {A : Type ℓ} (P : A → Type κ) (t : Bool) {x y : A} → P x → P y → P (cond t x y)
@@ -196,6 +196,6 @@ module _ {s : Code} {xs : List Object} where
   fields-long no-fields = refl
   fields-long (a-field h k) = ap suc (fields-long k)
 
-  pub initials-ok : (p : Program) (ds : List Slot) → FieldsOk s xs ds (initials p ds)
-  initials-ok p [] = no-fields
-  initials-ok p (d ∷ ds) = a-field (fits-nil (null-meets (upto (d .type)))) (initials-ok p ds)
+  pub initials-ok : (ds : List Slot) → FieldsOk s xs ds (initials (s .program) ds)
+  initials-ok [] = no-fields
+  initials-ok (d ∷ ds) = a-field (initial-fits s xs (d .type)) (initials-ok ds)

@@ -4,7 +4,7 @@ use mathlib.Core.List.{List, [], _∷_, _++_, map, map-append, flatMap, reverse}
 use mathlib.Core.Option.{some, Option·none-ne-some}
 use Prim.Native.Nat.{ℕ, _+_, _*_, _<_, _≤_}
 use native.Mathlib.Omega.{arith}
-use lib.ListN.{length, getD, take, drop, length-append, length-map, length-reverse, take-append-drop}
+use lib.ListN.{length, take, drop, length-append, length-map, length-reverse, take-append-drop}
 use lib.Seq.{length-take-le}
 use Rattle.words.specs.Word.{bytes}
 use Rattle.machine.specs.declared.Frame.{Frame}
@@ -19,14 +19,13 @@ use Rattle.representation.specs.Changed.{frameStart}
 use Rattle.block.specs.Fits.{Few}
 use Rattle.representation.specs.Preorder.{splice, replaced}
 use Rattle.block.proofs.Words.{count-is}
-use Rattle.representation.proofs.Preorder.{preorder-length, named-below, records-replaced, frames-replaced}
+use Rattle.representation.proofs.Preorder.{alone, preorder-length, named-below, records-replaced, frames-replaced}
 use Rattle.tree.specs.declared.Entry.{Entry}
 use Rattle.tree.specs.Entries.{entryOf, entries, frameSum}
 use Rattle.tree.proofs.Trees.{entries-length, size-threads, sum-append, sum-start}
 use Rattle.tree.proofs.EntryWords.{entryWords, words-entry}
 use Rattle.state.specs.Represents.{partsIn, Represents, Rest, StateAt}
-use Rattle.state.specs.Positions.{entryFrom}
-use Rattle.state.proofs.Taking.{entry-back}
+use Rattle.state.proofs.Storing.{storable-frames, storable-positions, storable-entries}
 use Rattle.state.proofs.Seeing.{map-take, map-drop}
 
 -- a part put in its own place
@@ -41,25 +40,28 @@ replaced-same failed (right p) u h = absurd (Option·none-ne-some _ h)
 replaced-same (join fs a e l r) (left p) u h = rw (replaced-same l p u h)
 replaced-same (join fs a e l r) (right p) u h = rw (replaced-same r p u h)
 
--- the entries of some records, by their words
-abbrev said : List ℕ → Entry
-said r = entryFrom (λ j. getD r j 0)
+-- the entry of a position says nothing of the trees beneath it
+entry-alone : (t : machine.Tree) → entryOf (alone t) ≡ entryOf t
+entry-alone (running a e fs) = refl
+entry-alone (returning v fs) = refl
+entry-alone failed = refl
+entry-alone (join fs a e l r) = refl
 
-said-entries : (ts : List machine.Tree) → map said (map positionWords ts) ≡ map entryOf ts
-said-entries [] = refl
-said-entries (t ∷ ts) = rw (entry-back t, said-entries ts)
+alone-entries : (ts : List machine.Tree) → map entryOf (map alone ts) ≡ map entryOf ts
+alone-entries [] = refl
+alone-entries (t ∷ ts) = rw (entry-alone t, alone-entries ts)
 
 module _ (t : machine.Tree) (n : ℕ) (p : Path) (u : machine.Tree) (h : locate t n ≡ some p) (k : part t p ≡ some u) where
   -- A part replaced: its entries are exchanged for those of the new part, and all others stay.
   pub entries-replaced : (w : machine.Tree) → entries (replaced t p w) ≡ splice (entries t) n (size u) (entries w)
   entries-replaced w =
-      let rs : List (List ℕ) = map positionWords (preorder t) in
-      let new : List (List ℕ) = map positionWords (preorder w) in
-      let e = said-entries (preorder t) in
-      sym (said-entries (preorder (replaced t p w)))
-      ∙ ap (map said) (records-replaced t n p u h k w)
-      ∙ map-append said (take n rs) (new ++ drop (n + size u) rs)
-      ∙ rw (map-append said new (drop (n + size u) rs), map-take said n rs, map-drop said (n + size u) rs, e, said-entries (preorder w))
+      let rs : List machine.Tree = map alone (preorder t) in
+      let new : List machine.Tree = map alone (preorder w) in
+      let e = alone-entries (preorder t) in
+      sym (alone-entries (preorder (replaced t p w)))
+      ∙ ap (map entryOf) (records-replaced t n p u h k w)
+      ∙ map-append entryOf (take n rs) (new ++ drop (n + size u) rs)
+      ∙ rw (map-append entryOf new (drop (n + size u) rs), map-take entryOf n rs, map-drop entryOf (n + size u) rs, e, alone-entries (preorder w))
 
 -- the frames of a tree are as many as its entries say, and the part at a position begins within them
 listed : (ss : List machine.Tree) → length (flatMap (λ s. reverse (waiting s)) ss) ≡ frameSum (map entryOf ss)
@@ -137,6 +139,7 @@ module _ (c : Config) (n : ℕ) (p : Path) (u : machine.Tree) (at : locate (c .t
         start = starts (c .tree) n l;
         block = h .block ∙ ap (λ (fs : List Frame). bytes (laid (partsIn (c .stores) (preorder (c .tree)) fs))) parts;
         few = subst (λ (fs : List Frame). Few (partsIn (c .stores) (preorder (c .tree)) fs)) parts (h .few);
+        storable = storable-frames (partsOf c) (h .storable) (around c n u .outer ++ (framesOf u ++ around c n u .later));
       }
 
   -- With another part there, it is the configuration with that part.
@@ -150,6 +153,10 @@ module _ (c : Config) (n : ℕ) (p : Path) (u : machine.Tree) (at : locate (c .t
             ∙ ap (λ (fs : List Frame). bytes (laid (partsIn st (s .positions) fs))) (sym (frames-there w))
             ∙ ap bytes (laid-entries st (s .positions) (preorder t) (framesOf t) same);
         few = few-entries st (s .positions) (preorder t) (framesOf t) same (subst (λ (fs : List Frame). Few (partsIn st (s .positions) fs)) (sym (frames-there w)) (s .few));
+        storable =
+            let p = partsIn st (s .positions) (framesOf t) in
+            storable-positions p (storable-frames _ (s .storable) (framesOf t)) (preorder t)
+            (storable-entries (s .positions) (preorder t) same (s .storable Positions));
       }
 
 -- There are as many positions as the tree's size, one fewer than two for each thread.

@@ -1,5 +1,6 @@
 pub mod Seeing
 pub mod Moves
+pub mod Storing
 pub mod Taking
 pub mod Putting
 pub mod Glue

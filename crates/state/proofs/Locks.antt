@@ -124,7 +124,7 @@ pub held : (b : List ℕ) (i o first from to : ℕ) (r : Bool)
 held b i o first from to r run f g within c p u h at there =
     let t = c .tree in
     let few : counted b Positions ≤ POSITIONS = rw (h .block) (rw (count-is (partsOf c) Positions) (h .few Positions)) in
-    let same : entriesIn b ≡ entries t = entries-said b (partsOf c) (h .block) few in
+    let same : entriesIn b ≡ entries t = entries-said b (partsOf c) (h .block) few (h .storable Positions) in
     let l : i < size t = named-below t i .0 (p, at) in
     let e : i + 1 ≡ suc i = omega arith in
     let k : first ≡ joinsFrom (preorder t) i = found (preorder t) i first (rw same at run) in

@@ -1,12 +1,14 @@
 -- What each change of the block comes to, seen from its position: the callees' contracts are premises, and the code's locals variables.
-use mathlib.Core.Path.{_≡_, refl, sym, ap, _∙_}
-use mathlib.Core.List.{List, [], _∷_, _++_, append-assoc, append-nil, map, map-append, reverse, reverse-cons}
+use mathlib.Core.Path.{_≡_, refl, sym, ap, subst, _∙_}
+use mathlib.Core.Logic.{⊎-elim}
+use mathlib.Core.List.{List, [], _∷_, _++_, append-assoc, append-nil, map, map-append, reverse, reverse-cons, List·Memᴰ·append-cases, List·Memᴰ·eq-of-singleton}
 use Prim.Native.Nat.{ℕ, suc, _+_, _-_, _<_, _≤_}
 use native.Mathlib.Omega.{arith}
 use lib.ListN.{length, getD, set, take, drop, length-append, length-map, length-set, length-reverse}
 use lib.Seq.{take-at, drop-at, getD-at, append-snoc}
 use Rattle.words.specs.Word.{bytes}
 use Rattle.limits.specs.Limits.{OBJECTS, BINDINGS, POSITIONS, FRAMES}
+use Rattle.script.specs.Lists.{_∈_, Every}
 use Rattle.machine.specs.declared.Value.{Value}
 use Rattle.machine.specs.declared.Frame.{Frame}
 use Rattle.machine.specs.declared.Frame.the-variants.{Awaits as awaits}
@@ -15,9 +17,10 @@ use Rattle.machine.specs.Config.{Object, Binding, Stores, running, returning, f
 use Rattle.machine.specs.Machine.{size, frameCount}
 use Rattle.block.specs.declared.Area.the-variants.{Objects, Bindings, Positions, Frames}
 use Rattle.block.specs.Layout.{counted}
-use Rattle.block.specs.Block.{objectWords, bindingWords, positionWords, frameWords, preorder, waiting, framesOf, Parts, laid}
+use Rattle.block.specs.Values.{Storable}
+use Rattle.block.specs.Block.{objectWords, bindingWords, positionWords, frameWords, preorder, waiting, returned, framesOf, Parts, laid}
 use Rattle.representation.specs.Changed.{withObjects, withBindings, withFrames}
-use Rattle.block.specs.Fits.{Few}
+use Rattle.block.specs.Fits.{Few, StorableIn}
 use Rattle.block.proofs.Trees.{frames-join}
 use Rattle.block.proofs.Words.{count-is}
 use Rattle.areas.proofs.Laws.{Reads}
@@ -25,13 +28,15 @@ use Rattle.tree.specs.declared.Cell.{Cell}
 use Rattle.tree.specs.declared.Cell.the-variants.{Running}
 use Rattle.tree.specs.declared.Entry.{Entry}
 use Rattle.tree.specs.declared.Tree.{Tree}
-use Rattle.tree.specs.Entries.{cellOf, entryOf, entries, frameSum, used, Bounded}
+use Rattle.tree.specs.Entries.{cellOf, entryOf, entries, frameSum, used, Bounded, resultOf}
 use Rattle.tree.specs.Parts.{PartAt, Forked, Failing, Joined, FramesWithin}
 use Rattle.tree.proofs.Trees.{size-some, entries-thread}
+use Rattle.tree.proofs.Worded.{every-in}
 use Rattle.tree.proofs.Parts.{used-length, part-before, part-after, part-inside, part-set}
 use Rattle.state.specs.Represents.{Rest, StateAt}
 use Rattle.state.specs.Positions.{entryAt, entriesIn, withPositions}
 use Rattle.state.proofs.Putting.{map-set}
+use Rattle.state.proofs.Storing.{storable-frames, storable-positions, storable-objects, storable-bindings, set-in, exchanged-in, returned-entry}
 use Rattle.state.proofs.Seeing.{around, lying, beneath, frames-first, frames-thread, frames-many, seen-few, bindings-counted, frames-counted, seen-part, seen-waiting, frames-begin, map-take, map-drop}
 
 -- what insert_frame and remove_frames ensure, of the bytes b before and c after
@@ -96,12 +101,22 @@ module _ {b : List ℕ} {i : ℕ} {x : Rest} {st : Stores} {u : machine.Tree} (s
   abbrev pub lies : Parts
   lies = lying x st (s .positions) (framesOf u)
 
-  pub seen-objects : {c : List ℕ} (os : List Object) → length os ≤ OBJECTS → c ≡ bytes (laid (withObjects lies os)) → StateAt c i x (record { objects = os; bindings = st .bindings }) u
-  seen-objects os l e = record { positions = s .positions; there = s .there; start = s .start; block = e; few = few-objects lies os (s .few) l }
+  pub seen-objects : {c : List ℕ} (os : List Object) → length os ≤ OBJECTS → StorableIn (withObjects lies os) Objects → c ≡ bytes (laid (withObjects lies os))
+      → StateAt c i x (record { objects = os; bindings = st .bindings }) u
+  seen-objects os l k e =
+      record {
+        positions = s .positions;
+        there = s .there;
+        start = s .start;
+        block = e;
+        few = few-objects lies os (s .few) l;
+        storable = storable-objects lies (s .storable) os k;
+      }
 
-  pub seen-bindings : {c : List ℕ} (d : Binding) → counted b Bindings < BINDINGS → c ≡ bytes (laid (withBindings lies (reverse (st .bindings) ++ d ∷ [])))
+  pub seen-bindings : {c : List ℕ} (d : Binding) → counted b Bindings < BINDINGS → Storable (d .value)
+      → c ≡ bytes (laid (withBindings lies (reverse (st .bindings) ++ d ∷ [])))
       → StateAt c i x (record { objects = st .objects; bindings = d ∷ st .bindings }) u
-  seen-bindings d room e =
+  seen-bindings d room v e =
       let turned : reverse (st .bindings) ++ d ∷ [] ≡ reverse (d ∷ st .bindings) = sym (reverse-cons d (st .bindings)) in
       let l : length (reverse (d ∷ st .bindings)) ≤ BINDINGS = rw (length-reverse (d ∷ st .bindings)) (omega (arith, bindings-counted s, room)) in
       record {
@@ -110,13 +125,20 @@ module _ {b : List ℕ} {i : ℕ} {x : Rest} {st : Stores} {u : machine.Tree} (s
         start = s .start;
         block = e ∙ ap (λ (bs : List Binding). bytes (laid (withBindings lies bs))) turned;
         few = few-bindings lies (reverse (d ∷ st .bindings)) (s .few) l;
+        storable =
+            storable-bindings lies (s .storable) (reverse (d ∷ st .bindings))
+            (subst (λ (bs : List Binding). (y : Binding) → y ∈ bs → Storable (y .value)) turned more);
       }
+    where
+      more : (y : Binding) → y ∈ reverse (st .bindings) ++ d ∷ [] → Storable (y .value)
+      more y m = ⊎-elim (s .storable Bindings y) (λ (k : y ∈ d ∷ []). rw (List·Memᴰ·eq-of-singleton k) v) (List·Memᴰ·append-cases (reverse (st .bindings)) m)
 
 -- The part: another, with other positions and frames.
 module _ {b : List ℕ} {i : ℕ} {x : Rest} {st : Stores} {u : machine.Tree} (s : StateAt b i x st u) (w : machine.Tree) (ts : List machine.Tree) where
-  changed : {c : List ℕ} → PartAt (map entryOf ts) i (x .before) w (x .after) → length ts ≤ POSITIONS → (fs : List Frame) → fs ≡ around x (framesOf w)
+  changed : {c : List ℕ} → PartAt (map entryOf ts) i (x .before) w (x .after) → length ts ≤ POSITIONS
+      → ((t : machine.Tree) → t ∈ ts → Storable (returned t)) → (fs : List Frame) → fs ≡ around x (framesOf w)
       → frameCount w + length (x .outer) + length (x .later) ≤ FRAMES → c ≡ bytes (laid (withPositions (withFrames (lies s) fs) ts)) → StateAt c i x st w
-  changed p room fs e l is =
+  changed p room k fs e l is =
       let long : length (around x (framesOf w)) ≤ FRAMES = omega (arith, length-append (x .outer) (framesOf w ++ x .later), length-append (framesOf w) (x .later), frames-many w) in
       record {
         positions = ts;
@@ -124,10 +146,15 @@ module _ {b : List ℕ} {i : ℕ} {x : Rest} {st : Stores} {u : machine.Tree} (s
         start = s .start;
         block = is ∙ ap (λ (gs : List Frame). bytes (laid (withPositions (withFrames (lies s) gs) ts))) e;
         few = few-positions (withFrames (lies s) (around x (framesOf w))) ts (few-frames (lies s) (around x (framesOf w)) (s .few) long) room;
+        storable = storable-positions (withFrames (lies s) (around x (framesOf w))) (storable-frames (lies s) (s .storable) (around x (framesOf w))) ts k;
       }
 
 entry-of : (w : machine.Tree) (cell : Cell) (n : ℕ) → cellOf w ≡ cell → length (waiting w) ≡ n → record { cell = cell; frames = n } ≡ entryOf w
 entry-of w cell n e f = rw (← e, ← f)
+
+-- the value of a thread, by its cell
+cell-storable : (w : machine.Tree) (cell : Cell) → cellOf w ≡ cell → Storable (resultOf cell) → Storable (returned w)
+cell-storable w cell e v = rw (returned-entry w, e) v
 
 -- what put_entry and put_tree ensure, of the bytes b before and c after
 abbrev pub Puts : List ℕ → List ℕ → ℕ → Entry → Type 0
@@ -150,6 +177,9 @@ module _ {b : List ℕ} {i : ℕ} {x : Rest} {st : Stores} {u : machine.Tree} (s
 
   position-inside : i < length (s .positions)
   position-inside = omega (arith, part-inside (s .there), size-some u, length-map (s .positions) entryOf)
+
+  put-storable : Storable (returned w) → (t : machine.Tree) → t ∈ one-put → Storable (returned t)
+  put-storable v t m = ⊎-elim (λ (e : t ≡ w). rw e v) (s .storable Positions t) (set-in (s .positions) i w t m)
 
   put-few : length one-put ≤ POSITIONS
   put-few = rw (length-set (s .positions) i w, ← length-map (s .positions) positionWords) (s .few Positions)
@@ -177,6 +207,11 @@ module _ {b : List ℕ} {i : ℕ} {x : Rest} {st : Stores} {u : machine.Tree} (s
   put-there : PartAt (map entryOf part-put) i (x .before) w (x .after)
   put-there = record { is = put-same; place = now .place }
 
+  part-storable : Every (λ (t : machine.Tree). Storable (returned t)) (preorder w) → (t : machine.Tree) → t ∈ part-put → Storable (returned t)
+  part-storable v t m =
+      ⊎-elim (every-in (λ (u : machine.Tree). Storable (returned u)) (preorder w) v t)
+      (s .storable Positions t) (exchanged-in (s .positions) i (i + size u) (preorder w) t m)
+
   put-room : length part-put ≤ POSITIONS
   put-room = omega (arith, ap length put-used, length-map part-put entryOf, used-length r bounded, bounded .small)
 
@@ -187,17 +222,18 @@ module _ {b : List ℕ} {i : ℕ} {x : Rest} {st : Stores} {u : machine.Tree} (s
 
 module _ {b c : List ℕ} {i : ℕ} {x : Rest} {st : Stores} where
   -- set_cell
-  pub settled : {u w : machine.Tree} (cell : Cell) (n : ℕ) → n ≡ entryAt b i .frames → Puts b c i (record { cell = cell; frames = n }) → size u ≡ 1 → size w ≡ 1 → cellOf w ≡ cell
+  pub settled : {u w : machine.Tree} (cell : Cell) (n : ℕ) → n ≡ entryAt b i .frames → Puts b c i (record { cell = cell; frames = n }) → Storable (resultOf cell) → size u ≡ 1 → size w ≡ 1 → cellOf w ≡ cell
       → waiting w ≡ waiting u → StateAt b i x st u → StateAt c i x st w
-  settled {u} {w} cell n m put one too e f s =
+  settled {u} {w} cell n m put v one too e f s =
       let same : framesOf u ≡ framesOf w = frames-thread u one ∙ ap reverse (sym f) ∙ sym (frames-thread w too) in
       let entry : record { cell = cell; frames = n } ≡ entryOf w = entry-of w cell n e (ap length f ∙ sym (m ∙ seen-waiting s)) in
-      changed s w (one-put s one w too) (put-part s one w too) (put-few s one w too) (around x (framesOf u)) (ap (around x) same) (same-room s w same)
+      changed s w (one-put s one w too) (put-part s one w too) (put-few s one w too) (put-storable s one w too (cell-storable w cell e v)) (around x (framesOf u)) (ap (around x) same) (same-room s w same)
       (put (lies s) w (s .block) (position-inside s one w too) entry)
 
   -- fork
   pub forks : {a₀ e₀ : ℕ} {fs : List Frame} (self r : Tree) (a d k e : ℕ) → used self ≡ entriesIn b → Forked self i a d k e r → Writes b c r → StateAt b i x st (running a₀ e₀ fs)
       → StateAt c i x st (join fs k e (running a e []) (running d e []))
+  unfolding preorder
   forks {a₀} {e₀} {fs} self r a d k e is p put s =
       let t = join fs k e (running a e []) (running d e []) in
       let same : framesOf (running a₀ e₀ fs) ≡ framesOf t =
@@ -206,18 +242,19 @@ module _ {b c : List ℕ} {i : ℕ} {x : Rest} {st : Stores} where
       in
       let was : PartAt (used self) i (x .before) (running a₀ e₀ fs) (x .after) = rw is (seen-part s) in
       let now : PartAt (used r) i (x .before) t (x .after) = p .now refl was in
-      changed s t (part-put s t r (p .bounded) now) (put-there s t r (p .bounded) now) (put-room s t r (p .bounded) now) (around x (framesOf (running a₀ e₀ fs))) (ap (around x) same) (same-room s t same)
+      changed s t (part-put s t r (p .bounded) now) (put-there s t r (p .bounded) now) (put-room s t r (p .bounded) now) (part-storable s t r (p .bounded) now _) (around x (framesOf (running a₀ e₀ fs))) (ap (around x) same) (same-room s t same)
       (put (lies s) (part-put s t r (p .bounded) now) (s .block) (put-used s t r (p .bounded) now))
 
   -- rejoin
   pub rejoins : {fs : List Frame} {a e : ℕ} {left right : machine.Tree} (self r : Tree) → used self ≡ entriesIn b → Joined self i r → Writes b c r → framesOf left ≡ [] → framesOf right ≡ []
       → StateAt b i x st (join fs a e left right) → StateAt c i x st (running a e fs)
+  unfolding preorder
   rejoins {fs} {a} {e} {left} {right} self r is p put l k s =
       let t = running a e fs in
       let same : framesOf (join fs a e left right) ≡ framesOf t = frames-join fs a e left right ∙ rw (l, k) (append-nil (reverse fs)) ∙ sym (frames-thread t refl) in
       let was : PartAt (used self) i (x .before) (join fs a e left right) (x .after) = rw is (seen-part s) in
       let now : PartAt (used r) i (x .before) t (x .after) = p .now was in
-      changed s t (part-put s t r (p .bounded) now) (put-there s t r (p .bounded) now) (put-room s t r (p .bounded) now) (around x (framesOf (join fs a e left right))) (ap (around x) same) (same-room s t same)
+      changed s t (part-put s t r (p .bounded) now) (put-there s t r (p .bounded) now) (put-room s t r (p .bounded) now) (part-storable s t r (p .bounded) now _) (around x (framesOf (join fs a e left right))) (ap (around x) same) (same-room s t same)
       (put (lies s) (part-put s t r (p .bounded) now) (s .block) (put-used s t r (p .bounded) now))
 
 module _ {b c d : List ℕ} {i : ℕ} {x : Rest} {st : Stores} where
@@ -232,21 +269,21 @@ module _ {b c d : List ℕ} {i : ℕ} {x : Rest} {st : Stores} where
       let now : take at (around x (framesOf u)) ++ f ∷ drop at (around x (framesOf u)) ≡ around x (framesOf w) =
       rw (frames-thread u refl, frames-thread w refl, reverse-cons f fs) (put-in (x .outer) (reverse fs) (x .later) at here f)
       in
-      changed s w (one-put s refl w refl) (put-part s refl w refl) (put-few s refl w refl) _ now (omega (arith, frames-counted s, room))
+      changed s w (one-put s refl w refl) (put-part s refl w refl) (put-few s refl w refl) (put-storable s refl w refl _) _ now (omega (arith, frames-counted s, room))
       (put (withFrames (lies s) (take at (around x (framesOf u)) ++ f ∷ drop at (around x (framesOf u)))) w (ins (lies s) (s .block)) (position-inside s refl w refl) entry)
 
   -- pop
   pub popped : {w : machine.Tree} {v : Value} {f : Frame} {fs : List Frame} (at n : ℕ) (cell : Cell) → n + 1 ≡ entryAt b i .frames → at ≡ frameSum (take i (entriesIn b)) + n → Removes b c at 1
-      → Puts c d i (record { cell = cell; frames = n }) → size w ≡ 1 → cellOf w ≡ cell → waiting w ≡ fs
+      → Puts c d i (record { cell = cell; frames = n }) → Storable (resultOf cell) → size w ≡ 1 → cellOf w ≡ cell → waiting w ≡ fs
       → StateAt b i x st (returning v (f ∷ fs)) → StateAt d i x st w
-  popped {w} {v} {f} {fs} at n cell m h rem put one e k s =
+  popped {w} {v} {f} {fs} at n cell m h rem put value one e k s =
       let u = returning v (f ∷ fs) in
       let entry : record { cell = cell; frames = n } ≡ entryOf w = entry-of w cell n e (ap length k ∙ omega (arith, m, seen-waiting s)) in
       let here : at ≡ length (x .outer) + length (reverse fs) = omega (arith, h, m, seen-waiting s, frames-begin s, length-reverse fs) in
       let now : take at (around x (framesOf u)) ++ drop (at + 1) (around x (framesOf u)) ≡ around x (framesOf w) =
       rw (frames-thread u refl, frames-thread w one, k, reverse-cons f fs) (taken-out (x .outer) (reverse fs) (x .later) at here (f ∷ []) 1 refl)
       in
-      changed s w (one-put s refl w one) (put-part s refl w one) (put-few s refl w one) _ now (omega (arith, frames-counted s, seen-few s Frames, thread-frames w one, ap length k))
+      changed s w (one-put s refl w one) (put-part s refl w one) (put-few s refl w one) (put-storable s refl w one (cell-storable w cell e value)) _ now (omega (arith, frames-counted s, seen-few s Frames, thread-frames w one, ap length k))
       (put (withFrames (lies s) (take at (around x (framesOf u)) ++ drop (at + 1) (around x (framesOf u)))) w (rem (lies s) (s .block)) (position-inside s refl w one) entry)
     where
       thread-frames : (t : machine.Tree) → size t ≡ 1 → frameCount t ≡ length (waiting t)
@@ -255,6 +292,7 @@ module _ {b c d : List ℕ} {i : ℕ} {x : Rest} {st : Stores} where
   -- fail
   pub fails : {u : machine.Tree} (self r : Tree) (at k : ℕ) → at ≡ frameSum (take i (entriesIn b)) → FramesWithin (entriesIn b) i k → used self ≡ entriesIn b → Failing self i r → Removes b c at k → Writes c d r
       → StateAt b i x st u → StateAt d i x st failed
+  unfolding preorder
   fails {u} self r at k h many is p rem put s =
       let none : framesOf failed ≡ [] = frames-thread failed refl in
       let here : at ≡ length (x .outer) + length {A = Frame} [] = omega (arith, h, frames-begin s) in
@@ -264,7 +302,7 @@ module _ {b c d : List ℕ} {i : ℕ} {x : Rest} {st : Stores} where
       in
       let was : PartAt (used self) i (x .before) u (x .after) = rw is (seen-part s) in
       let there : PartAt (used r) i (x .before) failed (x .after) = p .now was in
-      changed s failed (part-put s failed r (p .bounded) there) (put-there s failed r (p .bounded) there) (put-room s failed r (p .bounded) there) _ now (omega (arith, frames-counted s, seen-few s Frames))
+      changed s failed (part-put s failed r (p .bounded) there) (put-there s failed r (p .bounded) there) (put-room s failed r (p .bounded) there) (part-storable s failed r (p .bounded) there _) _ now (omega (arith, frames-counted s, seen-few s Frames))
       (put (withFrames (lies s) (take at (around x (framesOf u)) ++ drop (at + k) (around x (framesOf u)))) (part-put s failed r (p .bounded) there) (rem (lies s) (s .block)) (put-used s failed r (p .bounded) there))
 
 -- other frames leave the positions

@@ -11,42 +11,45 @@ use Rattle.slices.proofs.Laws.{put-bytes}
 use Rattle.limits.specs.Limits.{POSITIONS}
 use Rattle.machine.specs.declared.Value.{Value}
 use Rattle.machine.specs.Config as machine
-use Rattle.machine.specs.Config.{running, returning, failed, join}
+use Rattle.machine.specs.Config.{failed}
 use Rattle.block.specs.declared.Area.the-variants.{Positions}
 use Rattle.block.specs.Rows.{filled}
 use Rattle.block.specs.Layout.{WORDS, width, begins, counted, countWord, countByte, wordByte}
-use Rattle.block.specs.Values.{Storable}
+use Rattle.block.specs.Values.{valueWords}
 use Rattle.block.specs.Block.{positionWords, Parts, rows, area, headerWords, laid}
 use Rattle.representation.specs.Changed.{putWords}
 use Rattle.representation.proofs.Changes.{put-words}
 use Rattle.block.proofs.Rows.{Wide, row-at, filled-nil, set-filled, sets-inside}
-use Rattle.block.proofs.Words.{count-is, rows-wide, length-area, ahead, behind, apart, before-length}
+use Rattle.block.proofs.Values.{value-width, value-listed}
+use Rattle.block.proofs.Words.{position-width, count-is, rows-wide, length-area, ahead, behind, apart, before-length}
 use Rattle.tree.specs.declared.Cell.{Cell}
-use Rattle.tree.specs.declared.Cell.the-variants.{Returning}
+use Rattle.tree.specs.declared.Cell.the-variants.{Failed, Running, Returning, Join}
 use Rattle.tree.specs.declared.Entry.{Entry}
 use Rattle.tree.specs.declared.Tree.{Tree}
-use Rattle.tree.specs.Entries.{entryOf, blank, used, Bounded, resultOf, Worded}
+use Rattle.tree.specs.Entries.{entryOf, blank, used, Bounded}
 use Rattle.tree.proofs.Parts.{used-length}
-use Rattle.tree.proofs.Worded.{every-at}
 use Rattle.tree.proofs.EntryWords.{cellWords, entryWords, words-entry}
 use Rattle.state.specs.Positions.{rowAt, withPositions}
 
--- the words of a position, by its cell
-pub row-said : (x : Entry) (c : Cell) → x .cell ≡ c → (t : machine.Tree) → x ≡ entryOf t → cellWords c (x .frames) ≡ positionWords t
-row-said x c e t h = ap (λ (k : Cell). cellWords k (x .frames)) (sym e) ∙ ap entryWords h ∙ words-entry t
+-- the words of a position, one after the other, and by its cell
+pub row-listed : (k a e : ℕ) (v : Value) (n : ℕ) (w : List ℕ) → w ≡ valueWords v → k ∷ a ∷ e ∷ getD w 0 0 ∷ getD w 1 0 ∷ getD w 2 0 ∷ n ∷ [] ≡ k ∷ a ∷ e ∷ (valueWords v ++ n ∷ [])
+row-listed k a e v n w h = rw h (ap (λ (ws : List ℕ). k ∷ a ∷ e ∷ (ws ++ n ∷ [])) (value-listed v))
 
-pub value-small : (c : Cell) (v : Value) → c ≡ Returning v → Storable (resultOf c) → Storable v
-value-small c v e h = rw e at h
+row-width : (c : Cell) (n : ℕ) → length (cellWords c n) ≡ width Positions
+row-width Failed n = refl
+row-width (Running a e) n = refl
+row-width (Returning v) n = omega (arith, length-append (valueWords v) (n ∷ []), value-width v)
+row-width (Join a e) n = refl
+
+pub row-said : (x : Entry) (c : Cell) (r : List ℕ) → x .cell ≡ c → r ≡ cellWords c (x .frames) → (length r ≡ width Positions) × ((t : machine.Tree) → x ≡ entryOf t → r ≡ positionWords t)
+row-said x c r e is =
+    (ap length is ∙ row-width c (x .frames), λ t h. is ∙ ap (λ (k : Cell). cellWords k (x .frames)) (sym e) ∙ ap entryWords h ∙ words-entry t)
 
 -- element i of a list of which each is put into a row
 row-in : {A B : Type 0} (f : A → B) (xs : List A) (i : ℕ) (y : B) (d : A) → i < length xs → getD (map f xs) i y ≡ f (getD xs i d)
 row-in f [] i y d h = absurd (omega arith)
 row-in f (x ∷ xs) zero y d h = refl
 row-in f (x ∷ xs) (suc i) y d h = row-in f xs i y d (omega arith)
-
-pub small-there : (self : Tree) (i : ℕ) → Bounded self → Worded (used self) → i < self .len → Storable (resultOf (getD (self .entries) i blank .cell))
-small-there self i bounded w h =
-    rw (getD-take (self .len) (self .entries) i blank h) at (every-at (λ (x : Entry). Storable (resultOf (x .cell))) (used self) i blank (omega (arith, used-length self bounded)) w)
 
 module _ (self : Tree) (bounded : Bounded self) (ts : List machine.Tree) (is : map entryOf ts ≡ used self) where
   -- the tree has as many records as positions
@@ -237,12 +240,6 @@ sets-bytes ws i (v ∷ vs) = let e : 2 * i + 2 ≡ 2 * suc i = omega arith in rw
 
 sets-all : (l vs : List ℕ) → length l ≡ length vs → sets l 0 vs ≡ vs
 sets-all l vs e = sets-eq vs l 0 (omega arith) ∙ ap (λ (z : List ℕ). vs ++ z) (drop-of-length-le l {i = 0 + length vs} (omega arith)) ∙ append-nil vs
-
-position-width : (t : machine.Tree) → length (positionWords t) ≡ width Positions
-position-width (running a e fs) = refl
-position-width (returning v fs) = refl
-position-width failed = refl
-position-width (join fs a e l r) = refl
 
 pub position-put : (b c row : List ℕ) (i : ℕ) (p : Parts) (t : machine.Tree) → i < POSITIONS → i < length (p .positions) → row ≡ positionWords t → b ≡ bytes (laid p)
     → ((ws : List ℕ) → b ≡ bytes ws → c ≡ bytes (sets ws (begins Positions + width Positions * i) row))

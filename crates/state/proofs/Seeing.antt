@@ -103,7 +103,7 @@ module _ {b : List ℕ} {i : ℕ} {x : Rest} {st : Stores} {u : machine.Tree} (s
 
   -- the position, and the entry there
   pub seen-entries : entriesIn b ≡ map entryOf (s .positions)
-  seen-entries = entries-said b (lying x st (s .positions) (framesOf u)) (s .block) (seen-few Positions)
+  seen-entries = entries-said b (lying x st (s .positions) (framesOf u)) (s .block) (seen-few Positions) (s .storable Positions)
 
   pub seen-part : PartAt (entriesIn b) i (x .before) u (x .after)
   seen-part = rw seen-entries (s .there)

@@ -9,7 +9,7 @@ use borrow.Author.Tests.{ne-eqb}
 use lib.Dec.{eqb}
 use lib.ListN.{length, getD, set, take, drop, replicate, length-map, length-replicate, List·getD-map}
 use lib.Seq.{take-all, take-suc, ext-getD}
-use Rattle.words.specs.Word.{WORD, bytes}
+use Rattle.words.specs.Word.{bytes}
 use Rattle.limits.specs.Limits.{POSITIONS}
 use Rattle.script.proofs.Lists.{length-run, getD-run}
 use Rattle.machine.specs.declared.Value.{Value}
@@ -18,11 +18,13 @@ use Rattle.machine.specs.Config.{running, returning, failed, join}
 use Rattle.block.specs.declared.Area.the-variants.{Positions}
 use Rattle.block.specs.Rows.{wordOf}
 use Rattle.block.specs.Layout.{counted, wordIn, width, KIND, NODE, ENV, RESULT, WAITING, RUNNING, RETURNING, JOIN}
-use Rattle.block.specs.Values.{valueOf, Storable}
-use Rattle.block.specs.Block.{positionWords, Parts, laid}
+use Rattle.block.specs.Values.{Storable}
+use Rattle.block.specs.Fits.{StorableIn}
+use Rattle.block.specs.Block.{returned, positionWords, Parts, laid}
 use Rattle.block.proofs.Rows.{row-at}
 use Rattle.block.proofs.Words.{count-is, word-is}
-use Rattle.block.proofs.Values.{value-back, word-back}
+use Rattle.block.proofs.Values.{value-same, value-back, value-after}
+use Rattle.representation.proofs.Ordered.{at-in}
 use Rattle.tree.specs.declared.Cell.{Cell}
 use Rattle.tree.specs.declared.Cell.the-variants.{Failed, Running, Returning, Join}
 use Rattle.tree.specs.declared.Entry.{Entry}
@@ -48,27 +50,27 @@ module _ (k a e : ℕ) (v : Value) where
   failed-said f g h = rw (ne-eqb k RUNNING f, ne-eqb k RETURNING g, ne-eqb k JOIN h)
 
 -- the words of a tree's root say its entry
-pub entry-back : (t : machine.Tree) → entryFrom (wordOf (positionWords t)) ≡ entryOf t
-entry-back (running a e fs) = refl
-entry-back (returning v fs) = rw (value-back v)
-entry-back failed = refl
-entry-back (join fs a e l r) = refl
+pub entry-back : (t : machine.Tree) → Storable (returned t) → entryFrom (wordOf (positionWords t)) ≡ entryOf t
+entry-back (running a e fs) s = refl
+entry-back (returning v fs) s =
+    let row = RETURNING ∷ 0 ∷ 0 ∷ [] in
+    let n = value-after row v (length fs ∷ []) 0 in
+    rw (value-back row v (length fs ∷ []) s, n)
+entry-back failed s = refl
+entry-back (join fs a e l r) s = refl
 
 same-entry : (w x : ℕ → ℕ) → ((j : ℕ) → j < width Positions → w j ≡ x j) → entryFrom w ≡ entryFrom x
-same-entry w x h = rw (h KIND (omega arith), h NODE (omega arith), h ENV (omega arith), h RESULT (omega arith), h WAITING (omega arith))
+same-entry w x h = rw (h KIND (omega arith), h NODE (omega arith), h ENV (omega arith), value-same w x RESULT (λ m l. h (RESULT + m) (omega arith)), h WAITING (omega arith))
 
 -- the value of a position that is read from words is a word
 pub storable-cell : (x : Cell) (k a e : ℕ) (v : Value) → x ≡ cellFrom k a e v → Storable v → Storable (resultOf x)
 storable-cell x k a e v q h = rw q (go (eqb k RUNNING) (eqb k RETURNING) (eqb k JOIN))
   where
     go : (x y z : Bool) → Storable (resultOf (cond x (Running a e) (cond y (Returning v) (cond z (Join a e) Failed))))
-    go true y z = omega arith
+    go true y z = _
     go false true z = h
-    go false false true = omega arith
-    go false false false = omega arith
-
-pub word-storable : (w : ℕ) → w < WORD → Storable (valueOf w)
-word-storable w h = rw (word-back w) h
+    go false false true = _
+    go false false false = _
 
 -- how many trees stand beneath a position, by its kind
 pub beneath-join : (k a e : ℕ) (v : Value) → k ≡ JOIN → 2 ≡ beneathCell (cellFrom k a e v)
@@ -91,7 +93,7 @@ module _ (b : List ℕ) where
   entry-there k h = let z : 0 + k ≡ k = omega arith in getD-run (entryAt b) 0 (counted b Positions) k blank h ∙ ap (entryAt b) z
 
   -- what the positions of laid parts say
-  module _ (p : Parts) (is : b ≡ bytes (laid p)) (few : counted b Positions ≤ POSITIONS) where
+  module _ (p : Parts) (is : b ≡ bytes (laid p)) (few : counted b Positions ≤ POSITIONS) (storable : StorableIn p Positions) where
     positions-many : counted b Positions ≡ length (p .positions)
     positions-many = rw is (count-is p Positions ∙ length-map (p .positions) positionWords)
 
@@ -106,7 +108,7 @@ module _ (b : List ℕ) where
         let k : i < counted b Positions = omega (arith, entries-many) in
         entry-there i k
         ∙ same-entry (wordIn b Positions i) (λ j. getD (positionWords (getD (p .positions) i failed)) j 0) (word-said i (omega arith) (omega arith))
-        ∙ entry-back (getD (p .positions) i failed)
+        ∙ entry-back (getD (p .positions) i failed) (storable (getD (p .positions) i failed) (at-in (p .positions) i failed (omega arith)))
         ∙ sym (List·getD-map entryOf (p .positions) i failed))
 
   -- how far an array is filled with the first n positions

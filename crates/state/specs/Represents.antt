@@ -8,7 +8,7 @@ use Rattle.machine.specs.declared.Frame.{Frame}
 use Rattle.machine.specs.Config as machine
 use Rattle.machine.specs.Config.{Stores, Config}
 use Rattle.block.specs.Block.{framesOf, Parts, partsOf, laid, encode}
-use Rattle.block.specs.Fits.{Few}
+use Rattle.block.specs.Fits.{Few, AllStorable}
 use Rattle.tree.specs.declared.Entry.{Entry}
 use Rattle.tree.specs.Entries.{entryOf, frameSum}
 use Rattle.tree.specs.Parts.{PartAt}
@@ -21,6 +21,7 @@ partsIn st ps fs = record { objects = st .objects; bindings = reverse (st .bindi
 pub record Represents (b : List ℕ) (c : Config) : Type 0 where
   pub block : b ≡ encode c
   pub few : Few (partsOf c)
+  pub storable : AllStorable (partsOf c)
 
 -- All but the part at a position: the entries before and after those of the part, and the frames before and after its frames.
 pub record Rest : Type 0 where
@@ -37,6 +38,7 @@ pub record StateAt (b : List ℕ) (i : ℕ) (x : Rest) (st : Stores) (u : machin
   pub start : length (x .outer) ≡ frameSum (x .before)
   pub block : b ≡ bytes (laid (partsIn st positions (x .outer ++ (framesOf u ++ x .later))))
   pub few : Few (partsIn st positions (x .outer ++ (framesOf u ++ x .later)))
+  pub storable : AllStorable (partsIn st positions (x .outer ++ (framesOf u ++ x .later)))
 
 -- Something is seen from position i.
 pub record SomeState (b : List ℕ) (i : ℕ) : Type 0 where

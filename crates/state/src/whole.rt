@@ -7,7 +7,7 @@ use tree::Cell;
 use tree::Entry;
 use tree::Tree;
 ghost use mathlib.Core.Path.{_≡_};
-ghost use mathlib.Core.List.{List, map};
+ghost use mathlib.Core.List.{List, [], _∷_, _++_, map};
 ghost use Prim.Native.Nat.{ℕ, _+_, _*_, _<_, _≤_};
 ghost use lib.ListN.{length, getD, set};
 ghost use lib.Seq.{sets};
@@ -16,7 +16,7 @@ ghost use Rattle.limits.specs.Limits.{BLOCK, POSITIONS};
 ghost use Rattle.machine.specs.Config as machine;
 ghost use Rattle.block.specs.declared.Area.the-variants.{Positions};
 ghost use Rattle.block.specs.Layout.{width, begins, counted};
-ghost use Rattle.block.specs.Values.{Storable};
+ghost use Rattle.block.specs.Values.{valueWords, Storable};
 ghost use Rattle.block.specs.Block.{positionWords, Parts, laid};
 ghost use Rattle.tree.specs.declared.Tree as threads;
 ghost use Rattle.tree.specs.Entries.{entryOf, blank, used, Bounded, resultOf, Worded};
@@ -46,10 +46,10 @@ pub fn entry_at(block: &[u8], i: usize) -> Entry
     let kind = areas::word(block, Area::Positions, i, Layout::KIND);
     let node = areas::word(block, Area::Positions, i, Layout::NODE);
     let env = areas::word(block, Area::Positions, i, Layout::ENV);
-    let result = areas::word(block, Area::Positions, i, Layout::RESULT);
+    let result = areas::value(block, Area::Positions, i, Layout::RESULT);
     let frames = areas::word(block, Area::Positions, i, Layout::WAITING);
     Entry {
-        cell: cell_of(kind, node, env, areas::value_of(result)),
+        cell: cell_of(kind, node, env, result),
         frames: frames,
     }
 }
@@ -76,17 +76,30 @@ pub fn take_tree(block: &[u8]) -> Tree
     }
 }
 
+// The words of a position, one after the other.
+fn position_row(
+    kind: u16,
+    node: u16,
+    env: u16,
+    v: Value,
+    frames: u16,
+) -> [u16; Layout::POSITION_WIDTH]
+    ensures { λ r. ⌜ r ≡ kind ∷ node ∷ env ∷ (valueWords v ++ frames ∷ []) ⌝ }
+{
+    let w = areas::value_words(v);
+    [kind, node, env, w[0], w[1], w[2], frames]
+}
+
 // The words of a position.
 fn row_of(x: Entry) -> [u16; Layout::POSITION_WIDTH]
-    requires { ⌜ Storable (resultOf (x .cell)) ⌝ }
     ensures { λ r. ⌜ (length r ≡ width Positions) × ((t : machine.Tree) → x ≡ entryOf t → r ≡ positionWords t) ⌝ }
 {
     let c = x.cell;
     match c {
-        Cell::Failed => [Layout::FAILED, 0, 0, 0, x.frames],
-        Cell::Running(node, env) => [Layout::RUNNING, node, env, 0, x.frames],
-        Cell::Returning(v) => [Layout::RETURNING, 0, 0, areas::word_of(v), x.frames],
-        Cell::Join(node, env) => [Layout::JOIN, node, env, 0, x.frames],
+        Cell::Failed => position_row(Layout::FAILED, 0, 0, Value::Null, x.frames),
+        Cell::Running(node, env) => position_row(Layout::RUNNING, node, env, Value::Null, x.frames),
+        Cell::Returning(v) => position_row(Layout::RETURNING, 0, 0, v, x.frames),
+        Cell::Join(node, env) => position_row(Layout::JOIN, node, env, Value::Null, x.frames),
     }
 }
 
@@ -121,7 +134,6 @@ pub fn put_entry(block: &mut [u8], i: usize, x: Entry)
 
 // The words of record i of the positions of a tree that has `len`: those of its entry x, or zeros where the tree has no such position.
 fn row_at(x: Entry, i: usize, len: usize) -> [u16; Layout::POSITION_WIDTH]
-    requires { ⌜ (i < len → Storable (resultOf (x .cell))) ⌝ }
     ensures { λ r. ⌜
         (length r ≡ width Positions) ×
         ((self : threads.Tree) (ts : List machine.Tree) →

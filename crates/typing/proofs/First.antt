@@ -14,7 +14,7 @@ use Rattle.script.proofs.LayoutLaws.{Before, at-first, length-is, counts-are, p
 use Rattle.script.specs.Syntax.{Point, Expr, Slot, Program}
 use Rattle.typing.specs.Typing.{Body}
 use Rattle.typing.specs.declared.Aim.{Aim}
-use Rattle.typing.specs.Refusals.{ExprNo, null-inferred, var-unbound, select-unbound, update-unbound, call-unbound, lock-unbound, select-missing, update-missing, call-missing, fork-shares, update-part, call-part, cast-part, lock-part, let-first, let-last, fork-left, fork-right, fork-last, not-below, Statement, of-whole, of-records, of-walk, statementOf, YesTo, Yes, NoTo, FirstNo}
+use Rattle.typing.specs.Refusals.{ExprNo, null-inferred, var-unbound, select-unbound, update-unbound, call-unbound, lock-unbound, left-unbound, right-unbound, select-missing, update-missing, call-missing, lock-int, fork-shares, update-part, call-part, cast-part, lock-part, let-first, let-last, fork-left, fork-right, fork-last, left-unfit, right-unfit, null-unfit, not-below, Statement, of-whole, of-records, of-walk, statementOf, YesTo, Yes, NoTo, FirstNo}
 use Rattle.typing.proofs.Walk.{ListNo, after-all, in-body, after-body}
 
 -- the question with a rank, before the walk
@@ -105,19 +105,25 @@ no-walk (select-unbound h) = λ s. refl
 no-walk (update-unbound h) = λ s. refl
 no-walk (call-unbound h) = λ s. refl
 no-walk (lock-unbound h) = λ s. refl
+no-walk (left-unbound h) = λ s. refl
+no-walk (right-unbound h) = λ s. refl
 no-walk (select-missing h m) = λ s. refl
 no-walk (update-missing h m) = λ s. refl
 no-walk (call-missing h m) = λ s. refl
+no-walk (lock-int h d) = λ s. refl
 no-walk (fork-shares l r) = λ s. refl
 no-walk (update-part h g c) = no-walk c
 no-walk (call-part h g e c) = no-walk c
 no-walk (cast-part c) = no-walk c
-no-walk (lock-part h c) = no-walk c
+no-walk (lock-part h o c) = no-walk c
 no-walk (let-first c) = no-walk c
 no-walk (let-last h c) = no-walk c
 no-walk (fork-left d c) = no-walk c
 no-walk (fork-right d h c) = no-walk c
 no-walk (fork-last d h k c) = no-walk c
+no-walk (left-unfit h k d) = λ s. refl
+no-walk (right-unfit h k d) = λ s. refl
+no-walk (null-unfit d) = λ s. refl
 no-walk (not-below h s e) = λ s. refl
 
 pub walk-no-walk : {p : Program} {l : List Body} {q : Question} {k : Point} → ListNo p l q k → (s : List ℕ) → statementOf s q ≡ of-walk

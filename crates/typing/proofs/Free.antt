@@ -6,9 +6,9 @@ use mathlib.Core.Logic.{_↔_, _⊎_, ⊎-elim, inl, inr}
 use mathlib.Core.List.{List, [], _∷_, _++_, List·Memᴰ·head, List·Memᴰ·tail, List·Memᴰ·cases-cons, List·Memᴰ·not-nil, List·Memᴰ·append-cases, Memᴰ·append-left, Memᴰ·append-right}
 use borrow.Author.Tests.{eq-eqb, ne-eqb}
 use Rattle.script.specs.Lists.{_∈_}
-use Rattle.script.specs.Syntax.{Expr, null, var, select, update, call, bind, new, cast, fork, lock}
+use Rattle.script.specs.Syntax.{Expr, null, var, select, update, call, bind, new, cast, fork, lock, constant, add}
 use Rattle.typing.specs.Typing.{without, fv}
-use Rattle.typing.specs.Published.{Free, free-var, free-select, free-update-target, free-update-part, free-call-target, free-call-part, free-let-first, free-let-last, free-cast, free-fork-left, free-fork-right, free-fork-last, free-lock-target, free-lock-part}
+use Rattle.typing.specs.Published.{Free, free-var, free-select, free-update-target, free-update-part, free-call-target, free-call-part, free-let-first, free-let-last, free-cast, free-fork-left, free-fork-right, free-fork-last, free-lock-target, free-lock-part, free-add-left, free-add-right}
 
 -- what is left of a list without a name
 left-over : (x y : ℕ) (l : List ℕ) → x ∈ without y l → (x ∈ l) × (y ≡ x → ⊥)
@@ -52,6 +52,8 @@ module _ (x : ℕ) where
   free-listed (free-fork-last {e₁ = e₁} {e₂ = e₂} h) = Memᴰ·append-right (fv e₁) (Memᴰ·append-right (fv e₂) (free-listed h))
   free-listed free-lock-target = List·Memᴰ·head refl
   free-listed (free-lock-part h) = List·Memᴰ·tail (free-listed h)
+  free-listed free-add-left = List·Memᴰ·head refl
+  free-listed free-add-right = List·Memᴰ·tail (List·Memᴰ·head refl)
 
   -- the variable that a node names, or one of the rest
   target-or : (P : ℕ → Type 0) (y : ℕ) (l : List ℕ) → P x → (x ∈ l → P y) → x ∈ y ∷ l → P y
@@ -77,6 +79,11 @@ module _ (x : ℕ) where
       (λ k. ⊎-elim (λ j. free-fork-right (listed-free e₂ j)) (λ j. free-fork-last (listed-free e₃ j)) (List·Memᴰ·append-cases (fv e₂) k))
       (List·Memᴰ·append-cases (fv e₁) m)
   listed-free (lock n y e) m = target-or (λ z. Free x (lock n z e)) y (fv e) free-lock-target (λ k. free-lock-part (listed-free e k)) m
+  listed-free (constant n z) m = absurd (List·Memᴰ·not-nil m)
+  listed-free (add n y z) m =
+      target-or (λ v. Free x (add n v z)) y (z ∷ []) free-add-left
+      (target-or (λ v. Free x (add n y v)) z [] free-add-right (λ k. absurd (List·Memᴰ·not-nil k)))
+      m
 
 -- `fv` lists a variable exactly when it is free in the expression.
 pub free-exactly : (x : ℕ) (e : Expr) → (x ∈ fv e) ↔ Free x e

@@ -4,7 +4,7 @@ use mathlib.Core.Logic.{_⊎_, inl, inr}
 use mathlib.Core.Option.{Option}
 use Prim.Native.Nat.{ℕ, _<_}
 use Rattle.script.specs.Lists.{_∈_}
-use Rattle.script.specs.Syntax.{Signature, Interface, lists, extends, Class, Program, Declaration, a-unit, an-interface, a-class, no-type, declarationAt}
+use Rattle.script.specs.Syntax.{Signature, Interface, lists, extends, Class, Program, Declaration, a-unit, an-interface, a-class, an-int, no-type, declarationAt}
 use Rattle.script.specs.Asking.{Decides, holds, fails}
 use Rattle.script.specs.Regular.{IsInterface, Regular}
 use Rattle.script.proofs.Tests.{decides-as, decides-and, decides-eq, decides-all}
@@ -90,6 +90,7 @@ module _ (p : Program) (ok : Regular p) where
       go a-unit e g h x y n = absurd (rw e at (msig-from x))
       go (an-interface i) e g h x y n = interface-one t i e (all t i e) g h x y n
       go (a-class c) e g h x y n = class-one t c e g h x y n
+      go an-int e g h x y n = absurd (rw e at (msig-from x))
       go no-type e g h x y n = absurd (rw e at (msig-from x))
 
   pub function-joins : MsigsFunction p → (t : ℕ) (i : Interface) → JoinIs p t i

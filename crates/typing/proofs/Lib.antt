@@ -1,6 +1,7 @@
 pub mod Types
 pub mod Values
 pub mod Subtype
+pub mod Int
 pub mod Members
 pub mod Environments
 pub mod Joins

@@ -7,7 +7,7 @@ use Prim.Native.Nat.{ℕ, zero, suc, pred, _<_}
 use native.Mathlib.Omega.{arith}
 use lib.ListN.{length, getD}
 use Rattle.script.specs.Lists.{_∈_, named}
-use Rattle.script.specs.Syntax.{Slot, Signature, Method, Interface, lists, extends, Class, Program, Declaration, a-unit, an-interface, a-class, no-type, declarationAt}
+use Rattle.script.specs.Syntax.{Slot, Signature, Method, Interface, lists, extends, Class, Program, Declaration, a-unit, an-interface, a-class, an-int, no-type, declarationAt}
 use Rattle.script.specs.Regular.{IsType, IsInterface, Unique, TypedSignature, Regular}
 use Rattle.script.proofs.Lists.{named-in, named-none, named-unique}
 use Rattle.script.proofs.Declarations.{is-class, is-interface}
@@ -93,6 +93,7 @@ abbrev HasField : ℕ → ℕ → Declaration → Type 0
 HasField f u a-unit = ⊥
 HasField f u (an-interface i) = ⊥
 HasField f u (a-class c) = record { name = f; type = u } ∈ c .fields
+HasField f u an-int = ⊥
 HasField f u no-type = ⊥
 
 field-from : {p : Program} {t f u : ℕ} → FieldIn p t f u → HasField f u (declarationAt p t)
@@ -103,6 +104,7 @@ Has p g a-unit = ⊥
 Has p g (an-interface (lists gs)) = g ∈ gs
 Has p g (an-interface (extends a b)) = MsigIn p a g ⊎ MsigIn p b g
 Has p g (a-class c) = DefIn g (c .methods)
+Has p g an-int = ⊥
 Has p g no-type = ⊥
 
 -- What a type's methods are, by its declaration, and back.
@@ -139,6 +141,7 @@ module _ (p : Program) (ok : Regular p) where
       go a-unit e = missing (λ u h. rw e at (field-from h))
       go (an-interface i) e = missing (λ u h. rw e at (field-from h))
       go (a-class c) e = found-as (λ u m. fields-class e m) (λ u h. rw e at (field-from h)) (type-found (c .fields) f)
+      go an-int e = missing (λ u h. rw e at (field-from h))
       go no-type e = missing (λ u h. rw e at (field-from h))
 
   field-same : {t f u v : ℕ} → FieldIn p t f u → FieldIn p t f v → v ≡ u
@@ -188,6 +191,7 @@ module _ (p : Program) (ok : Regular p) where
       go a-unit e = declared-found m t a-unit none e (missing (λ g x. x .0))
       go (an-interface i) e = meaning-found m t (is-interface p t i e)
       go (a-class c) e = declared-found m t (a-class c) (ownMethod c m) e (own-found c m)
+      go an-int e = declared-found m t an-int none e (missing (λ g x. x .0))
       go no-type e = declared-found m t no-type none e (missing (λ g x. x .0))
 
   pub method-in : (t m : ℕ) (g : Signature) → methodIn p t m ≡ some g → Meaning p t m g

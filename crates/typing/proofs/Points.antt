@@ -7,7 +7,7 @@ use Rattle.script.specs.declared.Question.{Question}
 use Rattle.script.specs.declared.Section.the-variants.{Nodes as nodes, Methods as methods, Classes as classes}
 use Rattle.script.specs.Lists.{_∈_, sumBelow}
 use Rattle.script.specs.Section.{countOf, recordWord}
-use Rattle.script.specs.Syntax.{Point, Expr, null, var, select, update, call, bind, new, cast, fork, lock, Node, n-null, n-var, n-select, n-update, n-call, n-bind, n-new, n-cast, n-fork, n-lock, parts, build, pointOf, Slot, Program}
+use Rattle.script.specs.Syntax.{Point, Expr, null, var, select, update, call, bind, new, cast, fork, lock, constant, add, Node, n-null, n-var, n-select, n-update, n-call, n-bind, n-new, n-cast, n-fork, n-lock, n-constant, n-add, parts, build, pointOf, Slot, Program}
 use Rattle.script.specs.Reading.{viewAt, exprAt, methodAt, classAt, ownMethods, programOf}
 use Rattle.script.specs.Statements.{WithinLayout}
 use Rattle.script.proofs.Lists.{in-run, sum-more}
@@ -18,7 +18,7 @@ use Rattle.typing.specs.declared.Aim.{Aim}
 use Rattle.typing.specs.declared.Answer.{Answer}
 use Rattle.typing.specs.declared.Answer.the-variants.{Faulty}
 use Rattle.typing.specs.Typing.{Body, bodiesOf, walk}
-use Rattle.typing.specs.Refusals.{lastOf, ExprNo, null-inferred, var-unbound, select-unbound, update-unbound, call-unbound, lock-unbound, select-missing, update-missing, call-missing, fork-shares, update-part, call-part, cast-part, lock-part, let-first, let-last, fork-left, fork-right, fork-last, not-below}
+use Rattle.typing.specs.Refusals.{lastOf, ExprNo, null-inferred, var-unbound, select-unbound, update-unbound, call-unbound, lock-unbound, left-unbound, right-unbound, select-missing, update-missing, call-missing, lock-int, fork-shares, update-part, call-part, cast-part, lock-part, let-first, let-last, fork-left, fork-right, fork-last, left-unfit, right-unfit, null-unfit, not-below}
 use Rattle.typing.proofs.Bodies.{body-in}
 use Rattle.typing.proofs.Walk.{ListNo, after-all, in-body, after-body, Walked, walks, halts, walked-by}
 
@@ -34,6 +34,8 @@ Below m (new n c) = n < m
 Below m (cast n t e) = (n < m) × Below m e
 Below m (fork n e₁ e₂ e₃) = (n < m) × Below m e₁ × Below m e₂ × Below m e₃
 Below m (lock n x e) = (n < m) × Below m e
+Below m (constant n z) = n < m
+Below m (add n x y) = n < m
 
 below-build : (m n : ℕ) (f : Point → Expr) (v : Node) → n < m → ((p : Point) → p ∈ parts v → Below m (f p)) → Below m (build n f v)
 below-build m n f n-null h e = h
@@ -46,6 +48,8 @@ below-build m n f (n-new c) h e = h
 below-build m n f (n-cast t p) h e = (h, e p first)
 below-build m n f (n-fork p q r) h e = (h, e p first, e q second, e r third)
 below-build m n f (n-lock x p) h e = (h, e p first)
+below-build m n f (n-constant z) h e = h
+below-build m n f (n-add x y) h e = h
 
 -- The expression at a node has nodes of the script only.
 pub below-at : (s : List ℕ) → WithinLayout s → (n : Point) → n < countOf s nodes → Below (countOf s nodes) (exprAt s n)
@@ -64,6 +68,8 @@ last-node m (new n c) b = b
 last-node m (cast n t e) b = b .0
 last-node m (fork n e₁ e₂ e₃) b = last-node m e₃ (b .3)
 last-node m (lock n x e) b = last-node m e (b .1)
+last-node m (constant n z) b = b
+last-node m (add n x y) b = b
 
 no-below : {p : Program} {Γ : List Slot} {e : Expr} {a : Aim} {q : Question} {k : Point} → ExprNo p Γ e a q k → (m : ℕ) → Below m e → k < m
 no-below null-inferred m b = b
@@ -72,19 +78,25 @@ no-below (select-unbound h) m b = b
 no-below (update-unbound h) m b = b .0
 no-below (call-unbound h) m b = b .0
 no-below (lock-unbound h) m b = b .0
+no-below (left-unbound h) m b = b
+no-below (right-unbound h) m b = b
 no-below (select-missing h g) m b = b
 no-below (update-missing h g) m b = b .0
 no-below (call-missing h g) m b = b .0
+no-below (lock-int h d) m b = b .0
 no-below (fork-shares l r) m b = b .0
 no-below (update-part h g c) m b = no-below c m (b .1)
 no-below (call-part h g d c) m b = no-below c m (b .1)
 no-below (cast-part c) m b = no-below c m (b .1)
-no-below (lock-part h c) m b = no-below c m (b .1)
+no-below (lock-part h o c) m b = no-below c m (b .1)
 no-below (let-first c) m b = no-below c m (b .1)
 no-below (let-last h c) m b = no-below c m (b .2)
 no-below (fork-left d c) m b = no-below c m (b .1)
 no-below (fork-right d h c) m b = no-below c m (b .2)
 no-below (fork-last d h g c) m b = no-below c m (b .3)
+no-below (left-unfit h k d) m b = b
+no-below (right-unfit h k d) m b = b
+no-below (null-unfit d) m b = b
 no-below (not-below {e = e} h s at) m b = rw (← at) (last-node m e b)
 
 -- So is that of the walk's refusal, where bodies and start are such expressions.

@@ -5,13 +5,13 @@ use mathlib.Core.List.{List}
 use mathlib.Core.Logic.{_↔_, _⊎_, ⊎-elim, inl, inr}
 use Prim.Native.Nat.{ℕ}
 use lib.Dec.{eqb}
-use Rattle.script.specs.Syntax.{Signature, lists, extends, Program, Declaration, a-unit, an-interface, a-class, no-type, declarationAt}
+use Rattle.script.specs.Syntax.{Signature, lists, extends, Program, Declaration, a-unit, an-interface, a-class, an-int, no-type, declarationAt}
 use Rattle.script.specs.Asking.{Decides, fails}
 use Rattle.script.specs.Regular.{IsType, IsInterface, Regular}
 use Rattle.script.proofs.Tests.{says-yes, yes-said, decides-as, decides-or, decides-eq}
-use Rattle.script.proofs.Declarations.{is-class, is-interface}
+use Rattle.script.proofs.Declarations.{is-interface}
 use Rattle.typing.specs.Members.{reach, reachFrom, below}
-use Rattle.typing.specs.Published.{WfType, Sub, T-SUB-CLASS, T-SUB-INTERFACE-LEFT, T-SUB-INTERFACE-RIGHT, T-SUB-TRANS, T-SUB-EQ}
+use Rattle.typing.specs.Published.{WfType, T-WF-CLASS, Sub, T-SUB-CLASS, T-SUB-INTERFACE-LEFT, T-SUB-INTERFACE-RIGHT, T-SUB-TRANS, T-SUB-EQ}
 use Rattle.typing.proofs.Types.{type-wf, interface-wf, parent-types, from-parents}
 use Rattle.typing.proofs.Values.{value-lists, value-extends}
 
@@ -21,6 +21,7 @@ Above p u a-unit = ⊥
 Above p u (an-interface (lists gs)) = ⊥
 Above p u (an-interface (extends a b)) = Sub p a u ⊎ Sub p b u
 Above p u (a-class c) = Sub p (c .implements) u
+Above p u an-int = ⊥
 Above p u no-type = ⊥
 
 above-more : {p : Program} {u v : ℕ} → Sub p u v → (d : Declaration) → Above p u d → Above p v d
@@ -36,7 +37,7 @@ above-sub (a-class c) e x = T-SUB-TRANS (T-SUB-CLASS e) x
 module _ (p : Program) (ok : Regular p) where
   -- Both sides of a subtyping are types.
   pub sub-types : {t u : ℕ} → Sub p t u → WfType p t × WfType p u
-  sub-types {t} {u} (T-SUB-CLASS {c = c} e) = (type-wf p t .0 (is-class p t c e .last), interface-wf p u (ok .classes t c e .interface))
+  sub-types {t} {u} (T-SUB-CLASS {c = c} e) = (T-WF-CLASS e, interface-wf p u (ok .classes t c e .interface))
   sub-types {t} {u} (T-SUB-INTERFACE-LEFT {i₁ = a} {i₂ = b} e) = (interface-wf p t (is-interface p t (extends a b) e), interface-wf p u (parent-types p ok t a b e .0))
   sub-types {t} {u} (T-SUB-INTERFACE-RIGHT {i₁ = a} {i₂ = b} e) = (interface-wf p t (is-interface p t (extends a b) e), interface-wf p u (parent-types p ok t a b e .1))
   sub-types (T-SUB-TRANS r s) = (sub-types r .0, sub-types s .1)
@@ -84,6 +85,7 @@ module _ (p : Program) (ok : Regular p) where
       go a-unit e = stepped a-unit e w (decides-or (decides-eq t u) (fails absurd))
       go (an-interface i) e = decides-as (⊎-elim (same-sub w) (λ s. s)) inr (decides-or (decides-eq t u) (decides-reach u t (is-interface p t i e)))
       go (a-class c) e = stepped (a-class c) e w (decides-or (decides-eq t u) (decides-reach u (c .implements) (ok .classes t c e .interface)))
+      go an-int e = stepped an-int e w (decides-or (decides-eq t u) (fails absurd))
       go no-type e = stepped no-type e w (decides-or (decides-eq t u) (fails absurd))
 
   pub below-sub : (t u : ℕ) → IsType p t → (below p t u ≡ true) ↔ Sub p t u

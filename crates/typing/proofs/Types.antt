@@ -2,15 +2,15 @@
 use mathlib.Core.Path.{_≡_, sym, ap, _∙_}
 use mathlib.Core.List.{List}
 use mathlib.Core.Logic.{_↔_, ⊎-elim}
-use Prim.Native.Nat.{ℕ, zero, suc, pred, _≤_}
+use Prim.Native.Nat.{ℕ, zero, suc, pred, _+_, _≤_}
 use native.Mathlib.Nat.{le-refl}
 use native.Mathlib.Omega.{arith}
 use lib.ListN.{length}
-use Rattle.script.specs.Syntax.{Signature, Interface, lists, extends, Program, an-interface, declarationAt}
+use Rattle.script.specs.Syntax.{Signature, Interface, lists, extends, Program, an-interface, intOf, declarationAt}
 use Rattle.script.specs.Regular.{IsType, IsInterface, Regular}
 use Rattle.script.proofs.Lists.{lt-or-le}
-use Rattle.script.proofs.Declarations.{interfaceOf, interface-declared, is-interface, is-class, an-interface-at, a-class-at}
-use Rattle.typing.specs.Published.{WfType, T-WF-CLASS, T-WF-INTERFACE, T-WF-INTERFACE-EXTENDS, T-WF-UNIT}
+use Rattle.script.proofs.Declarations.{interfaceOf, interface-declared, is-interface, is-class, an-interface-at, a-class-at, int-declared, declared-int}
+use Rattle.typing.specs.Published.{WfType, T-WF-CLASS, T-WF-INTERFACE, T-WF-INTERFACE-EXTENDS, T-WF-UNIT, T-WF-INT}
 
 -- The interface declared under t is the interface with that number in the program's list.
 pub interface-listed : (p : Program) (t : ℕ) (i : Interface) → declarationAt p t ≡ an-interface i → interfaceOf p (pred t) ≡ i
@@ -18,10 +18,11 @@ interface-listed p t i e = let x = interface-declared p t i e in ap (interfaceOf
 
 -- what ⊢ t is derived of is a type
 wf-number : {p : Program} {t : ℕ} → WfType p t → IsType p t
-wf-number {p} {t} (T-WF-CLASS e) = is-class p t _ e .last
+wf-number {p} {t} (T-WF-CLASS e) = omega (arith, is-class p t _ e .last)
 wf-number {p} {t} (T-WF-INTERFACE e) = omega (arith, is-interface p t _ e .last)
 wf-number {p} {t} (T-WF-INTERFACE-EXTENDS e) = omega (arith, is-interface p t _ e .last)
 wf-number T-WF-UNIT = omega arith
+wf-number {p} {t} (T-WF-INT e) = omega (arith, declared-int p t e)
 
 declared-wf : (p : Program) (t : ℕ) (i : Interface) → declarationAt p t ≡ an-interface i → WfType p t
 declared-wf p t (lists gs) e = T-WF-INTERFACE e
@@ -36,7 +37,11 @@ number-wf p zero h = T-WF-UNIT
 number-wf p (suc i) h =
     ⊎-elim
     (λ l. interface-wf p (suc i) (record { first = omega arith; last = l }))
-    (λ l. T-WF-CLASS (a-class-at p (suc i) (record { past = omega arith; last = h }) .1))
+    (λ l.
+    ⊎-elim
+    (λ k. T-WF-CLASS (a-class-at p (suc i) (record { past = omega arith; last = k }) .1))
+    (λ k. let e : suc i ≡ intOf p = omega arith in T-WF-INT (ap (declarationAt p) e ∙ int-declared p))
+    (lt-or-le i (length (p .interfaces) + length (p .classes))))
     (lt-or-le i (length (p .interfaces)))
 
 -- The types are the numbers t of which ⊢ t.

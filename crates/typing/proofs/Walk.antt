@@ -7,14 +7,14 @@ use Rattle.script.specs.declared.Question.{Question}
 use Rattle.script.specs.Lists.{_∈_}
 use Rattle.script.specs.Syntax.{Point, Program}
 use Rattle.script.specs.Regular.{Regular}
-use Rattle.script.proofs.Declarations.{is-class}
 use Rattle.typing.specs.declared.Aim.the-variants.{Infers as infers, Checks as checks}
 use Rattle.typing.specs.declared.Answer.{Answer}
 use Rattle.typing.specs.declared.Answer.the-variants.{Typed, Faulty}
 use Rattle.typing.specs.Environments.{bodyEnv}
 use Rattle.typing.specs.Typing.{andThen, checked, Body, walk}
-use Rattle.typing.specs.Published.{WfEnv, WF-ENV, MsigsFunction, Infer, Check}
+use Rattle.typing.specs.Published.{T-WF-CLASS, WfEnv, WF-ENV, MsigsFunction, Infer, Check}
 use Rattle.typing.specs.Refusals.{ExprNo}
+use Rattle.typing.proofs.Types.{type-wf}
 use Rattle.typing.proofs.Rules.{Judged, types, passes, refuses, env-more, judged, infer-complete, check-complete, no-complete}
 use Rattle.typing.proofs.Bodies.{BodyIn}
 
@@ -48,7 +48,7 @@ module _ (p : Program) (ok : Regular p) where
   body-judged b i =
       let r = ok .classes (b .class) (i .class) (i .declared) in
       let g = r .method-types (b .method) (i .there) in
-      let w = env-more p _ 1 (b .method .signature .param) (env-more p [] 0 (b .class) (no-env p) (is-class p (b .class) (i .class) (i .declared) .last)) (g .param) in
+      let w = env-more p _ 1 (b .method .signature .param) (env-more p [] 0 (b .class) (no-env p) (type-wf p (b .class) .1 (T-WF-CLASS (i .declared)))) (g .param) in
       judged p ok _ (b .method .body) (checks (b .method .signature .result)) w (g .result) (r .bodies (b .method) (i .there))
 
   start-walked : {r : Answer} → Judged p [] (p .start) infers r → Walked p [] r

@@ -7,7 +7,7 @@ use lib.Dec.{eqb}
 use lib.ListN.{getD}
 use Rattle.script.specs.Lists.{named}
 use Rattle.script.specs.Syntax.{Slot, Signature, Method, Interface, lists, extends, Class, Program, Declaration, a-unit, an-interface, a-class}
-use Rattle.script.specs.Syntax.{no-type, declarationAt}
+use Rattle.script.specs.Syntax.{an-int, no-type, declarationAt}
 
 -- A value for each interface: `own` gives that of a list of signatures, `join` that of a join from those of its parents; both are handed the type.
 -- The values of the interfaces n, .., 1 are a table that is built from the front, so each is computed once, however often it is a parent.
@@ -24,7 +24,8 @@ module _ {A : Type 0} (own : ℕ → List Signature → A) (join : ℕ → A →
   unfoldable pub valueAt : List Interface → ℕ → A
   valueAt l t = getD (valuesTo l t) 0 blank
 
--- "A type is below itself, a class below its interface, a join below both parents, and so on upward along every chain. Unit is below only itself."
+-- "A type is below itself, a class below its interface, a join below both parents, and so on upward along every chain. Unit is below only itself.", "Int
+-- is below only itself".
 -- Is the interface t below u?
 unfoldable pub reach : Program → ℕ → ℕ → Bool
 reach p t u = valueAt (λ v gs. eqb v u) (λ v a b. eqb v u || (a || b)) false (p .interfaces) t
@@ -33,6 +34,7 @@ abbrev pub reachFrom : Program → ℕ → ℕ → Declaration → Bool
 reachFrom p t u a-unit = false
 reachFrom p t u (an-interface i) = reach p t u
 reachFrom p t u (a-class c) = reach p (c .implements) u
+reachFrom p t u an-int = false
 reachFrom p t u no-type = false
 
 unfoldable pub below : Program → ℕ → ℕ → Bool
@@ -54,6 +56,7 @@ abbrev pub methodFrom : Program → ℕ → ℕ → Declaration → Option Signa
 methodFrom p t m a-unit = none
 methodFrom p t m (an-interface i) = meaning p m t
 methodFrom p t m (a-class c) = ownMethod c m
+methodFrom p t m an-int = none
 methodFrom p t m no-type = none
 
 unfoldable pub methodIn : Program → ℕ → ℕ → Option Signature
@@ -68,6 +71,7 @@ abbrev pub fieldFrom : ℕ → Declaration → Option ℕ
 fieldFrom f a-unit = none
 fieldFrom f (an-interface i) = none
 fieldFrom f (a-class c) = typeIn (c .fields) f
+fieldFrom f an-int = none
 fieldFrom f no-type = none
 
 unfoldable pub fieldIn : Program → ℕ → ℕ → Option ℕ
@@ -78,6 +82,7 @@ abbrev pub fieldsFrom : Declaration → List Slot
 fieldsFrom a-unit = []
 fieldsFrom (an-interface i) = []
 fieldsFrom (a-class c) = c .fields
+fieldsFrom an-int = []
 fieldsFrom no-type = []
 
 abbrev pub fieldsOf : Program → ℕ → List Slot
@@ -88,6 +93,7 @@ abbrev pub definedFrom : ℕ → Declaration → Option Method
 definedFrom m a-unit = none
 definedFrom m (an-interface i) = none
 definedFrom m (a-class c) = named (λ (d : Method). d .signature .name) m (c .methods)
+definedFrom m an-int = none
 definedFrom m no-type = none
 
 abbrev pub definedIn : Program → ℕ → ℕ → Option Method

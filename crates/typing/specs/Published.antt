@@ -2,12 +2,13 @@
 -- Types are numbers, so "class C .. ∈ P" and "interface I .. ∈ P" are said by what the program declares under a number: `declarationAt`, of script's Syntax.
 -- Nothing here comes from the walk's files (Members, Typing, Check). WF-FRAME of Figure 4 serves WF-FJ of Figure 5 alone, so it is not here.
 use Prim.Native.Nat.{ℕ}
+use lib.IntN.{ℤ}
 use mathlib.Core.Path.{_≡_}
 use mathlib.Core.Bool.{false}
 use mathlib.Core.List.{List, [], _∷_}
 use Rattle.script.specs.Lists.{_∈_}
-use Rattle.script.specs.Syntax.{Point, Expr, null, var, select, update, call, bind, new, cast, fork, lock, isNull, Slot, Signature, Method, Interface}
-use Rattle.script.specs.Syntax.{lists, extends, Class, Program, an-interface, a-class, declarationAt}
+use Rattle.script.specs.Syntax.{Point, Expr, null, var, select, update, call, bind, new, cast, fork, lock, constant, add, isNull, Slot, Signature, Method}
+use Rattle.script.specs.Syntax.{Interface, lists, extends, Class, Program, an-interface, a-class, an-int, declarationAt}
 use Rattle.typing.specs.Environments.{TypeOf, Use, of-field, of-method, of-lock, bodyEnv}
 
 -- ⊢ t, Figure 4
@@ -16,6 +17,8 @@ pub data WfType (p : Program) : ℕ → Type 0 where
   T-WF-INTERFACE : {t : ℕ} {gs : List Signature} → declarationAt p t ≡ an-interface (lists gs) → WfType p t
   T-WF-INTERFACE-EXTENDS : {t i₁ i₂ : ℕ} → declarationAt p t ≡ an-interface (extends i₁ i₂) → WfType p t
   T-WF-UNIT : WfType p 0
+  -- not in the figure: "Type I+C+1 is Int"
+  T-WF-INT : {t : ℕ} → declarationAt p t ≡ an-int → WfType p t
 
 -- t₁ <: t₂, Figure 4
 pub data Sub (p : Program) : ℕ → ℕ → Type 0 where
@@ -56,23 +59,28 @@ pub data Free (x : ℕ) : Expr → Type 0 where
   free-fork-last : {n : ℕ} {e₁ e₂ e : Expr} → Free x e → Free x (fork n e₁ e₂ e)
   free-lock-target : {n : ℕ} {e : Expr} → Free x (lock n x e)
   free-lock-part : {n y : ℕ} {e : Expr} → Free x e → Free x (lock n y e)
+  free-add-left : {n y : ℕ} → Free x (add n x y)
+  free-add-right : {n y : ℕ} → Free x (add n y x)
 
 -- fv(e₁) ∩ fv(e₂) = ∅
 abbrev pub Disjoint : Expr → Expr → Type 0
 Disjoint e₁ e₂ = (x : ℕ) → Free x e₁ → Free x e₂ → ⊥
 
--- No premise of the paper: null has type t. "A null is checked against any type"; a later rule may except a type.
+-- Null has type t: the premise t ≠ int, with which section 9 updates BD-CHECK-NULL. "Null does not fit Int (14)"
 pub data NullFits (p : Program) (t : ℕ) : Type 0 where
-  any-type : NullFits p t
+  no-int : (declarationAt p t ≡ an-int → ⊥) → NullFits p t
 
--- No premise of the paper: node n may use its target so. Figure 11 asks only that the target's type has the field or method, and "A lock target may have any
--- type"; a later rule may ask more of a use.
-pub data UseOk (p : Program) (n : Point) (u : Use) : Type 0 where
-  any-use : UseOk p n u
+-- No premise of the paper: node n may use its target so. Figure 11 asks only that the target's type has the field or method, which Int has not, and "A lock
+-- target may have any type", but "Int is no target of field, call or lock (13)"; a later rule may ask more of a use.
+pub data UseOk (p : Program) (n : Point) : Use → Type 0 where
+  any-field : {c f : ℕ} → UseOk p n (of-field c f)
+  any-method : {t m : ℕ} → UseOk p n (of-method t m)
+  lock-no-int : {t : ℕ} → (declarationAt p t ≡ an-int → ⊥) → UseOk p n (of-lock t)
 
 -- Γ ⊢ e ⇒ t and Γ ⊢ e ⇐ t, Figure 11. A target x is a variable, inferred by BD-INFER-VAR; it stands at the node that names it. The premise ⊢ C of BD-INFER-NEW
 -- is that of T-WF-CLASS. Not in the figure are BD-CHECK-LET, BD-CHECK-LOCK and BD-CHECK-FJ: "when a let, a lock or a fork is checked against a type, its last
--- part is checked against that same type". Their other premises are those of BD-INFER-LET, BD-INFER-LOCK and BD-INFER-FJ.
+-- part is checked against that same type". Their other premises are those of BD-INFER-LET, BD-INFER-LOCK and BD-INFER-FJ. Nor are BD-INFER-INT and
+-- BD-INFER-ADD, of a constant and of a sum, whose two variables are "both of type Int".
 mutual
   pub data Infer (p : Program) : List Slot → Expr → ℕ → Type 0 where
     BD-INFER-VAR : {Γ : List Slot} {n x t : ℕ} → WfEnv p Γ → TypeOf Γ x t → Infer p Γ (var n x) t
@@ -90,6 +98,8 @@ mutual
         → Infer p Γ (lock n x e) t
     BD-INFER-FJ : {Γ : List Slot} {n t₁ t₂ t : ℕ} {e₁ e₂ e : Expr} → Disjoint e₁ e₂ → Infer p Γ e₁ t₁ → Infer p Γ e₂ t₂ → Infer p Γ e t
         → Infer p Γ (fork n e₁ e₂ e) t
+    BD-INFER-INT : {Γ : List Slot} {n t : ℕ} {z : ℤ} → WfEnv p Γ → declarationAt p t ≡ an-int → Infer p Γ (constant n z) t
+    BD-INFER-ADD : {Γ : List Slot} {n x y t : ℕ} → Infer p Γ (var n x) t → Infer p Γ (var n y) t → declarationAt p t ≡ an-int → Infer p Γ (add n x y) t
 
   pub data Check (p : Program) : List Slot → Expr → ℕ → Type 0 where
     BD-CHECK-NULL : {Γ : List Slot} {n t : ℕ} → WfEnv p Γ → WfType p t → NullFits p t → Check p Γ (null n) t

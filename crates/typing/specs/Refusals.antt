@@ -8,15 +8,15 @@ use Rattle.script.specs.declared.Question.the-variants.{Nulls, Members, Fits, S
 use Rattle.script.specs.declared.Section.the-variants.{Interfaces as interfaces, Classes as classes, Nodes as nodes}
 use Rattle.script.specs.Lists.{sumBelow}
 use Rattle.script.specs.Section.{countOf, recordAt}
-use Rattle.script.specs.Syntax.{Point, Expr, null, var, select, update, call, bind, new, cast, fork, lock, pointOf, Slot, Signature, Interface}
-use Rattle.script.specs.Syntax.{lists, extends, Class, Program}
+use Rattle.script.specs.Syntax.{Point, Expr, null, var, select, update, call, bind, new, cast, fork, lock, constant, add, pointOf, Slot, Signature}
+use Rattle.script.specs.Syntax.{Interface, lists, extends, Class, Program, an-int, declarationAt}
 use Rattle.script.specs.Reading.{interfaceAt, ownMethods, methodAt, classAt, programOf}
 use Rattle.script.specs.Asking.{rankOf, Asks, Each, LowestNo}
 use Rattle.script.specs.Statements.{LengthIs, CountsAre, PlacesAre, InterfacesAre, OwnersAre, TypesAre, NodesAre, NamesAre}
 use Rattle.typing.specs.declared.Aim.{Aim}
 use Rattle.typing.specs.declared.Aim.the-variants.{Infers as infers, Checks as checks}
-use Rattle.typing.specs.Environments.{TypeOf, bodyEnv}
-use Rattle.typing.specs.Published.{Sub, MsigIn, FieldIn, Free, Disjoint, Infer, Check, DefIn}
+use Rattle.typing.specs.Environments.{TypeOf, of-lock, bodyEnv}
+use Rattle.typing.specs.Published.{Sub, MsigIn, FieldIn, Free, Disjoint, UseOk, Infer, Check, DefIn}
 
 -- 9. "Do all meanings of a method name in a join have the same types?" The interface has type t.
 abbrev pub JoinIs : Program → ℕ → Interface → Type 0
@@ -49,6 +49,8 @@ lastOf (new n c) = new n c
 lastOf (cast n t e) = cast n t e
 lastOf (fork n e₁ e₂ e₃) = lastOf e₃
 lastOf (lock n x e) = lastOf e
+lastOf (constant n z) = constant n z
+lastOf (add n x y) = add n x y
 
 -- 11 to 15. The first no of the walk over an expression, with its aim: the question and the node. What comes before it in the walk got a yes: it is typed by
 -- the published rules. A last part is asked with the aim of the whole.
@@ -61,12 +63,16 @@ pub data ExprNo (p : Program) : List Slot → Expr → Aim → Question → Poin
   update-unbound : {Γ : List Slot} {n x f : ℕ} {e : Expr} {a : Aim} → Unbound Γ x → ExprNo p Γ (update n x f e) a Variables n
   call-unbound : {Γ : List Slot} {n x m : ℕ} {e : Expr} {a : Aim} → Unbound Γ x → ExprNo p Γ (call n x m e) a Variables n
   lock-unbound : {Γ : List Slot} {n x : ℕ} {e : Expr} {a : Aim} → Unbound Γ x → ExprNo p Γ (lock n x e) a Variables n
+  left-unbound : {Γ : List Slot} {n x y : ℕ} {a : Aim} → Unbound Γ x → ExprNo p Γ (add n x y) a Variables n
+  right-unbound : {Γ : List Slot} {n x y : ℕ} {a : Aim} → Unbound Γ y → ExprNo p Γ (add n x y) a Variables n
   -- 13. "Has the target's type the field or method?"
   select-missing : {Γ : List Slot} {n x f t : ℕ} {a : Aim} → TypeOf Γ x t → ((u : ℕ) → FieldIn p t f u → ⊥) → ExprNo p Γ (select n x f) a Members n
   update-missing : {Γ : List Slot} {n x f t : ℕ} {e : Expr} {a : Aim} → TypeOf Γ x t → ((u : ℕ) → FieldIn p t f u → ⊥)
       → ExprNo p Γ (update n x f e) a Members n
   call-missing : {Γ : List Slot} {n x m t : ℕ} {e : Expr} {a : Aim} → TypeOf Γ x t → ((g : Signature) → MsigIn p t g → g .name ≡ m → ⊥)
       → ExprNo p Γ (call n x m e) a Members n
+  -- 13. "Int is no target of field, call or lock (13)": it has no field and no method
+  lock-int : {Γ : List Slot} {n x t : ℕ} {e : Expr} {a : Aim} → TypeOf Γ x t → declarationAt p t ≡ an-int → ExprNo p Γ (lock n x e) a Members n
   -- 15. "Do the asyncs share no variable?"
   fork-shares : {Γ : List Slot} {n x : ℕ} {e₁ e₂ e : Expr} {a : Aim} → Free x e₁ → Free x e₂ → ExprNo p Γ (fork n e₁ e₂ e) a Sharing n
   -- "parts in running order"
@@ -75,7 +81,8 @@ pub data ExprNo (p : Program) : List Slot → Expr → Aim → Question → Poin
   call-part : {Γ : List Slot} {n x m t k : ℕ} {g : Signature} {e : Expr} {a : Aim} {q : Question} → TypeOf Γ x t → MsigIn p t g → g .name ≡ m
       → ExprNo p Γ e (checks (g .param)) q k → ExprNo p Γ (call n x m e) a q k
   cast-part : {Γ : List Slot} {n t k : ℕ} {e : Expr} {a : Aim} {q : Question} → ExprNo p Γ e (checks t) q k → ExprNo p Γ (cast n t e) a q k
-  lock-part : {Γ : List Slot} {n x t k : ℕ} {e : Expr} {a : Aim} {q : Question} → TypeOf Γ x t → ExprNo p Γ e a q k → ExprNo p Γ (lock n x e) a q k
+  lock-part : {Γ : List Slot} {n x t k : ℕ} {e : Expr} {a : Aim} {q : Question} → TypeOf Γ x t → UseOk p n (of-lock t) → ExprNo p Γ e a q k
+      → ExprNo p Γ (lock n x e) a q k
   let-first : {Γ : List Slot} {n x k : ℕ} {e₁ e₂ : Expr} {a : Aim} {q : Question} → ExprNo p Γ e₁ infers q k → ExprNo p Γ (bind n x e₁ e₂) a q k
   let-last : {Γ : List Slot} {n x t k : ℕ} {e₁ e₂ : Expr} {a : Aim} {q : Question} → Infer p Γ e₁ t
       → ExprNo p (record { name = x; type = t } ∷ Γ) e₂ a q k → ExprNo p Γ (bind n x e₁ e₂) a q k
@@ -85,6 +92,11 @@ pub data ExprNo (p : Program) : List Slot → Expr → Aim → Question → Poin
       → ExprNo p Γ (fork n e₁ e₂ e) a q k
   fork-last : {Γ : List Slot} {n t u k : ℕ} {e₁ e₂ e : Expr} {a : Aim} {q : Question} → Disjoint e₁ e₂ → Infer p Γ e₁ t → Infer p Γ e₂ u
       → ExprNo p Γ e a q k → ExprNo p Γ (fork n e₁ e₂ e) a q k
+  -- 14. "both bound (11), then both of type Int (14)"
+  left-unfit : {Γ : List Slot} {n x y t u : ℕ} {a : Aim} → TypeOf Γ x t → TypeOf Γ y u → (declarationAt p t ≡ an-int → ⊥) → ExprNo p Γ (add n x y) a Fits n
+  right-unfit : {Γ : List Slot} {n x y t u : ℕ} {a : Aim} → TypeOf Γ x t → TypeOf Γ y u → (declarationAt p u ≡ an-int → ⊥) → ExprNo p Γ (add n x y) a Fits n
+  -- 14. "Null does not fit Int (14)"
+  null-unfit : {Γ : List Slot} {n t : ℕ} → declarationAt p t ≡ an-int → ExprNo p Γ (null n) (checks t) Fits n
   -- 14. "Is each inferred type below the wanted one?", asked of the innermost last part
   not-below : {Γ : List Slot} {e : Expr} {t′ t k : ℕ} → Infer p Γ e t′ → (Sub p t′ t → ⊥) → pointOf (lastOf e) ≡ k → ExprNo p Γ e (checks t) Fits k
 

@@ -1,14 +1,15 @@
 -- Questions 11 to 15: one walk over the bodies in method order, then the start. "At a node: fork sharing, target variable, field or method, parts in running
 -- order, fitting; the first no counts, at that node."
 use Prim.Native.Nat.{ℕ, _+_}
-use mathlib.Core.Bool.{Bool, true, false, cond, _||_}
+use mathlib.Core.Bool.{Bool, true, false, cond, not, _&&_, _||_}
 use mathlib.Core.List.{List, [], _∷_, _++_, map}
 use mathlib.Core.Option.{Option, none, some}
 use lib.Dec.{eqb}
 use lib.ListN.{length}
 use Rattle.script.specs.declared.Question.{Question}
 use Rattle.script.specs.declared.Question.the-variants.{Variables, Nulls, Members, Fits, Sharing}
-use Rattle.script.specs.Syntax.{Point, Expr, null, var, select, update, call, bind, new, cast, fork, lock, Slot, Method, Class, Program}
+use Rattle.script.specs.Syntax.{Point, Expr, null, var, select, update, call, bind, new, cast, fork, lock, constant, add, Slot, Method, Class}
+use Rattle.script.specs.Syntax.{Program, intOf}
 use Rattle.typing.specs.declared.Aim.{Aim}
 use Rattle.typing.specs.declared.Aim.the-variants.{Infers as infers, Checks as checks}
 use Rattle.typing.specs.declared.Answer.{Answer}
@@ -32,6 +33,8 @@ fv (new n c) = []
 fv (cast n t e) = fv e
 fv (fork n e₁ e₂ e₃) = fv e₁ ++ (fv e₂ ++ fv e₃)
 fv (lock n x e) = x ∷ fv e
+fv (constant n z) = []
+fv (add n x y) = x ∷ y ∷ []
 
 -- Is x in the list, and do two lists share an element?
 unfoldable pub isIn : ℕ → List ℕ → Bool
@@ -61,14 +64,24 @@ abbrev pub fits : Bool → Point → ℕ → Answer
 fits true n t = Typed t
 fits false n t = Faulty Fits n
 
--- "A null is checked against any type": does it fit t? A later rule may except a type.
-abbrev pub nullTest : Program → ℕ → Bool
-nullTest p t = true
+-- Is it Int?
+abbrev pub intTest : Program → ℕ → Bool
+intTest p t = eqb t (intOf p)
 
--- The question that gets a no where node n uses its target so, once the target's type has the field or method. There is none: "A lock target may have any
--- type." A later rule may ask more of a use.
+-- "A null is checked against any type", but "Null does not fit Int (14)".
+abbrev pub nullTest : Program → ℕ → Bool
+nullTest p t = not (intTest p t)
+
+-- The question that gets a no where node n uses its target so, once the target's type has the field or method: "A lock target may have any type", but "Int is
+-- no target of field, call or lock (13)". A later rule may ask more of a use.
+abbrev pub lockNo : Bool → Option Question
+lockNo true = some Members
+lockNo false = none
+
 abbrev pub useNo : Program → Point → Use → Option Question
-useNo p n u = none
+useNo p n (of-field c f) = none
+useNo p n (of-method t m) = none
+useNo p n (of-lock t) = lockNo (intTest p t)
 
 abbrev pub unlessNo : Option Question → Point → Answer → Answer
 unlessNo none n r = r
@@ -106,6 +119,11 @@ answer p Γ (fork n e₁ e₂ e₃) a =
 answer p Γ (lock n x e) a =
     let r = answer p Γ e a in
     orFaulty Variables n (typeIn Γ x) (λ t. unlessNo (useNo p n (of-lock t)) n r)
+-- "kind 11 adds variables a and b, both bound (11), then both of type Int (14)"
+answer p Γ (constant n z) a = aimed p n a (Typed (intOf p))
+answer p Γ (add n x y) a =
+    aimed p n a
+    (orFaulty Variables n (typeIn Γ x) (λ t. orFaulty Variables n (typeIn Γ y) (λ u. fits (intTest p t && intTest p u) n (intOf p))))
 
 abbrev pub inferred : Program → List Slot → Expr → Answer
 inferred p Γ e = answer p Γ e infers

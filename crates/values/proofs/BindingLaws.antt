@@ -6,13 +6,11 @@ use Prim.Native.Nat.{ℕ, suc, _+_, _-_, _<_, _≤_}
 use native.Mathlib.Omega.{arith}
 use borrow.Author.Tests.{lt-ltb, le-leb, lt-leb}
 use lib.Dec.{leb}
-use lib.ListN.{length, getD}
+use lib.ListN.{getD}
 use Rattle.words.specs.Word.{WORD, wordAt}
-use Rattle.script.specs.declared.Section.the-variants.{Interfaces as interfaces, Classes as classes}
-use Rattle.script.specs.Section.{countOf}
+use Rattle.script.specs.Syntax.{intOf}
 use Rattle.script.specs.Reading.{programOf}
 use Rattle.script.specs.Questions.{allOf}
-use Rattle.script.proofs.Declarations.{length-interfaces, length-classes}
 use Rattle.machine.specs.declared.Value.{Value}
 use Rattle.machine.specs.declared.Want.the-variants.{Upto as upto}
 use Rattle.machine.specs.Config.{codeOf}
@@ -34,9 +32,9 @@ unfolding wordAt
 word-small b small at = omega (arith, small at, small (at + 1))
 
 -- one binding
-module _ {s b : List ℕ} (a : Asked s b) (i t n m : ℕ) (et : t ≡ wordIn b Bindings i TYPE) (en : n ≡ countOf s interfaces) (em : m ≡ countOf s classes) where
+module _ {s b : List ℕ} (a : Asked s b) (i t z : ℕ) (et : t ≡ wordIn b Bindings i TYPE) (ez : z ≡ intOf (programOf s)) where
   abbrev typeFits : Bool
-  typeFits = leb (wordIn b Bindings i TYPE) (length (programOf s .interfaces) + length (programOf s .classes))
+  typeFits = leb (wordIn b Bindings i TYPE) (intOf (programOf s))
 
   abbrev rest : Bool
   rest = leb (wordIn b Bindings i LINK) i && valueFitsTest (codeOf s) (objectsIn s b) (valueIn (wordIn b Bindings i) BOUND) (upto (wordIn b Bindings i TYPE))
@@ -44,15 +42,15 @@ module _ {s b : List ℕ} (a : Asked s b) (i t n m : ℕ) (et : t ≡ wordIn b B
   whole : bindingTest (codeOf s) (objectsIn s b) i (bindingAt b i) ≡ typeFits && rest
   whole = rw (lt-ltb (wordIn b Bindings i NAME) 65536 (word-small b (a .small) (wordByte Bindings i NAME))) refl
 
-  pub binding-no-type : n + m < t → false ≡ bindingTest (codeOf s) (objectsIn s b) i (bindingAt b i)
+  pub binding-no-type : z < t → false ≡ bindingTest (codeOf s) (objectsIn s b) i (bindingAt b i)
   binding-no-type h =
-      let no : typeFits ≡ false = lt-leb (wordIn b Bindings i TYPE) (length (programOf s .interfaces) + length (programOf s .classes)) (omega (arith, length-interfaces s, length-classes s)) in
+      let no : typeFits ≡ false = lt-leb (wordIn b Bindings i TYPE) (intOf (programOf s)) (omega arith) in
       sym (whole ∙ rw no refl)
 
-  module _ (link : ℕ) (el : link ≡ wordIn b Bindings i LINK) (h : t ≤ n + m) where
+  module _ (link : ℕ) (el : link ≡ wordIn b Bindings i LINK) (h : t ≤ z) where
     typed : bindingTest (codeOf s) (objectsIn s b) i (bindingAt b i) ≡ rest
     typed =
-        let yes : typeFits ≡ true = le-leb (wordIn b Bindings i TYPE) (length (programOf s .interfaces) + length (programOf s .classes)) (omega (arith, length-interfaces s, length-classes s)) in
+        let yes : typeFits ≡ true = le-leb (wordIn b Bindings i TYPE) (intOf (programOf s)) (omega arith) in
         whole ∙ rw yes refl
 
     pub binding-no-link : i < link → false ≡ bindingTest (codeOf s) (objectsIn s b) i (bindingAt b i)

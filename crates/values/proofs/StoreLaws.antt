@@ -2,16 +2,19 @@
 use mathlib.Core.Path.{_≡_, refl, sym, ap, _∙_}
 use mathlib.Core.Bool.{Bool, true, false, not, _&&_}
 use mathlib.Core.List.{List, [], _∷_}
-use mathlib.Core.Option.{Option, none, some}
+use mathlib.Core.Option.{none, some}
 use Prim.Native.Nat.{ℕ, suc, _+_, _-_, _<_, _≤_}
 use native.Mathlib.Omega.{arith}
 use borrow.Author.Tests.{not-true, not-false}
 use lib.ListN.{length, getD}
+use lib.IntN.{ℤ}
+use Rattle.words.specs.Integer.{InRange}
+use Rattle.words.proofs.Integers.{range-exactly}
 use Rattle.limits.specs.Limits.{INTERFACES, CLASS-FIELDS}
 use Rattle.script.specs.declared.Section.the-variants.{Fields as fields}
 use Rattle.script.specs.Lists.{run, sumBelow}
 use Rattle.script.specs.Section.{recordWord}
-use Rattle.script.specs.Syntax.{Class, a-class, declarationAt}
+use Rattle.script.specs.Syntax.{Class, a-class, intOf, declarationAt}
 use Rattle.script.specs.Reading.{ownFields, fieldAt, classAt, programOf}
 use Rattle.script.specs.Asking.{Decides}
 use Rattle.script.specs.Questions.{allOf}
@@ -26,10 +29,10 @@ use Rattle.members.specs.Lookup.{DeclaredAs, RunAt}
 use Rattle.members.proofs.LookupLaws.{fields-run}
 use Rattle.members.proofs.SubtypeLaws.{class-there, type-neither, type-interface, type-class}
 use Rattle.machine.specs.declared.Value.{Value}
-use Rattle.machine.specs.declared.Value.the-variants.{Ref as ref}
+use Rattle.machine.specs.declared.Value.the-variants.{Int as int}
 use Rattle.machine.specs.declared.Want.{Want}
 use Rattle.machine.specs.declared.Want.the-variants.{Upto as upto}
-use Rattle.machine.specs.Config.{Object, codeOf}
+use Rattle.machine.specs.Config.{Code, Object, codeOf}
 use Rattle.typing.specs.Members.{fieldsOf}
 use Rattle.machine.specs.Machine.{fieldCount, object}
 use Rattle.machine.specs.Decide.{meetsTest, objectTest, valueFitsTest, isClassTest, fieldsTest}
@@ -53,18 +56,20 @@ module _ {s b : List ℕ} (a : Asked s b) where
   pub object-absent : (o : ℕ) → counted b Objects ≤ o → object (objectsIn s b) o ≡ none
   object-absent o h = rw (objects-read (fieldCount s) b (a .objects)) (object-past (objectAt (fieldCount s) b) 0 (counted b Objects) o h)
 
-  -- what a value is asked
-  module _ (v : Value) (want : Want) (o : ℕ) (e : v ≡ ref o) where
-    asks : (x : Option Object) → object (objectsIn s b) o ≡ x → valueFitsTest (codeOf s) (objectsIn s b) v want ≡ objectTest (codeOf s) want x
-    asks x q = rw e (ap (objectTest (codeOf s) want) q)
+  -- what an object is asked
+  module _ (want : Want) (o : ℕ) where
+    pub absent-meets : counted b Objects ≤ o → false ≡ objectTest (codeOf s) want (object (objectsIn s b) o)
+    absent-meets h = ap (objectTest (codeOf s) want) (sym (object-absent o h))
 
-    pub value-absent : counted b Objects ≤ o → false ≡ valueFitsTest (codeOf s) (objectsIn s b) v want
-    value-absent h = sym (asks none (object-absent o h))
-
-    pub value-object :
+    pub there-meets :
         (class : ℕ) (r : Bool) → o < counted b Objects → class ≡ wordIn b Objects o CLASS → r ≡ meetsTest (codeOf s) class want
-        → r ≡ valueFitsTest (codeOf s) (objectsIn s b) v want
-    value-object class r there k q = q ∙ rw k (sym (asks (some (objectAt (fieldCount s) b o)) (object-there o there)))
+        → r ≡ objectTest (codeOf s) want (object (objectsIn s b) o)
+    there-meets class r there k q = q ∙ rw k (ap (objectTest (codeOf s) want) (sym (object-there o there)))
+
+-- what a number is asked, whose type says that it is in range
+pub number-meets : (s : Code) (xs : List Object) (v : Value) (want : Want) (z : ℤ) (t : ℕ) (r : Bool)
+    → v ≡ int z → InRange z → t ≡ intOf (s .program) → r ≡ meetsTest s t want → r ≡ valueFitsTest s xs v want
+number-meets s xs v want z t r e h k q = rw (e, range-exactly z .1 h, ← k) q
 
 -- a test of more than one thing, of which the first is asked first
 pub and-no : (p q r : Bool) → r ≡ p → not r ≡ true → false ≡ p && q

@@ -5,3 +5,4 @@ mod wants;
 pub use stores::stores_fit;
 pub use stores::value_fits;
 pub use wants::meets;
+pub use wants::null_meets;

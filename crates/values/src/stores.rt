@@ -1,5 +1,6 @@
 // The stores of a block: do its objects and bindings fit?
 use crate::wants::meets;
+use crate::wants::null_meets;
 use block::Area;
 use block::Layout;
 use limits::Limits;
@@ -7,8 +8,8 @@ use machine::Value;
 use machine::Want;
 use members::Declared;
 use members::declared_as;
+use members::int_of;
 use script::Section;
-use sections::count_of;
 use sections::own_count;
 use sections::record_word;
 ghost use mathlib.Core.Path.{_≡_};
@@ -20,28 +21,37 @@ ghost use Rattle.script.specs.Section.{countOf};
 ghost use Rattle.script.specs.Reading.{fieldAt};
 ghost use Rattle.members.specs.Tables.{Starts};
 ghost use Rattle.machine.specs.Config.{codeOf};
-ghost use Rattle.machine.specs.Machine.{fieldCount};
-ghost use Rattle.machine.specs.Decide.{valueFitsTest, fieldsTest, bindingTest, bindingsTest, storesTest};
+ghost use Rattle.machine.specs.Machine.{fieldCount, object};
+ghost use Rattle.machine.specs.Decide.{objectTest, valueFitsTest, fieldsTest, bindingTest, bindingsTest, storesTest};
 ghost use Rattle.block.specs.declared.Area.the-variants.{Objects, Bindings};
 ghost use Rattle.block.specs.Layout.{counted};
 ghost use Rattle.block.specs.Decode.{configIn};
 ghost use Rattle.environments.specs.Chains.{bindingAt};
 ghost use Rattle.values.specs.Objects.{Asked, valueAt, objectAt, objectsIn, objectFits, objectsTest};
 
-// Does a value fit what is wanted? It is null, or an object that is there and whose class is the type wanted or below it: "value types fit".
-pub fn value_fits(s: &[u8], starts: &[u16], block: &[u8], v: Value, want: Want) -> bool
+// Does object n fit what is wanted? It is there, and its class is the type wanted or below it.
+fn object_meets(s: &[u8], starts: &[u16], block: &[u8], n: u16, want: Want) -> bool
     requires { ⌜ Asked (now s) (now block) × Starts (now s) (now starts) ⌝ }
-    ensures { λ r. ⌜ r ≡ valueFitsTest (codeOf (now (s .entry))) (objectsIn (now (s .entry)) (now (block .entry))) v want ⌝ }
+    ensures { λ r. ⌜ r ≡ objectTest (codeOf (now (s .entry))) want (object (objectsIn (now (s .entry)) (now (block .entry))) n) ⌝ }
 {
-    let Value::Ref(n) = v else {
-        return true;
-    };
     let o = n as usize;
     if areas::count(block, Area::Objects) <= o {
         return false;
     }
     let class = areas::word(block, Area::Objects, o, Layout::CLASS);
     meets(s, starts, class, want)
+}
+
+// Does a value fit what is wanted? An object goes by its class, and a number, which its type keeps in range, by Int: "value types fit".
+pub fn value_fits(s: &[u8], starts: &[u16], block: &[u8], v: Value, want: Want) -> bool
+    requires { ⌜ Asked (now s) (now block) × Starts (now s) (now starts) ⌝ }
+    ensures { λ r. ⌜ r ≡ valueFitsTest (codeOf (now (s .entry))) (objectsIn (now (s .entry)) (now (block .entry))) v want ⌝ }
+{
+    match v {
+        Value::Null => null_meets(s, want),
+        Value::Ref(n) => object_meets(s, starts, block, n, want),
+        Value::Int(_z) => meets(s, starts, int_of(s), want),
+    }
 }
 
 // Do the values of object i fit the types of the fields whose records are the `count` from `from` on? WF-FIELDS.
@@ -111,8 +121,7 @@ fn binding_fits(s: &[u8], starts: &[u16], block: &[u8], i: usize) -> bool
     ensures { λ r. ⌜ r ≡ bindingTest (codeOf (now (s .entry))) (objectsIn (now (s .entry)) (now (block .entry))) i (bindingAt (now (block .entry)) i) ⌝ }
 {
     let t = areas::word(block, Area::Bindings, i, Layout::TYPE);
-    let types = count_of(s, Section::Interfaces) + count_of(s, Section::Classes);
-    if types < t as usize {
+    if int_of(s) < t {
         return false;
     }
     let link = areas::word(block, Area::Bindings, i, Layout::LINK);

@@ -19,6 +19,7 @@ use Rattle.machine.specs.Config.{Binding, Stores, running}
 use Rattle.machine.specs.Machine.{context, Outcome, still, full, moved, extend}
 use Rattle.block.specs.declared.Area.the-variants.{Bindings}
 use Rattle.block.specs.Layout.{counted}
+use Rattle.block.specs.Values.{Storable}
 use Rattle.block.specs.Block.{Parts, laid}
 use Rattle.representation.specs.Changed.{withBindings}
 use Rattle.environments.specs.Chains.{bindingsIn}
@@ -31,9 +32,10 @@ use Rattle.moves.proofs.Laws.{scope-read, no-room, some-room}
 abbrev pub Adds : List ℕ → List ℕ → Binding → Type 0
 Adds b c y = (p : Parts) → b ≡ bytes (laid p) → c ≡ bytes (laid (withBindings p (p .bindings ++ y ∷ [])))
 
-pub bound-more : {b c : List ℕ} {i : ℕ} {x : Rest} {st : Stores} {u : machine.Tree} (y : Binding) (n : ℕ) → n ≡ counted b Bindings → n < BINDINGS → Adds b c y
+pub bound-more : {b c : List ℕ} {i : ℕ} {x : Rest} {st : Stores} {u : machine.Tree} (y : Binding) (n : ℕ) → n ≡ counted b Bindings → n < BINDINGS
+    → Storable (y .value) → Adds b c y
     → StateAt b i x st u → StateAt c i x (record { objects = st .objects; bindings = y ∷ st .bindings }) u
-bound-more y n h l add s = seen-bindings s y (omega arith) (add (lies s) (s .block))
+bound-more y n h l v add s = seen-bindings s y (omega arith) v (add (lies s) (s .block))
 
 module _ {b : List ℕ} {i : ℕ} {x : Rest} {st : Stores} {u : machine.Tree} (seen : StateAt b i x st u) (s : List ℕ) (fs : List Frame) (v : Value) (name a d env : ℕ)
     (first : Answer) (told : first ≡ inferred (programOf s) (context (bindingsIn b) env) (exprAt s a)) where

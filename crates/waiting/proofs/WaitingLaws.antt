@@ -1,16 +1,18 @@
 -- What each return of a move of a thread with a value comes to: the callees' contracts are premises, and the code's locals variables.
-use mathlib.Core.Path.{_≡_, refl, ap, _∙_}
+use mathlib.Core.Path.{_≡_, refl, ap, subst, _∙_}
 use mathlib.Core.Bool.{Bool, false}
+use mathlib.Core.Logic.{⊎-elim}
 use mathlib.Core.List.{List, [], _∷_, _++_}
 use mathlib.Core.Option.{none, some}
 use Prim.Native.Nat.{ℕ, zero, suc, _+_, _-_, _<_, _≤_}
 use native.Mathlib.Omega.{arith}
 use lib.ListN.{length, getD, set, length-append, length-set}
-use Rattle.words.specs.Word.{bytes}
+use Rattle.words.specs.Word.{WORD, bytes}
 use Rattle.limits.specs.Limits.{BINDINGS}
 use Rattle.script.specs.declared.Found.{Found}
 use Rattle.script.specs.declared.Found.the-variants.{At, Nothing}
 use Rattle.script.specs.declared.Section.the-variants.{Methods as methods}
+use Rattle.script.specs.Lists.{_∈_}
 use Rattle.script.specs.Section.{recordWord}
 use Rattle.script.specs.Syntax.{Method, Program}
 use Rattle.script.specs.Reading.{methodAt, programOf}
@@ -27,6 +29,7 @@ use Rattle.typing.specs.Members.{fieldsOf, definedIn}
 use Rattle.machine.specs.Machine.{object, setShut, setFields, setField, Outcome, still, full, moved, withShut, callBindings, callMethod, callObject}
 use Rattle.block.specs.declared.Area.the-variants.{Objects, Bindings}
 use Rattle.block.specs.Layout.{counted, wordIn}
+use Rattle.block.specs.Values.{Storable}
 use Rattle.block.specs.Block.{Parts, laid}
 use Rattle.representation.specs.Changed.{withObjects, withBindings, withField}
 use Rattle.members.specs.Defined.{fieldNumber, MethodIs}
@@ -38,19 +41,15 @@ use Rattle.environments.proofs.LaidLaws.{object-there, field-set}
 use Rattle.state.specs.Represents.{Rest, StateAt}
 use Rattle.state.specs.Positions.{entryAt}
 use Rattle.state.proofs.Seeing.{seen-few, objects-counted, bindings-counted, seen-waiting}
+use Rattle.state.proofs.Storing.{set-in}
 use Rattle.state.proofs.Moves.{lies, seen-objects, seen-bindings}
-use Rattle.moves.proofs.TargetLaws.{blank-object, object-is, object-word}
+use Rattle.moves.proofs.InitialLaws.{PutsField}
+use Rattle.moves.proofs.TargetLaws.{blank-object, object-is, object-in, object-word}
 use Rattle.waiting.proofs.LetLaws.{Adds}
 
 -- as many frames wait there as before
 pub still-waiting : {b c : List ℕ} {i : ℕ} {x : Rest} {st su : Stores} {u : machine.Tree} → StateAt b i x st u → StateAt c i x su u → 0 < entryAt b i .frames → 0 < entryAt c i .frames
 still-waiting s t h = omega (arith, seen-waiting s, seen-waiting t)
-
--- what put_field ensures, of the bytes b before and c after
-abbrev pub Stored : List ℕ → List ℕ → ℕ → ℕ → Value → Type 0
-Stored b c o k v =
-    (p : Parts) (d : Object) → b ≡ bytes (laid p) → o < length (p .objects) → k < length (getD (p .objects) o d .fields)
-    → c ≡ bytes (laid (withObjects p (set (p .objects) o (withField (getD (p .objects) o d) k v))))
 
 pub one-more : {b c : List ℕ} (p : Parts) (y : Binding) → b ≡ bytes (laid p) → Adds b c y → counted c Bindings ≡ suc (counted b Bindings)
 one-more p y is adds =
@@ -68,11 +67,24 @@ fields-same [] o y e = refl
 fields-same (x ∷ xs) zero y e = let z : x ≡ y = cc in rw (← z)
 fields-same (x ∷ xs) (suc o) y e = ap (λ (ys : List Object). x ∷ ys) (fields-same xs o y e)
 
+-- an object with another storable value
+field-storable : (y : Object) (k : ℕ) (v : Value) → Storable v → ((w : Value) → w ∈ y .fields → Storable w)
+    → (w : Value) → w ∈ withField y k v .fields → Storable w
+field-storable y k v fits all w m = ⊎-elim (λ (q : w ≡ v). rw q fits) (all w) (set-in (y .fields) k v w m)
+
 module _ {b : List ℕ} {i : ℕ} {x : Rest} {st : Stores} {u : machine.Tree} (s : StateAt b i x st u) where
   -- one object changed
-  changed : {c : List ℕ} (o : ℕ) (y : Object) → c ≡ bytes (laid (withObjects (lies s) (set (st .objects) o y)))
+  changed : {c : List ℕ} (o : ℕ) (y : Object) → ((v : Value) → v ∈ y .fields → Storable v)
+      → c ≡ bytes (laid (withObjects (lies s) (set (st .objects) o y)))
       → StateAt c i x (record { objects = set (st .objects) o y; bindings = st .bindings }) u
-  changed o y e = seen-objects s (set (st .objects) o y) (omega (arith, length-set (st .objects) o y, objects-counted s, seen-few s Objects)) e
+  changed o y fits e = seen-objects s (set (st .objects) o y) (omega (arith, length-set (st .objects) o y, objects-counted s, seen-few s Objects)) all e
+    where
+      all : (d : Object) → d ∈ set (st .objects) o y → (v : Value) → v ∈ d .fields → Storable v
+      all d m v n =
+          ⊎-elim
+          (λ (q : d ≡ y). fits v (subst (λ (z : Object). v ∈ z .fields) q n))
+          (λ (l : d ∈ st .objects). s .storable Objects d l v n)
+          (set-in (st .objects) o y d m)
 
   -- the object of a lock opened, if there is one
   pub opens-none : (o n : ℕ) → n ≡ counted b Objects → n ≤ o → StateAt b i x (withShut false st o) u
@@ -91,9 +103,9 @@ module _ {b : List ℕ} {i : ℕ} {x : Rest} {st : Stores} {u : machine.Tree} (s
         let n : fieldNumber (fieldsOf p (y .class)) f ≡ none = found-nothing (fieldNumber (fieldsOf p (y .class)) f) found (rw (class-read o class y h e) at q) k in
         rw (set-none (fieldsOf p (y .class)) (y .fields) f v n, fields-same (st .objects) o y h) s
 
-    pub writes : {c : List ℕ} (k : ℕ) → length (y .fields) ≡ length (fieldsOf p (y .class)) → found ≡ At k → Stored b c o k v
+    pub writes : {c : List ℕ} (k : ℕ) → length (y .fields) ≡ length (fieldsOf p (y .class)) → found ≡ At k → Storable v → PutsField b c o k v
         → StateAt c i x (record { objects = setFields (setField v (fieldsOf p (y .class)) (y .fields) f) (st .objects) o; bindings = st .bindings }) u
-    writes {c} k own a stored =
+    writes {c} k own a fits stored =
         let ds = fieldsOf p (y .class) in
         let n : fieldNumber ds f ≡ some k = found-at (fieldNumber ds f) found (rw (class-read o class y h e) at q) k a in
         let r = object-is (st .objects) o y blank-object h in
@@ -101,19 +113,20 @@ module _ {b : List ℕ} {i : ℕ} {x : Rest} {st : Stores} {u : machine.Tree} (s
         let now : setFields (setField v ds (y .fields) f) (st .objects) o ≡ set (st .objects) o (withField (getD (st .objects) o blank-object) k v) =
         rw (set-at ds (y .fields) f v k n, ← r .1) (field-set (st .objects) o k v blank-object)
         in
-        rw now (changed o (withField (getD (st .objects) o blank-object) k v) (stored (lies s) blank-object (s .block) (r .0) there))
+        let values = field-storable y k v fits (s .storable Objects y (object-in (st .objects) o y h)) in
+        rw now (changed o (withField (getD (st .objects) o blank-object) k v) (rw (r .1) values) (stored (lies s) blank-object (s .block) (r .0) there))
 
   -- the two bindings of a call
-  pub adds-call : {b₁ c : List ℕ} (n class o param : ℕ) (v : Value) → n ≡ counted b Bindings → n + 2 ≤ BINDINGS
+  pub adds-call : {b₁ c : List ℕ} (n class o param : ℕ) (v : Value) → n ≡ counted b Bindings → n + 2 ≤ BINDINGS → o < WORD → Storable v
       → Adds b b₁ (record { name = 0; type = class; value = ref o; link = 0 }) → Adds b₁ c (record { name = 1; type = param; value = v; link = n + 1 })
       → StateAt c i x (record { objects = st .objects; bindings = callBindings class o param v (st .bindings) }) u
-  adds-call n class o param v e l adds adds₁ =
+  adds-call n class o param v e l small fits adds adds₁ =
       let this : Binding = record { name = 0; type = class; value = ref o; link = 0 } in
       let p = lies s in
-      let first = seen-bindings s this (omega arith) (adds p (s .block)) in
+      let first = seen-bindings s this (omega arith) small (adds p (s .block)) in
       let k : n + 1 ≡ suc (length (st .bindings)) = omega (arith, bindings-counted s) in
       let room = one-more p this (s .block) adds in
-      let second = seen-bindings first (record { name = 1; type = param; value = v; link = n + 1 }) (omega arith)
+      let second = seen-bindings first (record { name = 1; type = param; value = v; link = n + 1 }) (omega arith) fits
       (adds₁ (lies first) (first .block)) in
       rw k at second
 

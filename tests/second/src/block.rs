@@ -1,6 +1,7 @@
 //! The state block: its bytes read as a state and written back, as docs/BLOCK.md lays them out.
 //! Reading tests every byte, so that a state has one block only.
 
+use crate::expr::{number, number_words};
 use crate::state::{
     Binding, Closure, Environment, Focus, Frame, Object, State, Tree, Value, MOST_BINDINGS, MOST_FRAMES, MOST_OBJECTS,
     MOST_THREADS,
@@ -9,16 +10,18 @@ use crate::types::Types;
 use std::ops::Range;
 use std::slice::Iter;
 
-/// "Is the state block 49,152 bytes?"
-pub const LENGTH: usize = 49_152;
+/// "The block grows to 65,536 bytes, so question 20 asks that."
+pub const LENGTH: usize = 65_536;
 /// A tree with 32 threads has 31 joins.
 pub const MOST_POSITIONS: usize = 2 * MOST_THREADS - 1;
 
-/// Words of the header and of a record.
+/// Words of the header, of a value and of a record.
 const HEADER: usize = 4;
-const OBJECT: usize = 10;
-const BINDING: usize = 4;
-const POSITION: usize = 5;
+pub const VALUE: usize = 3;
+const MOST_FIELDS: usize = 8;
+const OBJECT: usize = 2 + MOST_FIELDS * VALUE;
+const BINDING: usize = 3 + VALUE;
+const POSITION: usize = 4 + VALUE;
 const FRAME: usize = 3;
 
 const OBJECTS_AT: usize = HEADER;
@@ -49,6 +52,16 @@ impl Area {
         2 * words[self as usize]..2 * words[self as usize + 1]
     }
 
+    /// In which words of a record values begin.
+    pub fn value_columns(self) -> Vec<usize> {
+        match self {
+            Area::Objects => (0..MOST_FIELDS).map(|field| 2 + field * VALUE).collect(),
+            Area::Bindings => vec![2],
+            Area::Positions => vec![3],
+            Area::Frames => vec![],
+        }
+    }
+
     /// The byte of the header where the number of records stands.
     pub fn count_at(self) -> usize {
         [0, 2, 6, 4][self as usize]
@@ -64,6 +77,11 @@ const WAITING: u16 = 1;
 const CAST: u16 = 2;
 const LOCK: u16 = 3;
 
+/// The first word of a value.
+const NULL: u16 = 0;
+const OBJECT_NUMBER: u16 = 1;
+const NUMBER: u16 = 2;
+
 /// The state that a block of the right length holds, if each of its bytes is in order.
 /// Numbers of nodes, objects, bindings and types are well-formedness's to judge, except that an
 /// object's class says which of its words are fields.
@@ -78,7 +96,7 @@ pub fn read(block: &[u8], types: &Types) -> Option<State> {
     let nothing_over = positions.len() == 0 && frames.len() == 0 && is_zero(&block[2 * END..]);
     let state = State {
         objects: objects.iter().map(|record| read_object(record, types)).collect::<Option<_>>()?,
-        bindings: bindings.iter().map(read_binding).collect(),
+        bindings: bindings.iter().map(read_binding).collect::<Option<_>>()?,
         tree,
     };
     nothing_over.then_some(state)
@@ -97,9 +115,14 @@ fn is_zero(bytes: &[u8]) -> bool {
     bytes.iter().fold(0, |all, byte| all | byte) == 0
 }
 
-/// "0 is null, n + 1 is object number n."
-fn read_value(word: u16) -> Value {
-    word.checked_sub(1).map_or(Value::Null, Value::Object)
+/// Null is 0 0 0, object n is 1 n 0, a number is 2, its low word and its high word; any other three words are no value.
+fn read_value(words: &[u16; VALUE]) -> Option<Value> {
+    match *words {
+        [NULL, 0, 0] => Some(Value::Null),
+        [OBJECT_NUMBER, object, 0] => Some(Value::Object(object)),
+        [NUMBER, low, high] => Some(Value::Number(number(low, high))),
+        _ => None,
+    }
 }
 
 /// "0 has no binding; n + 1 begins with binding number n."
@@ -111,25 +134,26 @@ fn read_object(&[class, shut, ref values @ ..]: &[u16; OBJECT], types: &Types) -
     if !types.is_class(class) || shut > 1 {
         return None;
     }
-    let (fields, unused) = values.split_at_checked(types.fields(class).len())?;
-    let fields = fields.iter().copied().map(read_value).collect();
-    unused.iter().all(|&word| word == 0).then_some(Object { class, shut: shut == 1, fields })
+    let (fields, unused) = values.as_chunks().0.split_at_checked(types.fields(class).len())?;
+    let fields = fields.iter().map(read_value).collect::<Option<_>>()?;
+    unused.as_flattened().iter().all(|&word| word == 0).then_some(Object { class, shut: shut == 1, fields })
 }
 
-fn read_binding(&[name, ty, value, link]: &[u16; BINDING]) -> Binding {
-    Binding { name, ty, value: read_value(value), beneath: read_environment(link) }
+fn read_binding(&[name, ty, kind, low, high, link]: &[u16; BINDING]) -> Option<Binding> {
+    Some(Binding { name, ty, value: read_value(&[kind, low, high])?, beneath: read_environment(link) })
 }
 
 /// Takes the records of a position and of all beneath it; frames lie in the same order.
 fn read_tree(positions: &mut Iter<[u16; POSITION]>, frames: &mut Iter<[u16; FRAME]>) -> Option<Tree> {
-    let &[kind, node, environment, value, count] = positions.next()?;
+    let &[kind, node, environment, ref value @ .., count] = positions.next()?;
     let closure = Closure { node, environment: read_environment(environment) };
     let frames_here = (0..count).map(|_| read_frame(frames.next()?)).collect::<Option<_>>()?;
-    let focus = match [kind, node, environment, value, count] {
-        [AT_NODE, _, _, 0, _] => Focus::Node(closure),
-        [WITH_VALUE, 0, 0, value, _] => Focus::Value(read_value(value)),
-        [FAILED, 0, 0, 0, 0] => Focus::Failed,
-        [JOIN, _, _, 0, _] => {
+    let nothing = *value == [0; VALUE];
+    let focus = match [kind, node, environment, count] {
+        [AT_NODE, ..] if nothing => Focus::Node(closure),
+        [WITH_VALUE, 0, 0, _] => Focus::Value(read_value(value)?),
+        [FAILED, 0, 0, 0] if nothing => Focus::Failed,
+        [JOIN, ..] if nothing => {
             let left = read_tree(positions, frames)?;
             let right = read_tree(positions, frames)?;
             Focus::Join { last: closure, sides: Box::new([left, right]) }
@@ -176,10 +200,14 @@ fn put(bytes: &mut [u8], words: &[u16]) {
     }
 }
 
-fn value_word(value: Value) -> u16 {
+pub fn value_words(value: Value) -> [u16; VALUE] {
     match value {
-        Value::Null => 0,
-        Value::Object(object) => object + 1,
+        Value::Null => [NULL, 0, 0],
+        Value::Object(object) => [OBJECT_NUMBER, object, 0],
+        Value::Number(number) => {
+            let [low, high] = number_words(number);
+            [NUMBER, low, high]
+        }
     }
 }
 
@@ -191,23 +219,27 @@ fn object_record(object: &Object) -> [u16; OBJECT] {
     let mut record = [0; OBJECT];
     record[0] = object.class;
     record[1] = object.shut.into();
-    for (word, field) in record[2..].iter_mut().zip(&object.fields) {
-        *word = value_word(*field);
+    for (words, field) in record[2..].as_chunks_mut().0.iter_mut().zip(&object.fields) {
+        *words = value_words(*field);
     }
     record
 }
 
 fn binding_record(binding: &Binding) -> [u16; BINDING] {
-    [binding.name, binding.ty, value_word(binding.value), environment_word(binding.beneath)]
+    let [kind, low, high] = value_words(binding.value);
+    [binding.name, binding.ty, kind, low, high, environment_word(binding.beneath)]
 }
 
 fn position_record(tree: &Tree) -> [u16; POSITION] {
     let frames = tree.frames.len() as u16;
     match &tree.focus {
-        Focus::Node(at) => [AT_NODE, at.node, environment_word(at.environment), 0, frames],
-        Focus::Value(value) => [WITH_VALUE, 0, 0, value_word(*value), frames],
-        Focus::Failed => [FAILED, 0, 0, 0, frames],
-        Focus::Join { last, .. } => [JOIN, last.node, environment_word(last.environment), 0, frames],
+        Focus::Node(at) => [AT_NODE, at.node, environment_word(at.environment), 0, 0, 0, frames],
+        Focus::Value(value) => {
+            let [kind, low, high] = value_words(*value);
+            [WITH_VALUE, 0, 0, kind, low, high, frames]
+        }
+        Focus::Failed => [FAILED, 0, 0, 0, 0, 0, frames],
+        Focus::Join { last, .. } => [JOIN, last.node, environment_word(last.environment), 0, 0, 0, frames],
     }
 }
 

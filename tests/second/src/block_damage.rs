@@ -1,9 +1,11 @@
 //! Random damage to a state block. Unlike damage to a script it often leaves a block that is
 //! still well formed, so each kind of edit is named and a test can count what became of it.
 
-use crate::block::Area;
+use crate::block::{value_words, Area, VALUE};
 use crate::damage::{edit_byte, set_word, word};
 use crate::generate::Rng;
+use crate::state::Value;
+use crate::types::Type;
 use std::ops::Range;
 
 #[derive(Clone, Copy, Debug, PartialEq, Eq, PartialOrd, Ord)]
@@ -14,6 +16,10 @@ pub enum Edit {
     Count,
     /// One word of a record in use gets a new value.
     Word { area: Area, column: usize },
+    /// A value becomes another, or one of its three words does.
+    Value { area: Area, damage: ValueDamage },
+    /// The class of an object or the type of a binding becomes another, often one of the last numbers: a class, Int, no type.
+    Type,
     /// Two records of an area exchange a word, or all words.
     Exchange,
     /// A record goes or comes twice, with its count.
@@ -26,17 +32,40 @@ pub enum Edit {
     Unused,
 }
 
-/// A random edit. It is not made where the block has no record for it.
-pub fn damage(block: &mut [u8], rng: &mut Rng) -> Option<Edit> {
+/// What a value becomes.
+#[derive(Clone, Copy, Debug, PartialEq, Eq, PartialOrd, Ord)]
+pub enum ValueDamage {
+    Null,
+    /// An object that is there, or one past the count.
+    Object,
+    Number,
+    /// The first word is 3 or more.
+    Kind,
+    /// One of the three words is another.
+    Word,
+}
+
+impl ValueDamage {
+    pub const ALL: [ValueDamage; 5] =
+        [ValueDamage::Null, ValueDamage::Object, ValueDamage::Number, ValueDamage::Kind, ValueDamage::Word];
+}
+
+/// A random edit of a block whose script has this type as its last, Int. It is not made where the block has no record for it.
+pub fn damage(block: &mut [u8], int: Type, rng: &mut Rng) -> Option<Edit> {
     let area = rng.pick(&Area::ALL)?;
-    let edit = match rng.below(16) {
-        0 => Edit::Byte,
+    let edit = match rng.below(25) {
+        0 | 22 => Edit::Byte,
+        23 | 24 => Edit::Type,
         1 => Edit::Count,
         2 | 3 => Edit::Exchange,
         4 | 5 => Edit::Record,
         6 => Edit::Unused,
         7 | 8 => Edit::Closure,
         9 => Edit::Focus,
+        10..=15 => Edit::Value {
+            area: [Area::Objects, Area::Bindings, Area::Positions][rng.below(3)],
+            damage: rng.pick(&ValueDamage::ALL)?,
+        },
         _ => Edit::Word { area, column: rng.below(area.width()) },
     };
     match edit {
@@ -46,6 +75,8 @@ pub fn damage(block: &mut [u8], rng: &mut Rng) -> Option<Edit> {
             let record = some_record(block, area, rng)?;
             change_word(block, area, record.start + 2 * column, column, rng)?;
         }
+        Edit::Value { area, damage } => change_value(block, area, damage, rng)?,
+        Edit::Type => change_type(block, int, rng)?,
         Edit::Exchange => exchange(block, area, rng)?,
         Edit::Record => remove_or_repeat(block, area, rng)?,
         Edit::Closure => copy_closure(block, rng)?,
@@ -96,6 +127,68 @@ fn change_word(block: &mut [u8], area: Area, at: usize, column: usize, rng: &mut
     (new != old).then_some(())
 }
 
+/// An object's values often become zeros, since only they fit a class without fields; a binding's becomes a number or null.
+fn change_type(block: &mut [u8], int: Type, rng: &mut Rng) -> Option<()> {
+    let area = [Area::Objects, Area::Bindings][rng.below(2)];
+    let record = some_record(block, area, rng)?;
+    let at = if area == Area::Objects { record.start } else { record.start + 2 };
+    let values = record.start + 4;
+    let (old, any) = (word(block, at), rng.below(int as usize + 1) as Type);
+    let new = [int - 1, int, int, int + 1, any][rng.below(5)];
+    if new == old {
+        return None;
+    }
+    set_word(block, at, new);
+    match area {
+        Area::Objects if rng.one_in(2) => block[values..record.end].fill(0),
+        Area::Bindings if rng.one_in(2) => {
+            let words = value_words([Value::Null, Value::Number(rng.number())][rng.below(2)]);
+            (0..).zip(words).for_each(|(index, word)| set_word(block, values + 2 * index, word));
+        }
+        _ => {}
+    }
+    Some(())
+}
+
+/// Where a value of a record in use begins: of an object any field's, or the place of one that its class has not.
+fn some_value(block: &[u8], area: Area, rng: &mut Rng) -> Option<usize> {
+    let record = some_record(block, area, rng)?;
+    let columns = area.value_columns();
+    // Classes have few fields.
+    let near = if rng.one_in(8) { columns.len() } else { columns.len().min(3) };
+    Some(record.start + 2 * columns[rng.below(near)])
+}
+
+fn change_value(block: &mut [u8], area: Area, damage: ValueDamage, rng: &mut Rng) -> Option<()> {
+    let mut at = some_value(block, area, rng)?;
+    // An object most often fits where another is.
+    if damage == ValueDamage::Object && rng.one_in(2) {
+        let tries: Vec<usize> = (0..6).filter_map(|_| some_value(block, area, rng)).collect();
+        at = tries.into_iter().find(|&at| word(block, at) == value_words(Value::Object(0))[0]).unwrap_or(at);
+    }
+    let old = [0, 2, 4].map(|byte| word(block, at + byte));
+    let objects = word(block, Area::Objects.count_at());
+    let mut new = match damage {
+        ValueDamage::Null => value_words(Value::Null),
+        ValueDamage::Object => {
+            let past = objects.wrapping_add(rng.below(2) as u16);
+            let object = if rng.one_in(3) { past } else { rng.below(objects as usize) as u16 };
+            value_words(Value::Object(object))
+        }
+        ValueDamage::Number => value_words(Value::Number(rng.number())),
+        ValueDamage::Kind | ValueDamage::Word => old,
+    };
+    match damage {
+        ValueDamage::Kind => new[0] = 3 + rng.word() / 2,
+        ValueDamage::Word => new[rng.below(VALUE)] = [0, 1, 2, rng.word()][rng.below(4)],
+        ValueDamage::Null | ValueDamage::Object | ValueDamage::Number => {}
+    }
+    for (index, word) in new.into_iter().enumerate() {
+        set_word(block, at + 2 * index, word);
+    }
+    (new != old).then_some(())
+}
+
 fn exchange(block: &mut [u8], area: Area, rng: &mut Rng) -> Option<()> {
     let (one, other) = (some_record(block, area, rng)?, some_record(block, area, rng)?);
     let words = if rng.one_in(2) { 0..area.width() } else { some_column(area, rng) };
@@ -118,8 +211,10 @@ fn copy_closure(block: &mut [u8], rng: &mut Rng) -> Option<()> {
 
 fn change_focus(block: &mut [u8], rng: &mut Rng) -> Option<()> {
     let position = some_record(block, Area::Positions, rng)?.start;
-    let (node, environment, value) = (rng.below(40) as u16, rng.below(4) as u16, rng.below(4) as u16);
-    let words = [[1, node, environment, 0], [2, 0, 0, value], [3, 0, 0, 0]][rng.below(3)];
+    let (node, environment, object) = (rng.below(40) as u16, rng.below(4) as u16, rng.below(4) as u16);
+    let value = [Value::Null, Value::Object(object), Value::Number(rng.number())][rng.below(3)];
+    let [kind, low, high] = value_words(value);
+    let words = [[1, node, environment, 0, 0, 0], [2, 0, 0, kind, low, high], [3, 0, 0, 0, 0, 0]][rng.below(3)];
     for (index, word) in words.into_iter().enumerate() {
         set_word(block, position + 2 * index, word);
     }

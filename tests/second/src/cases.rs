@@ -3,11 +3,16 @@
 use crate::block;
 use crate::block_damage::{damage, Edit};
 use crate::configure::configuration;
+use crate::counters::counters;
 use crate::generate::{any, long_running, well_typed, Rng};
 use crate::program::Program;
 use crate::state::State;
+use crate::types::Type;
 use crate::walk::{reachable, walk};
 use crate::{FLAGS, MOST_CHOICES};
+
+/// How long a block was before there were numbers.
+const BEFORE_NUMBERS: usize = 49_152;
 
 /// How a block came to be.
 #[derive(Clone, Copy, Debug, PartialEq, Eq, PartialOrd, Ord)]
@@ -35,7 +40,7 @@ pub struct Case {
 
 /// Any case worth trying.
 pub fn any_case(rng: &mut Rng) -> Case {
-    let script = if rng.one_in(4) { well_typed(rng) } else { long_running(rng) };
+    let script = [well_typed, counters, long_running, long_running][rng.below(4)](rng);
     let Ok(program) = Program::read(&script) else { unreachable!("these scripts are accepted") };
     let made = rng.one_in(2);
     let state = if made { configuration(&program, rng) } else { reachable(&program, rng) };
@@ -43,9 +48,9 @@ pub fn any_case(rng: &mut Rng) -> Case {
     let (choices, flags) = (choices(&program, &state, rng), vec![rng.bits() as u8; FLAGS]);
     let mut case = Case { script, block: block::write(&state), choices, flags, origin };
     match rng.below(16) {
-        0 => make_unfit(&mut case, rng),
+        0 => make_unfit(&mut case, program.types.int, rng),
         1..=7 => {
-            if let Some(edit) = damage(&mut case.block, rng) {
+            if let Some(edit) = damage(&mut case.block, program.types.int, rng) {
                 case.origin = Origin::Damaged(edit);
             }
         }
@@ -62,21 +67,21 @@ pub fn choices(program: &Program, state: &State, rng: &mut Rng) -> Vec<u8> {
 }
 
 /// One or more of the buffers are such that a question about them gets a no.
-fn make_unfit(case: &mut Case, rng: &mut Rng) {
+fn make_unfit(case: &mut Case, int: Type, rng: &mut Rng) {
     case.origin = Origin::Unfit;
     if rng.one_in(3) {
         case.script = any(rng);
     }
     if rng.one_in(2) {
-        let length = [0, 1, block::LENGTH - 1, block::LENGTH + 1][rng.below(4)];
+        damage(&mut case.block, int, rng);
+    }
+    if rng.one_in(2) {
+        let length = [0, BEFORE_NUMBERS, block::LENGTH - 1, block::LENGTH + 1][rng.below(4)];
         case.block.resize(length, 0);
     }
     if rng.one_in(2) {
         case.choices.resize(MOST_CHOICES + 1, 0);
         let length = [0, FLAGS - 1, FLAGS + 1][rng.below(3)];
         case.flags.resize(length, 0);
-    }
-    if rng.one_in(2) {
-        damage(&mut case.block, rng);
     }
 }

@@ -17,7 +17,7 @@ type Scope = Vec<(u16, Type)>;
 struct Place {
     node: u16,
     scope: Scope,
-    /// The inferred type; what ends in null has none and fits everywhere.
+    /// The inferred type; what ends in null has none and fits everywhere but at Int.
     gives: Option<Type>,
     /// For a node that leaves a frame: what the frame waits for.
     takes: Option<Type>,
@@ -67,7 +67,12 @@ fn survey_node(program: &Program, node: u16, scope: &Scope, places: &mut Vec<Pla
     let variable = |name: u16| scope.iter().rev().find(|(other, _)| *other == name).map(|(_, ty)| *ty);
     let types = &program.types;
     let (parts, takes) = match program.expressions[node as usize] {
-        Expr::Null | Expr::Variable { .. } | Expr::Read { .. } | Expr::New { .. } => (vec![], None),
+        Expr::Null
+        | Expr::Variable { .. }
+        | Expr::Read { .. }
+        | Expr::New { .. }
+        | Expr::Number { .. }
+        | Expr::Sum { .. } => (vec![], None),
         Expr::Write { target, field, value } => (vec![value], variable(target).and_then(|ty| types.field(ty, field))),
         Expr::Call { target, method, argument } => {
             let signature = variable(target).and_then(|ty| types.method(ty, method));
@@ -109,8 +114,20 @@ impl Maker<'_> {
         want.is_none_or(|upper| self.program.types.below(lower, upper))
     }
 
-    /// Null, or an object whose class is below the type.
+    /// Whether a place gives what is wanted: its type is below, or it ends in null and null fits.
+    fn place_fits(&self, place: &Place, want: Option<Type>) -> bool {
+        match place.gives {
+            Some(ty) => self.below(ty, want),
+            None => want.is_none_or(|ty| self.program.types.null_fits(ty)),
+        }
+    }
+
+    /// Null, an object whose class is below the type, or a number; at Int always a number.
     fn value(&mut self, want: Option<Type>) -> Value {
+        let int = self.program.types.int;
+        if want == Some(int) || want.is_none() && self.rng.one_in(3) {
+            return Value::Number(self.rng.number());
+        }
         let fitting: Vec<u16> =
             (0..).zip(&self.objects).filter(|(_, object)| self.below(object.class, want)).map(|(at, _)| at).collect();
         if self.rng.one_in(3) {
@@ -152,9 +169,9 @@ impl Maker<'_> {
         self.bind(name, ty, beneath)
     }
 
-    /// How many types the script has, Unit included.
+    /// How many types the script has, Unit and Int included.
     fn types(&self) -> Type {
-        self.program.script.class_type(self.program.script.classes.len())
+        self.program.types.int + 1
     }
 
     /// An environment that was made for a place before, or else a new one, if there is room.
@@ -201,8 +218,8 @@ impl Maker<'_> {
 
     /// A node that fits, with bindings for it.
     fn closure(&mut self, want: Option<Type>) -> Option<Closure> {
-        let fits = |place: &Place| place.gives.is_none_or(|ty| self.below(ty, want));
-        let fitting: Vec<usize> = (0..self.places.len()).filter(|&place| fits(&self.places[place])).collect();
+        let fits = |place: usize| self.place_fits(&self.places[place], want);
+        let fitting: Vec<usize> = (0..self.places.len()).filter(|&place| fits(place)).collect();
         let place = self.rng.pick(&fitting)?;
         let narrower = self.rng.one_in(3);
         let environment = if narrower { self.narrower_environment(place) } else { self.environment(place) };
@@ -211,7 +228,7 @@ impl Maker<'_> {
 
     /// A frame that gives what is wanted, and what it takes.
     fn frame(&mut self, want: Option<Type>) -> Option<(Frame, Option<Type>)> {
-        let gives = |place: &Place| place.takes.is_some() && place.gives.is_none_or(|ty| self.below(ty, want));
+        let gives = |place: &Place| place.takes.is_some() && self.place_fits(place, want);
         let fitting: Vec<usize> = (0..self.places.len()).filter(|&place| gives(&self.places[place])).collect();
         let place = self.rng.pick(&fitting)?;
         let (node, takes) = (self.places[place].node, self.places[place].takes);

@@ -1,5 +1,6 @@
 //! Random damage to a script: most results are refused, each question having its share.
 
+use crate::expr::{CAST, NEW, NUMBER, SUM};
 use crate::generate::Rng;
 use crate::script::{CONTENTS, WIDTHS};
 use std::ops::Range;
@@ -14,7 +15,7 @@ pub fn damage(script: &[u8], rng: &mut Rng) -> Vec<u8> {
 }
 
 fn edit(script: &mut Vec<u8>, rng: &mut Rng) {
-    match rng.below(40) {
+    match rng.below(48) {
         0 => edit_byte(script, rng),
         1 => edit_length(script, rng),
         2 => edit_contents(script, rng),
@@ -31,7 +32,9 @@ fn edit(script: &mut Vec<u8>, rng: &mut Rng) {
         }
         23..=36 => edit_node(script, rng),
         37 => move_records(script, rng),
-        _ => insert_or_remove(script, rng),
+        38 | 39 => insert_or_remove(script, rng),
+        40..=43 => edit_type(script, rng),
+        _ => edit_kind(script, rng),
     }
 }
 
@@ -80,7 +83,7 @@ fn edit_node(script: &mut [u8], rng: &mut Rng) {
     let (Some(node), Some(model)) = (some_record(script, rng, 5..6), some_record(script, rng, 5..6)) else {
         return;
     };
-    let is_leaf = |node: &Range<usize>| [0, 1, 2, 6].contains(&word(script, node.start));
+    let is_leaf = |node: &Range<usize>| [0, 1, 2, NEW, NUMBER, SUM].contains(&word(script, node.start));
     let [a, b, c] = [2, 4, 6].map(|at| node.start + at);
     let small = rng.below(9) as u16;
     match word(script, node.start) {
@@ -92,9 +95,59 @@ fn edit_node(script: &mut [u8], rng: &mut Rng) {
             set_word(script, part, last);
             set_word(script, c, first);
         }
-        1..=7 | 9 => set_word(script, a, small),
+        SUM if rng.one_in(2) => set_word(script, b, small),
+        1..=7 | 9 | SUM => set_word(script, a, small),
         _ => {}
     }
+}
+
+/// A type word becomes one of the last types, a class, Int or the number behind it, or Unit.
+fn edit_type(script: &mut [u8], rng: &mut Rng) {
+    let section = 1 + rng.below(5);
+    let record = match section {
+        5 => {
+            let kind = [NEW, CAST][rng.below(2)];
+            some_node(script, rng, kind)
+        }
+        _ => some_record(script, rng, section..section + 1),
+    };
+    let columns: &[usize] = match section {
+        1 | 4 => &[1, 2],
+        2 => &[0],
+        _ => &[1],
+    };
+    let (Some(record), Some(column)) = (record, rng.pick(columns)) else {
+        return;
+    };
+    let int = word(script, 2).wrapping_add(word(script, 10)).wrapping_add(1); // I+C+1
+    let new = [int.wrapping_sub(1), int, int, int.wrapping_add(1), 0][rng.below(5)];
+    set_word(script, record.start + 2 * column, new);
+}
+
+/// A node's kind becomes a constant's, a sum's or one past it, or such a node's last word is no longer 0.
+fn edit_kind(script: &mut [u8], rng: &mut Rng) {
+    let kind = [NUMBER, SUM][rng.below(2)];
+    let (Some(node), number) = (some_record(script, rng, 5..6), some_node(script, rng, kind)) else {
+        return;
+    };
+    let small = rng.below(9) as u16;
+    match (rng.below(4), number) {
+        (0, _) => set_word(script, node.start, [NUMBER, SUM, SUM + 1][rng.below(3)]),
+        (1, Some(number)) => set_word(script, number.start + 6, 1 + small),
+        // In order by itself, but parts that it had are then used by nobody.
+        _ => {
+            let words = [[NUMBER, rng.word(), rng.word(), 0], [SUM, small, rng.below(4) as u16, 0]][rng.below(2)];
+            for (index, word) in words.into_iter().enumerate() {
+                set_word(script, node.start + 2 * index, word);
+            }
+        }
+    }
+}
+
+/// A node of this kind, if one is met in a few tries.
+fn some_node(script: &[u8], rng: &mut Rng, kind: u16) -> Option<Range<usize>> {
+    let mut tries = (0..16).filter_map(|_| some_record(script, rng, 5..6));
+    tries.find(|node| word(script, node.start) == kind)
 }
 
 /// Two records of a section change places, or one takes the other's.

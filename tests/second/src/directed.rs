@@ -1,6 +1,6 @@
 //! Scripts with one fault of a chosen kind, and scripts at the limits.
 
-use crate::expr::{parts_mut, CAST, NEW};
+use crate::expr::{parts_mut, CAST, NEW, NUMBER, SUM};
 use crate::generate::{program, Rng};
 use crate::script::{Script, Section, CONTENTS, LIMITS, LONGEST};
 use std::collections::BTreeSet;
@@ -78,23 +78,21 @@ fn break_counts(script: &mut Script, rng: &mut Rng) -> Option<Vec<u8>> {
 
 fn break_type(script: &mut Script, rng: &mut Rng) -> Option<Vec<u8>> {
     let interfaces = script.interfaces.len();
-    let past = script.class_type(script.classes.len());
-    let past = [past, past + 1, 65_535][rng.below(3)];
-    let no_interface = [0, interfaces as u16 + 1][rng.below(2)];
-    let no_class = [0, rng.below(interfaces + 1) as u16][rng.below(2)];
-    let wrong_in_node = |kind: u16| match kind {
-        NEW => Some(no_class),
-        CAST => Some(past),
-        _ => None,
-    };
-    let mut words: [Vec<(&mut u16, u16)>; 5] = [
+    let int = script.int_type();
+    let past = [int + 1, int + 2, 65_535][rng.below(3)];
+    let no_interface = [0, interfaces as u16 + 1, int][rng.below(3)];
+    let no_class = [rng.below(interfaces + 1) as u16, int, int, int + 1][rng.below(4)];
+    let (news, casts): (Vec<_>, Vec<_>) =
+        script.nodes.iter_mut().filter(|node| [NEW, CAST].contains(&node[0])).partition(|node| node[0] == NEW);
+    let mut words: [Vec<(&mut u16, u16)>; 6] = [
         script.signatures.iter_mut().flat_map(|record| &mut record[1..]).map(|word| (word, past)).collect(),
         script.classes.iter_mut().map(|record| (&mut record[0], no_interface)).collect(),
         script.fields.iter_mut().map(|record| (&mut record[1], past)).collect(),
         script.methods.iter_mut().flat_map(|record| &mut record[1..3]).map(|word| (word, past)).collect(),
-        script.nodes.iter_mut().filter_map(|[kind, a, ..]| Some((a, wrong_in_node(*kind)?))).collect(),
+        news.into_iter().map(|node| (&mut node[1], no_class)).collect(),
+        casts.into_iter().map(|node| (&mut node[1], past)).collect(),
     ];
-    let section = &mut words[rng.below(5)];
+    let section = &mut words[rng.below(6)];
     let at = rng.below(section.len());
     let (word, wrong) = section.get_mut(at)?;
     **word = *wrong;
@@ -107,8 +105,8 @@ fn break_node(script: &mut Script, rng: &mut Rng) -> Option<Vec<u8>> {
     let other = [0, index, rng.below(count), count, 65_535][rng.below(5)] as u16;
     let node = &mut script.nodes[index];
     match rng.below(6) {
-        0 => node[0] = [10, 65_535][rng.below(2)],
-        1 if [0, 1, 2, NEW, CAST, 9].contains(&node[0]) => node[3] = 1 + rng.word() / 2,
+        0 => node[0] = [SUM + 1, 65_535][rng.below(2)],
+        1 if [0, 1, 2, NEW, CAST, 9, NUMBER, SUM].contains(&node[0]) => node[3] = 1 + rng.word() / 2,
         2 if node[0] == 5 => node[1] = rng.below(2) as u16,
         3 => *parts_mut(node).iter_mut().last().filter(|part| **part != other)? = other,
         4 if count < LIMITS[5] => script.nodes.push([0; 4]), // used by nobody
@@ -159,7 +157,7 @@ fn signatures_of(script: &Script) -> Vec<BTreeSet<usize>> {
 }
 
 fn another_type(script: &Script, ty: u16, rng: &mut Rng) -> u16 {
-    let types = script.class_type(script.classes.len());
+    let types = script.int_type() + 1;
     (ty + 1 + rng.below(types as usize - 1) as u16) % types
 }
 

@@ -15,10 +15,24 @@ pub enum Expr {
     Cast { ty: u16, operand: u16 },
     Fork { left: u16, right: u16, last: u16 },
     Lock { target: u16, body: u16 },
+    Number { number: i32 },
+    Sum { one: u16, other: u16 },
 }
 
 pub const NEW: u16 = 6;
 pub const CAST: u16 = 7;
+pub const NUMBER: u16 = 10;
+pub const SUM: u16 = 11;
+
+/// "A low word, b high word, two's complement".
+pub fn number(low: u16, high: u16) -> i32 {
+    (u32::from(high) << 16 | u32::from(low)) as i32
+}
+
+/// The low and the high word of a number.
+pub fn number_words(number: i32) -> [u16; 2] {
+    [number as u16, (number >> 16) as u16]
+}
 
 impl Expr {
     /// Question 7's own-word demands: "a known kind, unused words 0, a let variable of 2 or more".
@@ -34,20 +48,24 @@ impl Expr {
             [CAST, ty, operand, 0] => Expr::Cast { ty, operand },
             [8, left, right, last] => Expr::Fork { left, right, last },
             [9, target, body, 0] => Expr::Lock { target, body },
+            [NUMBER, low, high, 0] => Expr::Number { number: number(low, high) },
+            [SUM, one, other, 0] => Expr::Sum { one, other },
             _ => return None,
         })
     }
 
-    /// The variable that the node names, to use it or to bind it.
-    pub fn variable_mut(&mut self) -> Option<&mut u16> {
-        match self {
-            Expr::Variable { variable } | Expr::Let { variable, .. } => Some(variable),
+    /// The variables that the node names, to use them or to bind one; only a sum names two.
+    pub fn variables_mut(&mut self) -> impl Iterator<Item = &mut u16> {
+        let named = match self {
+            Expr::Variable { variable } | Expr::Let { variable, .. } => [Some(variable), None],
             Expr::Read { target, .. }
             | Expr::Write { target, .. }
             | Expr::Call { target, .. }
-            | Expr::Lock { target, .. } => Some(target),
-            Expr::Null | Expr::New { .. } | Expr::Cast { .. } | Expr::Fork { .. } => None,
-        }
+            | Expr::Lock { target, .. } => [Some(target), None],
+            Expr::Sum { one, other } => [Some(one), Some(other)],
+            Expr::Null | Expr::New { .. } | Expr::Cast { .. } | Expr::Fork { .. } | Expr::Number { .. } => [None, None],
+        };
+        named.into_iter().flatten()
     }
 }
 

@@ -1,9 +1,9 @@
 //! Random scripts: a seeded generator of numbers, and of well-typed scripts that use every kind
 //! of node. It has its own model of types, so that it does not share the checker's mistakes.
 
-use crate::expr::{parts, parts_mut};
+use crate::expr::{number_words, parts, parts_mut, NUMBER, SUM};
 use crate::script::{Script, LIMITS};
-use crate::{damage::damage, directed::directed};
+use crate::{counters::counters, damage::damage, directed::directed};
 use std::collections::{BTreeMap, BTreeSet};
 
 /// SplitMix64: small, seedable, the same everywhere.
@@ -36,6 +36,18 @@ impl Rng {
         from.get(self.below(from.len())).copied()
     }
 
+    /// A number of Int: often around 0 or near an end of the range, else any.
+    pub fn number(&mut self) -> i32 {
+        let near = self.below(5) as i32;
+        match self.below(8) {
+            0..=3 => near - 2,
+            4 => i32::MAX - near,
+            5 => i32::MIN + near,
+            6 => (self.bits() as i32) >> (8 * self.below(4)),
+            _ => self.bits() as i32,
+        }
+    }
+
     /// Mostly a small word, as type, name, variable and node numbers are; sometimes any.
     pub fn word(&mut self) -> u16 {
         let bound = [4, 12, 80, 1 << 16][self.below(4)];
@@ -46,13 +58,15 @@ impl Rng {
 /// Any script worth trying: well typed, damaged or with one directed fault.
 pub fn any(rng: &mut Rng) -> Vec<u8> {
     match rng.below(8) {
-        0 | 1 => well_typed(rng),
+        0 => well_typed(rng),
+        1 if rng.one_in(2) => well_typed(rng),
+        1 => counters(rng),
         2 | 3 => {
             let number = 1 + rng.below(15) as u16;
             directed(number, rng).script
         }
         _ => {
-            let script = well_typed(rng);
+            let script = if rng.one_in(8) { counters(rng) } else { well_typed(rng) };
             damage(&script, rng)
         }
     }
@@ -88,7 +102,7 @@ fn build(rng: &mut Rng, sizes: [usize; 6], generator: Generator) -> (Script, Opt
     let [interfaces, signatures, classes, fields, methods, nodes] = sizes;
     let mut generator = Generator {
         rng: Rng::new(rng.bits()),
-        types: 1 + interfaces + classes,
+        types: 2 + interfaces + classes,
         variables: [3, 8, 65_534][rng.below(3)],
         deep: rng.one_in(3),
         ..generator
@@ -124,7 +138,7 @@ fn sizes(rng: &mut Rng) -> [usize; 6] {
 
 /// Renumbers the nodes at random so that parts come after their node and the start, kept at 0,
 /// comes first; drops nodes not reached. Answers the new numbers.
-fn lay_out(script: &mut Script, rng: &mut Rng) -> Vec<u16> {
+pub(crate) fn lay_out(script: &mut Script, rng: &mut Rng) -> Vec<u16> {
     let mut numbers = vec![0; script.nodes.len()];
     let mut order = vec![0];
     let mut ready: Vec<u16> = parts(&script.nodes[0]).to_vec();
@@ -169,6 +183,7 @@ impl Goal {
 struct Generator {
     rng: Rng,
     script: Script,
+    /// How many types there are; the last is Int.
     types: usize,
     /// How many variables a let may bind: few, for shadowing, or many, for large environments.
     variables: usize,
@@ -195,7 +210,15 @@ impl Generator {
         self.fields.push(fields);
     }
 
+    fn int(&self) -> u16 {
+        self.types as u16 - 1
+    }
+
+    /// A quarter of the types that are declared are Int.
     fn any_type(&mut self) -> u16 {
+        if self.rng.one_in(4) {
+            return self.int();
+        }
         self.rng.below(self.types) as u16
     }
 
@@ -283,6 +306,7 @@ impl Generator {
             above.insert(self.script.class_type(index));
             self.add_type(above, own, own_fields);
         }
+        self.add_type(BTreeSet::from([self.int()]), vec![], vec![]);
     }
 
     /// Writes the bodies and the start, with at most `nodes` nodes if that is enough.
@@ -307,6 +331,7 @@ impl Generator {
         self.script.nodes[0] = self.script.nodes[start as usize];
         self.script.nodes.truncate(start as usize); // it was the last
         self.faulty = self.faulty.map(|node| if node == start { 0 } else { node });
+        // Casts to the start's type fill the file up.
         while nodes == LIMITS[5] && self.script.nodes.len() < nodes {
             let operand = self.emit(self.script.nodes[0]);
             self.script.nodes[0] = [7, ty, operand, 0];
@@ -362,19 +387,44 @@ impl Generator {
 
     /// An expression that fits where `wanted` is checked, with at most `budget` (1 or more) nodes.
     fn checked(&mut self, wanted: u16, budget: usize) -> u16 {
-        if let Some(node) = self.occasion(14).and_then(|_| self.unfit(wanted, budget)) {
+        if let Some(node) = self.occasion(14).and_then(|_| self.faulty_where(wanted, budget)) {
             self.at_fault(self.innermost(node));
             return node;
         }
         let null_in = if self.long_running { 40 } else { 8 };
         if self.rng.one_in(null_in) {
-            return self.emit([0; 4]);
+            return self.null_or_number(wanted);
         }
         if budget >= 2 {
             return self.not_null(Goal::Checked(wanted), budget).0;
         }
         let leaf = self.long_running.then(|| self.variable_or_new(Some(wanted))).flatten();
-        leaf.map_or_else(|| self.emit([0; 4]), |(node, _)| node)
+        leaf.map_or_else(|| self.null_or_number(wanted), |(node, _)| node)
+    }
+
+    /// An expression that gets a no to question 14 where `wanted` is checked.
+    fn faulty_where(&mut self, wanted: u16, budget: usize) -> Option<u16> {
+        let sum = if self.rng.one_in(3) { self.faulty(14) } else { None };
+        sum.or_else(|| self.unfit(wanted, budget))
+    }
+
+    /// A null, or a constant where null does not fit.
+    fn null_or_number(&mut self, wanted: u16) -> u16 {
+        if wanted == self.int() {
+            return self.constant();
+        }
+        self.emit([0; 4])
+    }
+
+    fn constant(&mut self) -> u16 {
+        let [low, high] = number_words(self.rng.number());
+        self.emit([NUMBER, low, high, 0])
+    }
+
+    /// The variables of type Int that may be used here.
+    fn numbers(&self) -> Vec<u16> {
+        let int = self.int();
+        self.environment.iter().filter(|(_, ty)| **ty == int).map(|(variable, _)| *variable).collect()
     }
 
     /// An expression of an inferred type below `goal`, with at most `budget` (2 or more) nodes.
@@ -388,7 +438,7 @@ impl Generator {
 
     /// An expression for a goal that is no null itself.
     fn not_null(&mut self, goal: Goal, budget: usize) -> (u16, u16) {
-        for number in [11, 13, 15] {
+        for number in [11, 13, 14, 15] {
             if let Some(node) = self.occasion(number).and_then(|_| self.faulty(number)) {
                 return (self.at_fault(node), goal.upper().unwrap_or(0));
             }
@@ -398,8 +448,8 @@ impl Generator {
             let kind = match grow {
                 true if self.long_running => [3, 4, 5, 5, 5, 7, 8, 9, 9][self.rng.below(9)],
                 true => [3, 4, 5, 5, 7, 8, 9][self.rng.below(7)],
-                false if self.long_running => [1, 1, 4, 5, 6, 6, 8, 9][self.rng.below(8)],
-                false => 1 + self.rng.below(9),
+                false if self.long_running => [1, 1, 4, 5, 6, 6, 8, 9, 10, 11, 11][self.rng.below(11)],
+                false => 1 + self.rng.below(11),
             };
             if let Some(made) = self.attempt(kind, goal, budget) {
                 return made;
@@ -408,14 +458,23 @@ impl Generator {
         if let Some(made) = self.long_running.then(|| self.variable_or_new(goal.upper())).flatten() {
             return made;
         }
-        let (ty, null) = (self.type_below(goal.upper()), self.emit([0; 4]));
-        (self.emit([7, ty, null, 0]), ty)
+        let ty = self.type_below(goal.upper());
+        (self.cast_leaf(ty), ty)
     }
 
-    /// A variable, so that an object gets a second name, or else a new object.
+    /// A null or a constant, cast to this type.
+    fn cast_leaf(&mut self, ty: u16) -> u16 {
+        let operand = self.null_or_number(ty);
+        self.emit([7, ty, operand, 0])
+    }
+
+    /// A variable, so that an object gets a second name, or else a new object; of type Int a sum or a constant.
     fn variable_or_new(&mut self, goal: Option<u16>) -> Option<(u16, u16)> {
-        let first = [1, 6][self.rng.below(2)];
-        [first, 1, 6, 6, 6].into_iter().find_map(|kind| self.attempt(kind, Goal::Inferred(goal), 2))
+        let kinds = match goal == Some(self.int()) || goal.is_none() && self.rng.one_in(4) {
+            true => [[1, 11][self.rng.below(2)], 11, 10, 10, 10],
+            false => [[1, 6][self.rng.below(2)], 1, 6, 6, 6],
+        };
+        kinds.into_iter().find_map(|kind| self.attempt(kind, Goal::Inferred(goal), 2))
     }
 
     fn attempt(&mut self, kind: usize, aim: Goal, budget: usize) -> Option<(u16, u16)> {
@@ -440,7 +499,8 @@ impl Generator {
             5 if budget >= 5 => self.binding(aim, budget),
             6 => {
                 let class = self.type_below(goal);
-                (class as usize > self.script.interfaces.len()).then_some(([6, class, 0, 0], class))?
+                let is_class = class as usize > self.script.interfaces.len() && class < self.int();
+                is_class.then_some(([6, class, 0, 0], class))?
             }
             7 => {
                 let ty = self.type_below(goal);
@@ -448,9 +508,14 @@ impl Generator {
             }
             8 if budget >= 7 => self.forking(aim, budget),
             9 if budget >= 3 => {
-                let (target, _) = self.some_variable()?;
+                let (target, _) = self.some_variable().filter(|&(_, ty)| ty != self.int())?;
                 let (body, ty) = self.last_part(aim, budget - 1);
                 ([9, target, body, 0], ty)
+            }
+            10 if self.fits(self.int(), goal) => return Some((self.constant(), self.int())),
+            11 if self.fits(self.int(), goal) => {
+                let numbers = self.numbers();
+                ([SUM, self.rng.pick(&numbers)?, self.rng.pick(&numbers)?, 0], self.int())
             }
             _ => return None,
         };
@@ -461,7 +526,7 @@ impl Generator {
     fn last_part(&mut self, goal: Goal, budget: usize) -> (u16, u16) {
         let null_in = if self.long_running { 12 } else { 6 };
         match goal {
-            Goal::Checked(_) if self.rng.one_in(null_in) => (self.emit([0; 4]), 0),
+            Goal::Checked(wanted) if self.rng.one_in(null_in) => (self.null_or_number(wanted), 0),
             Goal::Checked(wanted) => (self.checked(wanted, budget), wanted),
             Goal::Inferred(goal) => self.inferred(goal, budget),
         }
@@ -524,7 +589,7 @@ impl Generator {
         }
     }
 
-    /// An expression that gets a no to question 11, 13 or 15, and is otherwise in order.
+    /// An expression that gets a no to question 11, 13, 14 or 15, and is otherwise in order.
     fn faulty(&mut self, number: u16) -> Option<u16> {
         let node = match number {
             11 => {
@@ -533,17 +598,28 @@ impl Generator {
                     return None;
                 }
                 let (name, part) = (self.rng.below(10) as u16, self.emit([0; 4]));
+                // The other variable of a sum is of any type, or unbound too.
+                let other = self.some_variable().map_or(target, |(variable, _)| variable);
                 self.rng.pick(&[
                     [1, target, 0, 0],
                     [2, target, name, 0],
                     [3, target, name, part],
                     [4, target, name, part],
                     [9, target, part, 0],
+                    [SUM, target, other, 0],
+                    [SUM, other, target, 0],
                 ])?
             }
             13 => {
-                let (target, ty) = self.some_variable()?;
-                let kind = 2 + self.rng.below(3) as u16;
+                let numbers = self.numbers();
+                let number = self.rng.pick(&numbers).filter(|_| self.rng.one_in(2)).map(|target| (target, self.int()));
+                let (target, ty) = number.or_else(|| self.some_variable())?;
+                let kind =
+                    if ty == self.int() { [2, 3, 4, 9, 9][self.rng.below(5)] } else { [2, 3, 4][self.rng.below(3)] };
+                if kind == 9 {
+                    let part = self.emit([0; 4]);
+                    return Some(self.emit([9, target, part, 0]));
+                }
                 let name = self.rng.word();
                 let has_field = self.fields[ty as usize].iter().any(|field| field[0] == name);
                 let has_method = self.methods[ty as usize].iter().any(|method| method[0] == name);
@@ -551,6 +627,13 @@ impl Generator {
                     return None;
                 }
                 [kind, target, name, if kind == 2 { 0 } else { self.emit([0; 4]) }]
+            }
+            14 => {
+                let (one, other) = (self.some_variable()?, self.some_variable()?);
+                if [one.1, other.1] == [self.int(); 2] {
+                    return None;
+                }
+                [SUM, one.0, other.0, 0]
             }
             _ => {
                 let (shared, _) = self.some_variable()?;
@@ -565,7 +648,10 @@ impl Generator {
     /// An inferred expression in which the variable is free, somewhere within.
     fn use_of(&mut self, variable: u16) -> u16 {
         if self.rng.one_in(2) {
-            return self.emit([1, variable, 0, 0]);
+            let numbers = self.numbers();
+            let other = self.rng.pick(&numbers).filter(|_| numbers.contains(&variable) && !self.rng.one_in(3));
+            let sums = other.map(|other| [[SUM, variable, other, 0], [SUM, other, variable, 0]][self.rng.below(2)]);
+            return self.emit(sums.unwrap_or([1, variable, 0, 0]));
         }
         let usage = self.use_of(variable);
         let [one, two] = [(); 2].map(|_| self.unfaulty_leaf());
@@ -578,20 +664,40 @@ impl Generator {
             [8, one, two, usage],
             [9, variable, one, 0],
         ];
-        let wrapping = self.rng.below(wrapped.len());
+        let lockable = self.environment.get(&variable) != Some(&self.int());
+        let wrapping = self.rng.below(wrapped.len() - usize::from(!lockable));
         self.emit(wrapped[wrapping])
     }
 
     fn unfaulty_leaf(&mut self) -> u16 {
-        let (ty, null) = (self.any_type(), self.emit([0; 4]));
-        self.emit([7, ty, null, 0])
+        let ty = self.any_type();
+        self.cast_leaf(ty)
     }
 
-    /// A well-typed expression that does not fit where `wanted` is checked.
+    /// A well-typed expression that does not fit where `wanted` is checked; at Int often what ends in null.
     fn unfit(&mut self, wanted: u16, budget: usize) -> Option<u16> {
+        if wanted == self.int() && self.rng.one_in(2) {
+            return Some(self.ending_in_null());
+        }
         let fault = self.fault.take();
         let tries: [(u16, u16); 6] = std::array::from_fn(|_| self.inferred(None, budget.clamp(2, 20)));
         self.fault = fault;
         tries.into_iter().find(|&(_, ty)| !self.fits(ty, Some(wanted))).map(|(node, _)| node)
+    }
+
+    /// A null, or a let, a lock or a fork that ends in one.
+    fn ending_in_null(&mut self) -> u16 {
+        if self.rng.one_in(2) {
+            return self.emit([0; 4]);
+        }
+        let last = self.ending_in_null();
+        let [one, two] = [(); 2].map(|_| self.unfaulty_leaf());
+        let target = self.some_variable().filter(|&(_, ty)| ty != self.int());
+        let wrapped = match (self.rng.below(3), target) {
+            (0, Some((target, _))) => [9, target, last, 0],
+            (1, _) => [8, one, two, last],
+            _ => [5, 2 + self.rng.below(self.variables) as u16, one, last],
+        };
+        self.emit(wrapped)
     }
 }

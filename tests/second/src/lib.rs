@@ -6,6 +6,7 @@ pub mod block_damage;
 mod calls;
 pub mod cases;
 pub mod configure;
+pub mod counters;
 pub mod damage;
 pub mod directed;
 pub mod expr;

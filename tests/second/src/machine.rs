@@ -104,9 +104,7 @@ impl Machine<'_> {
         let Expr::Lock { target, .. } = self.program.expressions[at.node as usize] else {
             return None;
         };
-        let Value::Object(object) = value_of(&self.state.bindings, at.environment, target) else {
-            return None;
-        };
+        let object = value_of(&self.state.bindings, at.environment, target).target()?;
         self.state.objects[object as usize].shut.then_some(object)
     }
 
@@ -157,6 +155,14 @@ fn value_of(bindings: &[Binding], environment: Environment, name: u16) -> Value 
     nearest.expect("well-formed expressions have their variables bound").value
 }
 
+/// "A sum outside the range fails the thread as null does."
+fn add(one: Value, other: Value) -> Focus {
+    let (Value::Number(one), Value::Number(other)) = (one, other) else {
+        unreachable!("well-typed sums are of numbers")
+    };
+    one.checked_add(other).map_or(Focus::Failed, |sum| Focus::Value(Value::Number(sum)))
+}
+
 /// A thread about to move: the stores, its own frames, and what it holds.
 struct Thread<'a> {
     program: &'a Program,
@@ -175,6 +181,8 @@ impl Thread<'_> {
         let part = |node: u16| Closure { node, environment: at.environment };
         match self.program.expressions[at.node as usize] {
             Expr::Null => Ok(Focus::Value(Value::Null)),
+            Expr::Number { number } => Ok(Focus::Value(Value::Number(number))),
+            Expr::Sum { one, other } => Ok(add(self.value(at, one), self.value(at, other))),
             Expr::Variable { variable } => Ok(Focus::Value(self.value(at, variable))),
             Expr::Read { target, field } => Ok(self.read(at, target, field)),
             Expr::Write { value: first, .. } | Expr::Call { argument: first, .. } | Expr::Let { bound: first, .. } => {
@@ -196,7 +204,7 @@ impl Thread<'_> {
 
     /// "A read gives the field"; "null fails the thread".
     fn read(&self, at: Closure, target: u16, field: u16) -> Focus {
-        let Value::Object(object) = self.value(at, target) else {
+        let Some(object) = self.value(at, target).target() else {
             return Focus::Failed;
         };
         Focus::Value(self.objects[object as usize].fields[self.field_index(object, field)])
@@ -216,12 +224,14 @@ impl Thread<'_> {
         Ok(Focus::Node(next))
     }
 
-    /// "New makes an open object with null fields."
+    /// "New makes an open object"; "the initial value of a field now follows its type, null or 0".
     fn create(&mut self, class: Type) -> Result<Focus, Unmoved> {
         if self.objects.len() == MOST_OBJECTS {
             return Err(Unmoved::Full(Stop::ObjectsFull));
         }
-        let fields = vec![Value::Null; self.program.types.fields(class).len()];
+        let types = &self.program.types;
+        let initial = |ty: Type| if ty == types.int { Value::Number(0) } else { Value::Null };
+        let fields = types.fields(class).iter().map(|&[_, ty]| initial(ty)).collect();
         self.objects.push(Object { class, shut: false, fields });
         Ok(Focus::Value(Value::Object(self.objects.len() as u16 - 1)))
     }
@@ -238,7 +248,7 @@ impl Thread<'_> {
     /// "Null fails; open shuts and leaves a lock frame; held by this thread enters with no frame;
     /// shut and not held by this thread cannot move."
     fn lock(&mut self, target: Value, body: Closure) -> Result<Focus, Unmoved> {
-        let Value::Object(object) = target else {
+        let Some(object) = target.target() else {
             return Ok(Focus::Failed);
         };
         if self.held.contains(&object) {
@@ -289,6 +299,7 @@ impl Thread<'_> {
             Expr::New { class } => Some(class),
             Expr::Cast { ty, .. } => Some(ty),
             Expr::Write { .. } => Some(UNIT),
+            Expr::Number { .. } | Expr::Sum { .. } => Some(types.int),
             Expr::Variable { variable } => nearest(variable),
             Expr::Read { target, field } => nearest(target).and_then(|ty| types.field(ty, field)),
             Expr::Call { target, method, .. } => {
@@ -303,7 +314,7 @@ impl Thread<'_> {
 
     /// "A waiting write stores and gives null."
     fn write(&mut self, target: Value, field: u16, value: Value) -> Focus {
-        let Value::Object(object) = target else {
+        let Some(object) = target.target() else {
             return Focus::Failed;
         };
         let index = self.field_index(object, field);
@@ -314,7 +325,7 @@ impl Thread<'_> {
     /// "Adds two, this with the object's class and the parameter with its declared type, and
     /// enters the body with no others."
     fn call(&mut self, target: Value, method: u16, argument: Value) -> Result<Focus, Unmoved> {
-        let Value::Object(object) = target else {
+        let Some(object) = target.target() else {
             return Ok(Focus::Failed);
         };
         let class = self.objects[object as usize].class;

@@ -153,4 +153,9 @@ impl Script {
     pub fn class_type(&self, index: usize) -> u16 {
         (1 + self.interfaces.len() + index) as u16
     }
+
+    /// "Type I+C+1 is Int": the last type.
+    pub fn int_type(&self) -> u16 {
+        self.class_type(self.classes.len())
+    }
 }

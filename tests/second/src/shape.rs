@@ -39,12 +39,12 @@ fn counts_add_up(script: &Script) -> Result<(), Refusal> {
 
 /// Question 6: "every type word a type, a class's interface an interface, a `new` operand a class".
 fn types_exist(script: &Script) -> Result<(), Refusal> {
-    let (interfaces, types) = (script.class_type(0) - 1, script.class_type(script.classes.len()));
-    let is_type = |ty: u16| ty < types;
+    let (interfaces, int) = (script.class_type(0) - 1, script.int_type());
+    let is_type = |ty: u16| ty <= int;
     let are_types = |parameter: u16, result: u16| is_type(parameter) && is_type(result);
     let is_interface = |ty: u16| (1..=interfaces).contains(&ty);
     let node_fits = |kind: u16, a: u16| match kind {
-        NEW => a > interfaces && is_type(a),
+        NEW => a > interfaces && a < int,
         CAST => is_type(a),
         _ => true,
     };

@@ -12,6 +12,18 @@ pub const MOST_THREADS: usize = 32;
 pub enum Value {
     Null,
     Object(u16),
+    Number(i32),
+}
+
+impl Value {
+    /// The object that is asked for a field, a method or its lock; none where the target is null.
+    pub fn target(self) -> Option<u16> {
+        match self {
+            Value::Null => None,
+            Value::Object(object) => Some(object),
+            Value::Number(_) => unreachable!("well-typed targets are no numbers"),
+        }
+    }
 }
 
 #[derive(Clone, Debug, PartialEq, Eq)]

@@ -5,7 +5,7 @@ use crate::{Question, Refusal};
 use std::collections::HashSet;
 use std::ops::Range;
 
-/// 0 is Unit, then come the interfaces, then the classes.
+/// 0 is Unit, then come the interfaces, then the classes, and at the end Int.
 pub type Type = u16;
 pub const UNIT: Type = 0;
 /// "Has each class at most 8 fields?"
@@ -22,11 +22,13 @@ pub struct Signature {
 /// Tables by type number, each built once so that no chain is walked again by a later question.
 pub struct Types {
     interfaces: Type,
+    /// "Type I+C+1 is Int, a signed 32-bit number."
+    pub int: Type,
     /// Bit i: the type is below interface i+1. (Above a type are only itself and interfaces.)
     ancestors: Vec<u64>,
     /// The methods, sorted by name, each name once.
     methods: Vec<Vec<Signature>>,
-    /// The field records of a class; Unit and interfaces have none.
+    /// The field records of a class; Unit, interfaces and Int have none.
     fields: Vec<Vec<[u16; 2]>>,
 }
 
@@ -35,9 +37,11 @@ impl Types {
     pub fn of(script: &Script) -> Result<Types, Refusal> {
         names_are_unique(script)?;
         let interfaces = script.interfaces.len() as Type;
-        let mut types = Types { interfaces, ancestors: vec![0], methods: vec![vec![]], fields: vec![vec![]] };
+        let int = script.int_type();
+        let mut types = Types { interfaces, int, ancestors: vec![0], methods: vec![vec![]], fields: vec![vec![]] };
         types.add_interfaces(script)?;
         types.add_classes(script)?;
+        types.add(0, vec![], vec![]); // "Int is below only itself", and no target
         Ok(types)
     }
 
@@ -53,9 +57,7 @@ impl Types {
                     .ok_or_else(|| script.refusal(Question::Joins, Section::Interfaces, index))?;
                 (own_bit | self.ancestors[left] | self.ancestors[right], joined)
             };
-            self.ancestors.push(ancestors);
-            self.methods.push(methods);
-            self.fields.push(vec![]);
+            self.add(ancestors, methods, vec![]);
         }
         Ok(())
     }
@@ -68,20 +70,30 @@ impl Types {
             if !self.methods[interface as usize].iter().all(|asked| own.binary_search(asked).is_ok()) {
                 return Err(script.refusal(Question::Classes, Section::Classes, index));
             }
-            self.ancestors.push(self.ancestors[interface as usize]);
-            self.methods.push(own);
-            self.fields.push(script.fields[fields].to_vec());
+            self.add(self.ancestors[interface as usize], own, script.fields[fields].to_vec());
         }
         Ok(())
     }
 
-    /// "A type is below itself, ... and so on upward along every chain. Unit is below only itself."
+    /// The next type.
+    fn add(&mut self, ancestors: u64, methods: Vec<Signature>, fields: Vec<[u16; 2]>) {
+        self.ancestors.push(ancestors);
+        self.methods.push(methods);
+        self.fields.push(fields);
+    }
+
+    /// "A type is below itself, ... and so on upward along every chain. Unit is below only itself", and so is Int.
     pub fn below(&self, lower: Type, upper: Type) -> bool {
         let is_interface = (1..=self.interfaces).contains(&upper);
         lower == upper || is_interface && self.ancestors[lower as usize] >> (upper - 1) & 1 == 1
     }
 
-    /// The method of this name, of a class's own or of an interface; Unit has none.
+    /// "Null does not fit Int", and fits every other type.
+    pub fn null_fits(&self, ty: Type) -> bool {
+        ty != self.int
+    }
+
+    /// The method of this name, of a class's own or of an interface; Unit and Int have none.
     pub fn method(&self, ty: Type, name: u16) -> Option<Signature> {
         let methods = &self.methods[ty as usize];
         methods.binary_search_by_key(&name, |method| method.name).ok().map(|found| methods[found])
@@ -102,7 +114,7 @@ impl Types {
     }
 
     pub fn is_class(&self, ty: Type) -> bool {
-        self.is_type(ty) && ty > self.interfaces
+        ty > self.interfaces && ty < self.int
     }
 }
 

@@ -105,9 +105,28 @@ impl<'a> Typer<'a> {
                 self.infer(last)
             }
             Expr::Lock { target, body } => {
-                self.bound(target, node)?; // "a lock target may have any type"
+                self.lockable(target, node)?;
                 self.infer(body)
             }
+            Expr::Number { .. } => Ok(self.types.int),
+            Expr::Sum { one, other } => self.sum(one, other, node),
+        }
+    }
+
+    /// "Adds variables a and b, both bound (11), then both of type Int (14)".
+    fn sum(&self, one: u16, other: u16, node: u16) -> Result<Type, Refusal> {
+        let int = self.types.int;
+        match [self.bound(one, node)?, self.bound(other, node)?] == [int, int] {
+            true => Ok(int),
+            false => Err(self.refusal(Question::Fits, node)),
+        }
+    }
+
+    /// "A lock target may have any type", but "Int is no target of field, call or lock (13)".
+    fn lockable(&self, target: u16, node: u16) -> Result<(), Refusal> {
+        match self.bound(target, node)? == self.types.int {
+            true => Err(self.refusal(Question::Member, node)),
+            false => Ok(()),
         }
     }
 
@@ -137,19 +156,20 @@ impl<'a> Typer<'a> {
     }
 
     /// Γ ⊢ e ⇐ t, and Γ ⊢ e ⇐ t for some t where none is wanted. "A null is checked against any
-    /// type"; "when a let, a lock or a fork is checked against a type, its last part is checked
+    /// type", but "null does not fit Int (14)"; "when a let, a lock or a fork is checked against a type, its last part is checked
     /// against that same type"; "every other node is checked by inferring and asking whether the
     /// result is below the wanted type"; if not, that node is at fault.
     pub fn check(&mut self, node: u16, wanted: Option<Type>) -> Result<(), Refusal> {
         match self.typing.expressions[node as usize] {
-            Expr::Null => Ok(()),
+            Expr::Null if wanted.is_none_or(|wanted| self.types.null_fits(wanted)) => Ok(()),
+            Expr::Null => Err(self.refusal(Question::Fits, node)),
             Expr::Let { variable, bound, body } => self.binding(variable, bound, |typer| typer.check(body, wanted)),
             Expr::Fork { left, right, last } => {
                 self.asyncs(left, right, node)?;
                 self.check(last, wanted)
             }
             Expr::Lock { target, body } => {
-                self.bound(target, node)?;
+                self.lockable(target, node)?;
                 self.check(body, wanted)
             }
             _ => {
@@ -180,10 +200,10 @@ impl<'a> Typer<'a> {
 /// and sets of variables are small arrays, and answers their names.
 fn renumber_variables(expressions: &mut [Expr]) -> Vec<u16> {
     let mut names = vec![THIS as u16, PARAMETER as u16];
-    names.extend(expressions.iter_mut().filter_map(|expr| expr.variable_mut().copied()));
+    names.extend(expressions.iter_mut().flat_map(|expr| expr.variables_mut().map(|variable| *variable)));
     names.sort_unstable();
     names.dedup();
-    for variable in expressions.iter_mut().filter_map(Expr::variable_mut) {
+    for variable in expressions.iter_mut().flat_map(Expr::variables_mut) {
         *variable = names.partition_point(|name| name < variable) as u16;
     }
     names
@@ -203,7 +223,8 @@ fn sharing_forks(expressions: &[Expr], variables: usize) -> Vec<bool> {
         let own = &mut earlier[node * width..];
         let of = |part: u16| &later[(part as usize - node - 1) * width..][..width];
         match *expr {
-            Expr::Null | Expr::New { .. } => {}
+            Expr::Null | Expr::New { .. } | Expr::Number { .. } => {}
+            Expr::Sum { one, other } => [one, other].into_iter().for_each(|variable| insert(own, variable)),
             Expr::Variable { variable } | Expr::Read { target: variable, .. } => insert(own, variable),
             Expr::Write { target, value: part, .. }
             | Expr::Call { target, argument: part, .. }

@@ -62,15 +62,16 @@ impl<'a> Judge<'a> {
             && binding.beneath.is_none_or(|beneath| beneath < index)
     }
 
-    /// WF-NULL and WF-LOC: null is of every type, an object of those that its class is below.
+    /// WF-NULL and WF-LOC: null is of every type but Int, an object of those that its class is
+    /// below; a number is of type Int.
     fn value_fits(&self, value: Value, want: Want) -> bool {
-        let Value::Object(object) = value else {
-            return true;
-        };
-        let Some(object) = self.state.objects.get(object as usize) else {
-            return false;
-        };
-        self.meets(object.class, want)
+        match value {
+            Value::Null => want.upper().is_none_or(|ty| self.program.types.null_fits(ty)),
+            Value::Object(object) => {
+                self.state.objects.get(object as usize).is_some_and(|object| self.meets(object.class, want))
+            }
+            Value::Number(_) => self.meets(self.program.types.int, want),
+        }
     }
 
     fn meets(&self, ty: Type, want: Want) -> bool {

@@ -19,11 +19,11 @@ fn refused(number: u16, place: u16) -> RunReply {
     RunReply { number, place, stop: 0, read: 0, moves: 0 }
 }
 
-/// "Byte 6 is 1, byte 21,512 is 1, and the other 49,150 bytes are 0."
+/// "Byte 6 is 1, byte 37,896 is 1, and the other 65,534 bytes are 0."
 #[test]
 fn the_block_that_start_writes() {
-    let mut wanted = vec![0; 49_152];
-    (wanted[6], wanted[21_512]) = (1, 1);
+    let mut wanted = vec![0; 65_536];
+    (wanted[6], wanted[37_896]) = (1, 1);
     assert!(started(&unit_null()) == wanted);
 }
 
@@ -32,13 +32,15 @@ fn questions_come_in_order() {
     let (good, mut bad) = (unit_null().encode(), unit_null().encode());
     bad[24] = 0; // the start is null, with a word that should be 0
     let mut faulty = started(&unit_null());
-    faulty[49_151] = 1;
+    faulty[65_535] = 1;
     let (short, long) = (vec![3; block::LENGTH - 1], vec![3; block::LENGTH + 1]);
+    let before_numbers = vec![0; 49_152];
     // A refused script comes first, then the block's length, the other buffer's, and the block.
     for (script, lent, fits, number, place) in [
         (&bad, &short, false, 7, 24),
         (&good, &short, false, 20, 0),
         (&good, &long, true, 20, 0),
+        (&good, &before_numbers, true, 20, 0),
         (&good, &faulty, false, 22, 0),
         (&good, &faulty, true, 21, 0),
     ] {

@@ -1,7 +1,7 @@
 //! The generators of blocks: what is made is accepted, and damage is refused often, not always.
 
 use second::block::Area;
-use second::block_damage::Edit;
+use second::block_damage::{Edit, ValueDamage};
 use second::cases::{any_case, Origin};
 use second::expr::Expr;
 use second::generate::Rng;
@@ -43,10 +43,21 @@ fn made_blocks_are_accepted_and_damaged_ones_often_not() {
     let words = |wanted: Area| {
         sum(&tallies, |origin| matches!(origin, Origin::Damaged(Edit::Word { area, .. }) if area == wanted))
     };
-    let edits = [Edit::Byte, Edit::Count, Edit::Exchange, Edit::Record, Edit::Closure, Edit::Focus];
+    let edits = [Edit::Byte, Edit::Count, Edit::Type, Edit::Exchange, Edit::Record, Edit::Closure, Edit::Focus];
     let by_edit = edits.map(|edit| tallies[&Origin::Damaged(edit)]);
     let mut both = Area::ALL.map(words).into_iter().chain(by_edit);
     assert!(both.all(|tally| tally.accepted > 5 && tally.refused > 50), "{tallies:?}");
+    for area in [Area::Objects, Area::Bindings, Area::Positions] {
+        let by_damage =
+            |damage| tallies.get(&Origin::Damaged(Edit::Value { area, damage })).copied().unwrap_or_default();
+        // Null fits most positions that wait for a value; a kind of 3 or more fits nowhere.
+        assert!(ValueDamage::ALL.map(by_damage).iter().all(|tally| tally.refused > 0), "{tallies:?}");
+        assert!([ValueDamage::Object, ValueDamage::Number, ValueDamage::Word]
+            .map(by_damage)
+            .iter()
+            .all(|tally| tally.accepted > 0));
+        assert!(by_damage(ValueDamage::Kind).accepted == 0);
+    }
     let unused = tallies[&Origin::Damaged(Edit::Unused)];
     assert!(unused.accepted == 0 && unused.refused > 100);
 }

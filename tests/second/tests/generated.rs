@@ -9,7 +9,7 @@ use second::{check, Reply};
 #[test]
 fn well_typed_scripts_are_accepted_and_varied() {
     let mut rng = Rng::new(1);
-    let mut kinds = [0; 10];
+    let mut kinds = [0; 12];
     let mut most = [0; 6];
     let (mut twice, mut diamonds, mut null_arguments, mut shadowing, mut null_ends) = (0, 0, 0, 0, [0; 3]);
     for _ in 0..3_000 {

@@ -3,7 +3,7 @@
 use second::check;
 use second::script::{Script, Section, Section::*};
 
-/// Types: I = 1 (m from Unit to I), J = 2 (empty), C = 3 of I with field f: J, D = 4 of J.
+/// Types: I = 1 (m from Unit to I), J = 2 (empty), C = 3 of I with field f: J, D = 4 of J, Int = 5.
 /// The start is (Unit)null; C's m answers null.
 fn base() -> Script {
     Script {
@@ -45,12 +45,12 @@ fn interfaces_and_counts() {
 
 #[test]
 fn type_words() {
-    answers(|script| script.signatures[0][1] = 5, 6, Some((Signatures, 0)));
+    answers(|script| script.signatures[0][1] = 6, 6, Some((Signatures, 0)));
     answers(|script| script.classes[1][0] = 3, 6, Some((Classes, 1)));
     answers(|script| script.classes[1][0] = 0, 6, Some((Classes, 1)));
-    answers(|script| script.fields[0][1] = 5, 6, Some((Fields, 0)));
-    answers(|script| script.methods[0][2] = 5, 6, Some((Methods, 0)));
-    answers(|script| script.nodes[0][1] = 5, 6, Some((Nodes, 0)));
+    answers(|script| script.fields[0][1] = 6, 6, Some((Fields, 0)));
+    answers(|script| script.methods[0][2] = 6, 6, Some((Methods, 0)));
+    answers(|script| script.nodes[0][1] = 6, 6, Some((Nodes, 0)));
     answers(|script| script.nodes[2] = [6, 2, 0, 0], 6, Some((Nodes, 2)));
 }
 
@@ -66,7 +66,7 @@ fn uses_of_nodes() {
     // A word that is out of order still uses its node: node 1 is used twice.
     answers(|script| script.nodes[2] = [7, 0, 1, 0], 7, Some((Nodes, 1)));
     // A node of unknown kind has no parts: node 1 is used by nobody, but node 0 comes first.
-    answers(|script| script.nodes[0][0] = 10, 7, Some((Nodes, 0)));
+    answers(|script| script.nodes[0][0] = 12, 7, Some((Nodes, 0)));
     answers(|script| (script.nodes[0], script.methods[0][3]) = ([5, 1, 1, 2], 3), 7, Some((Methods, 0)));
 }
 

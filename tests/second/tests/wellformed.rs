@@ -7,6 +7,7 @@ use second::{block, offer, FLAGS};
 const I: u16 = 1;
 const C: u16 = 2;
 const D: u16 = 3;
+const INT: u16 = 4;
 const X: u16 = 2;
 /// Nodes of the script.
 const FORK: u16 = 3;
@@ -22,7 +23,7 @@ const LOCK_TO_NULL: u16 = 19;
 /// As many as there are.
 const NODES: u16 = 21;
 
-/// I = 1 with m from C to I; C = 2 of I with m and a field 7: D; D = 3 of I with m and no field.
+/// I = 1 with m from C to I; C = 2 of I with m and a field 7: D; D = 3 of I with m and no field; Int = 4.
 /// The start is let x = new C in lock x in fork{(Unit)null}{lock x in x}; x.f = let y = new D in y.
 fn script() -> Script {
     let start = [
@@ -102,7 +103,7 @@ fn values() {
     let binds = |name, ty, value| is_accepted(|state| bind(state, name, ty, value, Some(0)));
     assert!(binds(60_000, I, Value::Object(1)) && binds(0, C, Value::Object(0)) && binds(1, D, Value::Null));
     assert!(binds(X, 0, Value::Null) && !binds(X, 0, Value::Object(0)) && !binds(X, C, Value::Object(1)));
-    assert!(!binds(X, 4, Value::Null) && !binds(X, I, Value::Object(2)));
+    assert!(!binds(X, INT + 1, Value::Null) && !binds(X, I, Value::Object(2)));
 }
 
 #[test]

@@ -21,7 +21,7 @@ value-requires : tie.Need-value-requires Inv-loop μ-loop
 value-requires c κs = (c .before .before .before .before .before .pre .long, laws.reached (c .before .before .before .before .before .pre) (c .before .before .before .loop .inv) (omega arith), omega arith)
 
 returns : tie.Need-returns Inv-loop μ-loop
-returns c = laws.found (c .before .before .before .before .before .before .pre) (c .before .before .before .before .loop .inv) (omega arith) _ _ (c .before .before .binding-word .ensures .0) (c .before .if1 .taken) (c .value .ensures)
+returns c = laws.found (c .before .before .before .before .before .before .pre) (c .before .before .before .before .loop .inv) (omega arith) _ _ (c .before .before .binding-word .ensures .0) (c .before .if1 .taken) (c .value .ensures .0)
 
 binding-word-requires-2 : tie.Need-binding-word-requires-2 Inv-loop μ-loop
 binding-word-requires-2 c κs = (c .before .before .before .before .before .pre .long, laws.reached (c .before .before .before .before .before .pre) (c .before .before .before .loop .inv) (omega arith), omega arith)

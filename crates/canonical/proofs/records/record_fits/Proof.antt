@@ -1,5 +1,5 @@
 use borrow.Author.Needs.{needs}
-use Rattle.script.specs.Asking.{holds}
+use native.Mathlib.Omega.{arith}
 use Rattle.machine.specs.Machine.{fieldCount}
 use Rattle.block.specs.declared.Area.the-variants.{Objects, Bindings, Positions, Frames}
 use Rattle.canonical.proofs.EachLaws as laws
@@ -8,6 +8,9 @@ use Rattle.canonical.proofs.records.record_fits.Tie as tie
 
 object-fits-requires : tie.Need-object-fits-requires
 object-fits-requires c κs = (c .before .before .before .before .pre .0, c .before .before .before .before .pre .1, laws.place-there _ Objects _ (c .enum-told .given .1) (c .before .before .before .before .pre .2))
+
+value-fits-requires : tie.Need-value-fits-requires
+value-fits-requires c κs = (c .before .before .before .before .pre .1, laws.place-there _ Bindings _ (c .enum-told2 .given .1) (c .before .before .before .before .pre .2), omega arith)
 
 position-fits-requires : tie.Need-position-fits-requires
 position-fits-requires c κs = (c .before .before .before .before .pre .1, laws.place-there _ Positions _ (c .enum-told3 .given .1) (c .before .before .before .before .pre .2))
@@ -22,8 +25,8 @@ returns c =
 
 returns-2 : tie.Need-returns-2
 returns-2 c =
-    let args = c .before .before .before .before .args in
-    laws.record-there (fieldCount (args .s .now)) (args .block .now) (args .a) Bindings (args .i) (c .enum-told2 .given .1) (holds tt)
+    let args = c .before .before .before .before .before .args in
+    laws.record-there (fieldCount (args .s .now)) (args .block .now) (args .a) Bindings (args .i) (c .before .enum-told2 .given .1) (c .value-fits .ensures)
 
 returns-3 : tie.Need-returns-3
 returns-3 c =
@@ -42,6 +45,7 @@ record-fits-spec =
     (λ c. search needs)
     object-fits-requires
     (λ c. search needs)
+    value-fits-requires
     (λ c. search needs)
     position-fits-requires
     (λ c. search needs)

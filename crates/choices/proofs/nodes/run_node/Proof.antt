@@ -28,7 +28,7 @@ returns-5 c =
 
 returns-6 : tie.Need-returns-6
 returns-6 c =
-    λ c₀ p rest fs own h. laws.at-new _ c₀ p fs _ _ (record { kind-is = c .before .before .before .before .before .before .before .before .node-word .ensures .0; first = c .before .before .before .before .before .before .before .node-word2 .ensures .0; second = c .before .before .before .before .before .before .node-word3 .ensures .0; third = c .before .before .before .before .before .node-word4 .ensures .0 }) (h .represents) (c .before .before .before .before .match .keys6) (c .before .before .make-object .ensures _ rest (c₀ .stores) _ _ fs (h .seen))
+    λ c₀ p rest fs own h. laws.at-new _ c₀ p fs _ _ (record { kind-is = c .before .before .before .before .before .before .before .before .node-word .ensures .0; first = c .before .before .before .before .before .before .before .node-word2 .ensures .0; second = c .before .before .before .before .before .before .node-word3 .ensures .0; third = c .before .before .before .before .before .node-word4 .ensures .0 }) (h .represents) (c .before .before .before .before .match .keys6) (c .before .before .make-object .ensures rest (c₀ .stores) _ _ fs (h .seen))
 
 returns-7 : tie.Need-returns-7
 returns-7 c =
@@ -43,7 +43,15 @@ returns-9 c =
 
 returns-10 : tie.Need-returns-10
 returns-10 c =
-    λ c₀ p rest fs own h. laws.at-null _ c₀ p fs _ _ (record { kind-is = c .before .before .before .before .before .before .before .before .node-word .ensures .0; first = c .before .before .before .before .before .before .before .node-word2 .ensures .0; second = c .before .before .before .before .before .before .node-word3 .ensures .0; third = c .before .before .before .before .before .node-word4 .ensures .0 }) (c .before .before .before .before .match .rest .0 .0 .0 .0 .0 .0 .0 .0 .1) (c .before .before .before .before .match .rest .0 .0 .0 .0 .0 .0 .0 .1) (c .before .before .before .before .match .rest .0 .0 .0 .0 .0 .0 .1) (c .before .before .before .before .match .rest .0 .0 .0 .0 .0 .1) (c .before .before .before .before .match .rest .0 .0 .0 .0 .1) (c .before .before .before .before .match .rest .0 .0 .0 .1) (c .before .before .before .before .match .rest .0 .0 .1) (c .before .before .before .before .match .rest .0 .1) (c .before .before .before .before .match .rest .1) (c .before .before .become-null .ensures rest (c₀ .stores) _ _ fs (h .seen))
+    λ c₀ p rest fs own h. laws.at-constant _ c₀ p fs _ _ (record { kind-is = c .before .before .before .before .before .before .before .before .node-word .ensures .0; first = c .before .before .before .before .before .before .before .node-word2 .ensures .0; second = c .before .before .before .before .before .before .node-word3 .ensures .0; third = c .before .before .before .before .before .node-word4 .ensures .0 }) (c .before .before .before .before .match .keys10) (c .before .before .become-number .ensures rest (c₀ .stores) _ _ fs (h .seen))
+
+returns-11 : tie.Need-returns-11
+returns-11 c =
+    λ c₀ p rest fs own h. laws.at-add _ c₀ p fs _ _ (record { kind-is = c .before .before .before .before .before .before .before .before .node-word .ensures .0; first = c .before .before .before .before .before .before .before .node-word2 .ensures .0; second = c .before .before .before .before .before .before .node-word3 .ensures .0; third = c .before .before .before .before .before .node-word4 .ensures .0 }) (c .before .before .before .before .match .keys11) (c .before .before .add-variables .ensures rest (c₀ .stores) _ fs (h .seen))
+
+returns-12 : tie.Need-returns-12
+returns-12 c =
+    λ c₀ p rest fs own h. laws.at-null _ c₀ p fs _ _ (record { kind-is = c .before .before .before .before .before .before .before .before .node-word .ensures .0; first = c .before .before .before .before .before .before .before .node-word2 .ensures .0; second = c .before .before .before .before .before .before .node-word3 .ensures .0; third = c .before .before .before .before .before .node-word4 .ensures .0 }) (c .before .before .before .before .match .rest .0 .0 .0 .0 .0 .0 .0 .0 .0 .0 .1) (c .before .before .before .before .match .rest .0 .0 .0 .0 .0 .0 .0 .0 .0 .1) (c .before .before .before .before .match .rest .0 .0 .0 .0 .0 .0 .0 .0 .1) (c .before .before .before .before .match .rest .0 .0 .0 .0 .0 .0 .0 .1) (c .before .before .before .before .match .rest .0 .0 .0 .0 .0 .0 .1) (c .before .before .before .before .match .rest .0 .0 .0 .0 .0 .1) (c .before .before .before .before .match .rest .0 .0 .0 .0 .1) (c .before .before .before .before .match .rest .0 .0 .0 .1) (c .before .before .before .before .match .rest .0 .0 .1) (c .before .before .before .before .match .rest .0 .1) (c .before .before .before .before .match .rest .1) (c .before .before .become-null .ensures rest (c₀ .stores) _ _ fs (h .seen))
 
 pub run-node-spec : {M : Type 1} → statement M
 run-node-spec =
@@ -54,6 +62,8 @@ run-node-spec =
     (λ c κs. search needs)
     (λ c κs. search needs)
     give-value-requires
+    (λ c κs. search needs)
+    (λ c κs. search needs)
     (λ c κs. search needs)
     (λ c κs. search needs)
     (λ c κs. search needs)
@@ -82,4 +92,8 @@ run-node-spec =
     (λ c. search needs)
     returns-9
     (λ c. search needs)
-    returns-10)
+    returns-10
+    (λ c. search needs)
+    returns-11
+    (λ c. search needs)
+    returns-12)

@@ -17,7 +17,13 @@ returns-6 : tie.Need-returns-6
 returns-6 c = laws.told-cast (c .before .before .before .before .before .before .pre .0) _ (c .before .node-word2 .ensures .0) (sym (c .before .before .node-word .ensures .0) ∙ c .match .keys6) (c .before .before .before .before .before .before .pre .1)
 
 returns-7 : tie.Need-returns-7
-returns-7 c = laws.told-nothing _ _ _ _
+returns-7 c = laws.told-constant (c .before .before .before .before .before .before .before .pre .0) _ (c .int-of .ensures .0) (sym (c .before .before .before .node-word .ensures .0) ∙ c .before .match .keys7)
+
+returns-8 : tie.Need-returns-8
+returns-8 c = laws.told-sum (c .before .before .before .before .before .before .before .pre .0) _ (c .int-of2 .ensures .0) (sym (c .before .before .before .node-word .ensures .0) ∙ c .before .match .keys8) (c .before .before .before .before .before .before .before .pre .1)
+
+returns-9 : tie.Need-returns-9
+returns-9 c = laws.told-nothing _ _ _ _
 
 pub known-type-spec : {M : Type 1} → statement M
 known-type-spec =
@@ -30,10 +36,16 @@ known-type-spec =
     (λ c κs. search needs)
     (λ c. search needs)
     (λ c. search needs)
+    (λ c κs. search needs)
+    (λ c. search needs)
+    (λ c κs. search needs)
+    (λ c. search needs)
     returns
     (λ c. search needs)
     returns-3
     (λ c. search needs)
     returns-5
     returns-6
-    returns-7)
+    returns-7
+    returns-8
+    returns-9)

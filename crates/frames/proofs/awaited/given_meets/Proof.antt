@@ -5,6 +5,9 @@ use Rattle.frames.proofs.awaited.given_meets.Tie as tie
 returns : tie.Need-returns
 returns c = rw (c .before .before .g .given .1) (c .meets .ensures)
 
+returns-2 : tie.Need-returns-2
+returns-2 c = rw (c .before .enum-told .given .1) (c .null-meets .ensures)
+
 pub given-meets-spec : {M : Type 1} → statement M
 given-meets-spec =
     tie.close
@@ -12,7 +15,8 @@ given-meets-spec =
     (λ c. search needs)
     (λ c κs. search needs)
     (λ c. search needs)
+    (λ c κs. search needs)
     (λ c. search needs)
     returns
-    (λ c. search needs)
+    returns-2
     (λ c. search needs))

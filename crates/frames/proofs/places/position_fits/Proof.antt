@@ -36,7 +36,7 @@ same-length-4 : tie.Need-same-length-4
 same-length-4 c = same-size (c .before .before .before .before .before .before .before .before .before .before .frames-want .ensures .1 .1) (c .before .before .before .before .before .before .before .before .before .before .before .before .before .before .before .before .before .before .before .before .before .before .pre .0 .remembers)
 
 returns-3 : tie.Need-returns-3
-returns-3 c = (laws.place-value (c .before .before .before .before .before .before .before .before .before .before .before .before .before .before .before .before .before .before .before .before .before .before .pre .0 .ready) _ (c .before .before .before .before .before .before .before .before .before .before .before .before .before .before .before .before .before .before .before .before .before .before .pre .1 .0) (c .before .before .before .before .before .before .before .before .before .before .before .before .before .before .before .before .before .before .before .before .before .before .args .want) _ (c .before .before .before .before .before .before .before .before .before .before .before .before .before .before .before .word .ensures .0) (c .before .before .before .before .before .before .before .before .before .before .before .before .before .before .if1 .left) _ _ (c .before .before .before .before .before .before .before .before .before .before .before .before .before .before .before .before .before .before .before .before .before .before .pre .1 .1) (c .before .before .before .before .before .before .before .before .before .before .before .before .before .word2 .ensures .0) _ (c .before .before .before .before .before .before .before .before .before .before .frames-want .ensures .0) _ (c .before .before .before .before .v .given .1) (c .before .before .if2 .taken) _ _ (c .before .value .ensures) (c .value-fits .ensures), c .before .before .before .before .before .before .before .before .before .before .frames-want .ensures .1)
+returns-3 c = (laws.place-value (c .before .before .before .before .before .before .before .before .before .before .before .before .before .before .before .before .before .before .before .before .before .before .pre .0 .ready) _ (c .before .before .before .before .before .before .before .before .before .before .before .before .before .before .before .before .before .before .before .before .before .before .pre .1 .0) (c .before .before .before .before .before .before .before .before .before .before .before .before .before .before .before .before .before .before .before .before .before .before .args .want) _ (c .before .before .before .before .before .before .before .before .before .before .before .before .before .before .before .word .ensures .0) (c .before .before .before .before .before .before .before .before .before .before .before .before .before .before .if1 .left) _ _ (c .before .before .before .before .before .before .before .before .before .before .before .before .before .before .before .before .before .before .before .before .before .before .pre .1 .1) (c .before .before .before .before .before .before .before .before .before .before .before .before .before .word2 .ensures .0) _ (c .before .before .before .before .before .before .before .before .before .before .frames-want .ensures .0) _ (c .before .before .before .before .v .given .1) (c .before .before .if2 .taken) _ _ (c .before .value .ensures .0) (c .value-fits .ensures), c .before .before .before .before .before .before .before .before .before .before .frames-want .ensures .1)
 
 word-requires-3 : tie.Need-word-requires-3
 word-requires-3 c κs = (c .before .before .before .before .before .before .before .before .before .before .before .before .before .before .before .before .before .before .before .before .pre .0 .ready .in-order .long, laws.place-there (c .before .before .before .before .before .before .before .before .before .before .before .before .before .before .before .before .before .before .before .before .pre .0 .ready) _ (c .before .before .before .before .before .before .before .before .before .before .before .before .before .before .before .before .before .before .before .before .pre .1 .0), omega arith)

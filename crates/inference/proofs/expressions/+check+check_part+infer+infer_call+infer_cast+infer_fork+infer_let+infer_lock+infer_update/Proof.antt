@@ -42,9 +42,12 @@ use Rattle.inference.proofs.expressions.given_by.Reads as given-by-read
 use Rattle.inference.proofs.expressions.no_null.Reads as no-null-reads
 use Rattle.inference.proofs.expressions.infer_select.Reads as infer-select-reads
 use Rattle.inference.proofs.expressions.infer_var.Reads as infer-var-reads
+use Rattle.inference.proofs.expressions.infer_add.Reads as infer-add-reads
+use Rattle.inference.proofs.expressions.lock_target.Reads as lock-target-reads
 use Rattle.sections.proofs.node_word.Reads as node-word-reads
 use Rattle.inference.proofs.expressions.given_fits.Reads as given-fits-reads
 use Rattle.members.proofs.method_of.Reads as method-of-reads
+use Rattle.members.proofs.int_of.Reads as int-of-reads
 use Rattle.inference.proofs.expressions.+check+check_part+infer+infer_call+infer_cast+infer_fork+infer_let+infer_lock+infer_update.{
   statement,
 }
@@ -155,7 +158,7 @@ abbrev check-part-R : ℕ → check-part-lts.Claims
 check-part-R t = (node-word-reads.Asked, node-word-reads.Learnt, check-below t, check.Post, infer-var-reads.Asked, infer-var-reads.Learnt, given-by-reads.Asked, given-by-reads.Learnt, given-fits-reads.Asked, given-fits-reads.Learnt)
 
 abbrev infer-R : ℕ → infer-lts.Claims
-infer-R t = (node-word-reads.Asked, node-word-reads.Learnt, infer-var-reads.Asked, infer-var-reads.Learnt, given-by-reads.Asked, given-by-reads.Learnt, infer-select-reads.Asked, infer-select-reads.Learnt, infer-update-below t, infer-update.Post, infer-call-below t, infer-call.Post, infer-let-below t, infer-let.Post, infer-cast-below t, infer-cast.Post, infer-fork-below t, infer-fork.Post, infer-lock-below t, infer-lock.Post)
+infer-R t = (node-word-reads.Asked, node-word-reads.Learnt, infer-var-reads.Asked, infer-var-reads.Learnt, given-by-reads.Asked, given-by-reads.Learnt, infer-select-reads.Asked, infer-select-reads.Learnt, infer-update-below t, infer-update.Post, infer-call-below t, infer-call.Post, infer-let-below t, infer-let.Post, infer-cast-below t, infer-cast.Post, infer-fork-below t, infer-fork.Post, infer-lock-below t, infer-lock.Post, int-of-reads.Asked, int-of-reads.Learnt, infer-add-reads.Asked, infer-add-reads.Learnt)
 
 abbrev infer-call-R : ℕ → infer-call-lts.Claims
 infer-call-R t = (infer-var-reads.Asked, infer-var-reads.Learnt, node-word-reads.Asked, node-word-reads.Learnt, method-of-reads.Asked, method-of-reads.Learnt, check-part-below t, check-part.Post)
@@ -170,7 +173,7 @@ abbrev infer-let-R : ℕ → infer-let-lts.Claims
 infer-let-R t = (node-word-reads.Asked, node-word-reads.Learnt, infer-below t, infer.Post, no-null-reads.Asked, no-null-reads.Learnt)
 
 abbrev infer-lock-R : ℕ → infer-lock-lts.Claims
-infer-lock-R t = (infer-var-reads.Asked, infer-var-reads.Learnt, given-by-reads.Asked, given-by-reads.Learnt, node-word-reads.Asked, node-word-reads.Learnt, infer-below t, infer.Post)
+infer-lock-R t = (lock-target-reads.Asked, lock-target-reads.Learnt, given-by-reads.Asked, given-by-reads.Learnt, node-word-reads.Asked, node-word-reads.Learnt, infer-below t, infer.Post)
 
 abbrev infer-update-R : ℕ → infer-update-lts.Claims
 infer-update-R t = (infer-select-reads.Asked, infer-select-reads.Learnt, node-word-reads.Asked, node-word-reads.Learnt, check-part-below t, check-part.Post)
@@ -320,8 +323,28 @@ module _ (t : ℕ) where
   infer-returns-9 : infer-lts.Need-returns-9 (infer-R t) (infer-at t) infer.Post
   infer-returns-9 c = search needs
 
+  infer-int-of-requires : infer-lts.Need-int-of-requires (infer-R t) (infer-at t) infer.Post
+  infer-int-of-requires c κs = search needs
+
+  infer-infer-add-requires : infer-lts.Need-infer-add-requires (infer-R t) (infer-at t) infer.Post
+  infer-infer-add-requires c κs = laws.add-targets (c .before .before .before .before .before .before .before .pre .1) (sym (c .before .before .node-word .ensures .0) ∙ c .before .match .keys11)
+
+  infer-given-by-requires-6 : infer-lts.Need-given-by-requires-6 (infer-R t) (infer-at t) infer.Post
+  infer-given-by-requires-6 c κs = search needs
+
   infer-returns-10 : infer-lts.Need-returns-10 (infer-R t) (infer-at t) infer.Post
-  infer-returns-10 c = let m = c .match .rest in (laws.at-null (c .before .before .before .before .before .before .pre .1) _ (c .before .node-word .ensures .0) (m .0 .0 .0 .0 .0 .0 .0 .0 .1) (m .0 .0 .0 .0 .0 .0 .0 .1) (m .0 .0 .0 .0 .0 .0 .1) (m .0 .0 .0 .0 .0 .1) (m .0 .0 .0 .0 .1) (m .0 .0 .0 .1) (m .0 .0 .1) (m .0 .1) (m .1), refl)
+  unfolding kindOf
+  infer-returns-10 c = (laws.at-plain (c .before .before .before .before .before .before .before .pre .1) 10 (sym (c .before .before .node-word .ensures .0) ∙ c .before .match .keys10) refl refl (laws.at-constant (c .before .before .before .before .before .before .before .pre .1) _ (sym (c .before .before .node-word .ensures .0) ∙ c .before .match .keys10) (c .int-of .ensures .0)), refl)
+
+  infer-same-length-9 : infer-lts.Need-same-length-9 (infer-R t) (infer-at t) infer.Post
+  infer-same-length-9 c = search needs
+
+  infer-returns-11 : infer-lts.Need-returns-11 (infer-R t) (infer-at t) infer.Post
+  unfolding kindOf
+  infer-returns-11 c = (rw (← c .given-by6 .ensures) at (laws.at-plain (c .before .before .before .before .before .before .before .before .before .pre .1) 11 (sym (c .before .before .before .before .node-word .ensures .0) ∙ c .before .before .before .match .keys11) refl refl (laws.at-add (c .before .before .before .before .before .before .before .before .before .pre .1) _ (sym (c .before .before .before .before .node-word .ensures .0) ∙ c .before .before .before .match .keys11) (c .before .infer-add .ensures))), refl)
+
+  infer-returns-12 : infer-lts.Need-returns-12 (infer-R t) (infer-at t) infer.Post
+  infer-returns-12 c = let m = c .match .rest in (laws.at-null (c .before .before .before .before .before .before .pre .1) _ (c .before .node-word .ensures .0) (m .0 .0 .0 .0 .0 .0 .0 .0 .0 .0 .1) (m .0 .0 .0 .0 .0 .0 .0 .0 .0 .1) (m .0 .0 .0 .0 .0 .0 .0 .0 .1) (m .0 .0 .0 .0 .0 .0 .0 .1) (m .0 .0 .0 .0 .0 .0 .1) (m .0 .0 .0 .0 .0 .1) (m .0 .0 .0 .0 .1) (m .0 .0 .0 .1) (m .0 .0 .1) (m .0 .1) (m .1), refl)
 
   infer-call-infer-var-requires : infer-call-lts.Need-infer-var-requires (infer-call-R t) (infer-call-at t) infer-call.Post
   infer-call-infer-var-requires c κs = let p = c .before .before .before .before .before .pre .1 in laws.call-target (p .0) (p .1)
@@ -406,8 +429,11 @@ module _ (t : ℕ) where
   infer-fork-mul-if1 : infer-fork-lts.Need-mul-if1 (infer-fork-R t) (infer-fork-at t) infer-fork.Post
   infer-fork-mul-if1 c = search needs
 
+  infer-fork-mul-if1-2 : infer-fork-lts.Need-mul-if1-2 (infer-fork-R t) (infer-fork-at t) infer-fork.Post
+  infer-fork-mul-if1-2 c = search needs
+
   infer-fork-shared-slice-read-if1 : infer-fork-lts.Need-shared-slice-read-if1 (infer-fork-R t) (infer-fork-at t) infer-fork.Post
-  infer-fork-shared-slice-read-if1 c = laws.fact-there (c .before .before .before .before .before .pre .1 .0 .known) (c .before .before .before .before .before .pre .1 .0 .within) (c .before .before .before .before .before .pre .1 .0 .there)
+  infer-fork-shared-slice-read-if1 c = omega (arith, laws.fact-there (c .before .before .before .before .before .pre .1 .0 .known) (c .before .before .before .before .before .pre .1 .0 .within) (c .before .before .before .before .before .pre .1 .0 .there))
 
   infer-fork-returns : infer-fork-lts.Need-returns (infer-fork-R t) (infer-fork-at t) infer-fork.Post
   infer-fork-returns c = (laws.fork-shared (c .before .before .before .before .before .before .pre .1 .0) (c .before .before .before .before .before .before .pre .1 .1) (c .if1 .taken), refl)
@@ -485,8 +511,11 @@ module _ (t : ℕ) where
   infer-let-mul-rank : infer-let-lts.Need-mul-rank (infer-let-R t) (infer-let-at t) infer-let.Post
   infer-let-mul-rank c = search needs
 
+  infer-let-mul-rank-2 : infer-let-lts.Need-mul-rank-2 (infer-let-R t) (infer-let-at t) infer-let.Post
+  infer-let-mul-rank-2 c = search needs
+
   infer-let-shared-slice-read-rank : infer-let-lts.Need-shared-slice-read-rank (infer-let-R t) (infer-let-at t) infer-let.Post
-  infer-let-shared-slice-read-rank c = let p = c .before .before .before .before .before .before .before .before .before .before .before .before .before .before .pre .1 in laws.fact-there (p .0 .known) (p .0 .within) (p .0 .there)
+  infer-let-shared-slice-read-rank c = let p = c .before .before .before .before .before .before .before .before .before .before .before .before .before .before .pre .1 in omega (arith, laws.fact-there (p .0 .known) (p .0 .within) (p .0 .there))
 
   infer-let-cast-rank : infer-let-lts.Need-cast-rank (infer-let-R t) (infer-let-at t) infer-let.Post
   infer-let-cast-rank c = let p = c .before .before .before .before .before .before .before .before .before .before .before .before .before .before .pre .1 in omega (arith, laws.rank-small (p .0 .known) (laws.let-rank (p .0) (p .1)))
@@ -525,8 +554,8 @@ module _ (t : ℕ) where
   infer-let-returns-2 : infer-let-lts.Need-returns-2 (infer-let-R t) (infer-let-at t) infer-let.Post
   infer-let-returns-2 c = let p = c .before .before .before .before .before .before .before .before .before .before .before .before .before .before .before .before .before .before .before .before .pre .1 in (laws.let-last (p .0) _ _ _ (p .1) (c .before .before .before .before .before .before .before .before .before .before .before .before .before .before .before .node-word .ensures .0) (c .before .before .before .before .before .before .before .before .before .before .before .before .before .infer .ensures .0) (c .before .before .before .before .before .before .before .before .before .before .no-null .ensures) _ _ (c .before .before .before .before .before .before .before .before .first .given .1) _ (c .before .before .before .before .before .before .before .before .before .before .before .before .before .infer .ensures .1) _ _ (c .before .before .before .before .node-word2 .ensures .0) (c .before .before .infer2 .ensures .0), laws.word-back _ _ (c .before .before .before .before .before .before .before .before .before .before .before .before .before .infer .ensures .1) (c .before .before .infer2 .ensures .1))
 
-  infer-lock-infer-var-requires : infer-lock-lts.Need-infer-var-requires (infer-lock-R t) (infer-lock-at t) infer-lock.Post
-  infer-lock-infer-var-requires c κs = laws.lock-target (c .before .before .before .before .before .pre .1 .0) (c .before .before .before .before .before .pre .1 .1)
+  infer-lock-lock-target-requires : infer-lock-lts.Need-lock-target-requires (infer-lock-R t) (infer-lock-at t) infer-lock.Post
+  infer-lock-lock-target-requires c κs = laws.lock-target (c .before .before .before .before .before .pre .1 .0) (c .before .before .before .before .before .pre .1 .1)
 
   infer-lock-enum-told : infer-lock-lts.Need-enum-told (infer-lock-R t) (infer-lock-at t) infer-lock.Post
   infer-lock-enum-told c = search needs
@@ -541,7 +570,7 @@ module _ (t : ℕ) where
   infer-lock-same-length c = search needs
 
   infer-lock-returns : infer-lock-lts.Need-returns (infer-lock-R t) (infer-lock-at t) infer-lock.Post
-  infer-lock-returns c = (rw (← c .given-by .ensures) at (laws.lock-unbound (c .before .before .before .before .before .before .before .before .before .pre .1 .0) (c .before .before .before .before .before .before .before .before .before .pre .1 .1) _ (c .before .before .before .infer-var .ensures) _ _ (c .before .enum-told2 .given .1)), refl)
+  infer-lock-returns c = (rw (← c .given-by .ensures) at (laws.lock-unbound (c .before .before .before .before .before .before .before .before .before .pre .1 .0) (c .before .before .before .before .before .before .before .before .before .pre .1 .1) _ (c .before .before .before .lock-target .ensures) _ _ (c .before .enum-told2 .given .1)), refl)
 
   infer-lock-node-word-requires : infer-lock-lts.Need-node-word-requires (infer-lock-R t) (infer-lock-at t) infer-lock.Post
   infer-lock-node-word-requires c κs = search needs
@@ -554,7 +583,7 @@ module _ (t : ℕ) where
   infer-lock-same-length-2 c = search needs
 
   infer-lock-returns-2 : infer-lock-lts.Need-returns-2 (infer-lock-R t) (infer-lock-at t) infer-lock.Post
-  infer-lock-returns-2 c = (laws.lock-part (c .before .before .before .before .before .before .before .before .before .before .before .before .before .pre .1 .0) (c .before .before .before .before .before .before .before .before .before .before .before .before .before .pre .1 .1) _ (c .before .before .before .before .before .before .before .infer-var .ensures) _ _ _ (c .before .before .before .before .before .enum-told .given .1) (c .before .before .before .before .node-word .ensures .0) (c .before .before .infer .ensures .0), c .before .before .infer .ensures .1)
+  infer-lock-returns-2 c = (laws.lock-part (c .before .before .before .before .before .before .before .before .before .before .before .before .before .pre .1 .0) (c .before .before .before .before .before .before .before .before .before .before .before .before .before .pre .1 .1) _ (c .before .before .before .before .before .before .before .lock-target .ensures) _ _ _ (c .before .before .before .before .before .enum-told .given .1) (c .before .before .before .before .node-word .ensures .0) (c .before .before .infer .ensures .0), c .before .before .infer .ensures .1)
 
   infer-update-infer-select-requires : infer-update-lts.Need-infer-select-requires (infer-update-R t) (infer-update-at t) infer-update.Post
   infer-update-infer-select-requires c κs = let p = c .before .before .before .before .before .pre .1 in (laws.update-target (p .0) (p .1), p .0 .runs)
@@ -647,6 +676,9 @@ pub +check+check-part+infer+infer-call+infer-cast+infer-fork+infer-let+infer-loc
     (infer-given-by-requires-5 t)
     (infer-infer-fork-requires t)
     (infer-infer-lock-requires t)
+    (infer-int-of-requires t)
+    (infer-infer-add-requires t)
+    (infer-given-by-requires-6 t)
     (infer-same-length t)
     (infer-returns t)
     (infer-same-length-2 t)
@@ -664,7 +696,10 @@ pub +check+check-part+infer+infer-call+infer-cast+infer-fork+infer-let+infer-loc
     (infer-returns-8 t)
     (infer-same-length-8 t)
     (infer-returns-9 t)
-    (infer-returns-10 t))
+    (infer-returns-10 t)
+    (infer-same-length-9 t)
+    (infer-returns-11 t)
+    (infer-returns-12 t))
     (λ t. infer-call-lts.spec (infer-call-R t) (infer-call-at t)
     infer-call.Post
     (infer-call-infer-var-requires t)
@@ -696,6 +731,7 @@ pub +check+check-part+infer+infer-call+infer-cast+infer-fork+infer-let+infer-loc
     (λ t. infer-fork-lts.spec (infer-fork-R t) (infer-fork-at t)
     infer-fork.Post
     (infer-fork-mul-if1 t)
+    (infer-fork-mul-if1-2 t)
     (infer-fork-shared-slice-read-if1 t)
     (infer-fork-returns t)
     (infer-fork-node-word-requires t)
@@ -723,6 +759,7 @@ pub +check+check-part+infer+infer-call+infer-cast+infer-fork+infer-let+infer-loc
     (infer-let-same-length t)
     (infer-let-returns t)
     (infer-let-mul-rank t)
+    (infer-let-mul-rank-2 t)
     (infer-let-shared-slice-read-rank t)
     (infer-let-cast-rank t)
     (infer-let-mul-outer t)
@@ -738,7 +775,7 @@ pub +check+check-part+infer+infer-call+infer-cast+infer-fork+infer-let+infer-loc
     (infer-let-returns-2 t))
     (λ t. infer-lock-lts.spec (infer-lock-R t) (infer-lock-at t)
     infer-lock.Post
-    (infer-lock-infer-var-requires t)
+    (infer-lock-lock-target-requires t)
     (infer-lock-enum-told t)
     (infer-lock-enum-told-2 t)
     (infer-lock-given-by-requires t)

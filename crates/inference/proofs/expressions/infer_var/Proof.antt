@@ -1,12 +1,19 @@
 use native.Mathlib.Omega.{arith}
 use borrow.Author.Needs.{needs}
 use Rattle.names.specs.Ranks.{of-node}
+use Rattle.names.proofs.KindLaws.{place-small}
 use Rattle.inference.proofs.InferLaws as laws
 use Rattle.inference.proofs.expressions.infer_var.Statement.{statement}
 use Rattle.inference.proofs.expressions.infer_var.Tie as tie
 
+add-rank : tie.Need-add-rank
+add-rank c = omega (arith, place-small (c .pre .named))
+
+mul-rank-2 : tie.Need-mul-rank-2
+mul-rank-2 c = omega (arith, place-small (c .pre .named))
+
 shared-slice-read-rank : tie.Need-shared-slice-read-rank
-shared-slice-read-rank c = laws.fact-there (c .before .pre .known) (c .before .pre .within) (c .before .pre .named .there)
+shared-slice-read-rank c = omega (arith, laws.fact-there (c .before .pre .known) (c .before .pre .within) (c .before .pre .named .there), place-small (c .before .pre .named))
 
 cast-rank : tie.Need-cast-rank
 cast-rank c = omega (arith, laws.rank-small (c .before .pre .known) (of-node (c .before .pre .named)))
@@ -28,6 +35,8 @@ infer-var-spec =
     tie.close
     (tie.spec
     (λ c. search needs)
+    add-rank
+    mul-rank-2
     shared-slice-read-rank
     cast-rank
     mul-word

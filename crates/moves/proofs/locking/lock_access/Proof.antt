@@ -13,7 +13,7 @@ returns : tie.Need-returns
 returns c = (λ c₀ p rest a₀ a k fs h. targets.no-target (targets.locks (c₀ .stores) (framesAbove [] (c₀ .tree) p) fs a _ k) (c .before .before .target-of .ensures _ rest (c₀ .stores) _ (h .seen)) (c .enum-told .given .1), λ o e. absurd (laws.not-open e refl))
 
 returns-2 : tie.Need-returns-2
-returns-2 c = (λ c₀ p rest a₀ a k fs h. targets.null-target (targets.locks (c₀ .stores) (framesAbove [] (c₀ .tree) p) fs a _ k) (c .before .before .before .before .before .target-of .ensures _ rest (c₀ .stores) _ (h .seen)) (c .before .before .before .found .given .1) (c .enum-told2 .given .1), λ o e. absurd (laws.not-open e refl))
+returns-2 c = (λ c₀ p rest a₀ a k fs h. targets.null-target (targets.locks (c₀ .stores) (framesAbove [] (c₀ .tree) p) fs a _ k) (c .before .before .before .before .target-of .ensures _ rest (c₀ .stores) _ (h .seen)) (c .before .before .found .given .1) (c .match2 .keys2), λ o e. absurd (laws.not-open e refl))
 
 word-requires : tie.Need-word-requires
 word-requires c κs = (seen-length (c .before .before .before .before .before .before .before .before .pre .0 .seen), targets.found-below (c .before .before .before .before .before .before .before .before .pre .0 .seen) (targets.object-found (c .before .before .before .before .before .before .target-of .ensures _ _ _ _ (c .before .before .before .before .before .before .before .before .pre .0 .seen)) (c .before .before .before .before .found .given .1) (c .before .value .given .1)) .1, omega arith)
@@ -50,7 +50,6 @@ lock-access-spec =
     (λ c. search needs)
     (λ c. search needs)
     returns
-    (λ c. search needs)
     (λ c. search needs)
     returns-2
     (λ c. search needs)

@@ -1,4 +1,4 @@
-use Prim.Native.Nat.{_-_, _≤_}
+use Prim.Native.Nat.{_*_, _-_, _≤_}
 use mathlib.Core.Path.{sym, _∙_}
 use native.Mathlib.Omega.{arith}
 use borrow.Author.Needs.{needs}
@@ -8,7 +8,7 @@ use Rattle.names.proofs.ranks.fill_ranks.Statement.{statement}
 use Rattle.names.proofs.ranks.fill_ranks.Tie as tie
 
 abbrev Inv-loop : tie.InvT-loop
-Inv-loop s facts₀ nodes count₀ n₀ facts count n = (n ≤ nodes) × FilledTo s facts n count
+Inv-loop s facts₀ nodes count₀ n₀ facts count n = (n ≤ nodes) × FilledTo s facts (2 * n) count
 
 abbrev μ-loop : tie.MeasureT-loop
 μ-loop s facts₀ nodes count₀ n₀ facts count n = nodes - n

@@ -27,6 +27,9 @@ returns-7 c = adds-word _ _ _ _ _ (c .before .before .enum-told7 .given .1) (c .
 returns-8 : tie.Need-returns-8
 returns-8 c = adds-word _ _ _ _ _ (c .enum-told8 .given .1) (adds-none _)
 
+returns-9 : tie.Need-returns-9
+returns-9 c = adds-word _ _ _ _ _ (c .enum-told9 .given .1) (adds-none _)
+
 pub count-word-spec : {M : Type 1} → statement M
 count-word-spec =
     tie.close
@@ -40,6 +43,7 @@ count-word-spec =
     (λ c. search needs)
     (λ c κs. search needs)
     (λ c. search needs)
+    (λ c. search needs)
     returns
     returns-2
     returns-3
@@ -47,4 +51,5 @@ count-word-spec =
     returns-5
     returns-6
     returns-7
-    returns-8)
+    returns-8
+    returns-9)

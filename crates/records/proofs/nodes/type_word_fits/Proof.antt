@@ -26,7 +26,9 @@ type-word-fits-spec =
     (λ c. search needs)
     (λ c. search needs)
     (λ c. search needs)
+    (λ c. search needs)
     returns-5
     returns-6
+    (λ c. search needs)
     (λ c. search needs)
     (λ c. search needs))

@@ -31,6 +31,7 @@ word-fits-spec =
     returns
     (λ c κs. search needs)
     (λ c. search needs)
+    (λ c. search needs)
     returns-2
     (λ c. search needs)
     (λ c. search needs)
@@ -38,4 +39,5 @@ word-fits-spec =
     (λ c. search needs)
     (λ c. search needs)
     returns-8
+    (λ c. search needs)
     (λ c. search needs))

@@ -25,6 +25,9 @@ mul-masks c = omega (arith, c .before .before .before .before .loop .inv .within
 slice-write-masks : tie.Need-slice-write-masks Inv-loop μ-loop
 slice-write-masks c = omega (arith, c .before .before .before .before .loop .inv .within, c .before .before .before .before .before .before .before .before .before .pre .0 .counts-are .within nodes, c .before .before .before .before .loop .inv .masks-size)
 
+mul-slot : tie.Need-mul-slot Inv-loop μ-loop
+mul-slot c = omega (arith, c .before .before .before .before .loop .inv .within, c .before .before .before .before .before .before .before .before .before .pre .0 .counts-are .within nodes)
+
 mul-mark-of : tie.Need-mul-mark-of Inv-loop μ-loop
 mul-mark-of c = omega (arith, c .before .before .before .before .before .loop .inv .within, c .before .before .before .before .before .before .before .before .before .before .pre .0 .counts-are .within nodes)
 
@@ -64,6 +67,7 @@ fill-span-spec =
     mask-of-requires
     mul-masks
     slice-write-masks
+    mul-slot
     mul-mark-of
     slice-read-mark-of
     mark-of-requires

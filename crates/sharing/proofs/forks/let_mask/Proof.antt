@@ -5,8 +5,11 @@ use Rattle.sharing.proofs.FreeLaws.{part-of, part-within, fact-within, 
 use Rattle.sharing.proofs.forks.let_mask.Statement.{statement}
 use Rattle.sharing.proofs.forks.let_mask.Tie as tie
 
+mul-name-mask : tie.Need-mul-name-mask
+mul-name-mask c = omega (arith, fact-within _ _ _ _ _ (c .before .before .before .pre .0), (c .before .before .before .pre .0) .ranked .size)
+
 name-mask-requires : tie.Need-name-mask-requires
-name-mask-requires c κs = fact-within _ _ _ _ _ (c .before .before .before .pre .0)
+name-mask-requires c κs = omega (arith, fact-within _ _ _ _ _ (c .before .before .before .pre .0))
 
 part-mask-requires : tie.Need-part-mask-requires
 unfolding kindOf
@@ -21,4 +24,4 @@ returns c = mask-let _ _ _ _ _ (c .before .before .before .before .before .befor
 
 pub let-mask-spec : {M : Type 1} → statement M
 let-mask-spec =
-    tie.close (tie.spec name-mask-requires part-mask-requires part-mask-requires-2 returns)
+    tie.close (tie.spec mul-name-mask name-mask-requires part-mask-requires part-mask-requires-2 returns)

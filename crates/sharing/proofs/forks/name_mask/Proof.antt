@@ -4,7 +4,7 @@ use Rattle.sharing.proofs.forks.name_mask.Statement.{statement}
 use Rattle.sharing.proofs.forks.name_mask.Tie as tie
 
 cast-rank : tie.Need-cast-rank
-cast-rank c = omega (arith, c .before .shared-slice-known .given (c .before .before .args .n))
+cast-rank c = omega (arith, c .before .shared-slice-known .given (c .before .before .args .slot))
 
 pub name-mask-spec : {M : Type 1} → statement M
 name-mask-spec =

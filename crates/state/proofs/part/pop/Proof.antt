@@ -32,7 +32,7 @@ returns : tie.Need-returns
 returns c = λ x st v f fs w one e k s.
     let n = c .before .before .before .before .before .before .before .before .before .before .frames-at .result - 1 in
     let m : n + 1 ≡ entryAt (c .before .before .before .before .before .before .before .before .before .before .before .before .before .args .block .now) (c .before .before .before .before .before .before .before .before .before .before .before .before .before .args .i) .frames = omega (arith, c .before .before .before .before .before .before .before .before .before .before .frames-at .ensures, c .before .before .before .before .before .before .before .before .before .before .before .before .before .pre .1) in
-    popped _ n (c .before .before .before .before .before .before .before .before .before .before .before .before .before .args .cell) m (ap (λ r. r + n) (c .before .before .before .before .before .before .before .before .frames-before .ensures)) (c .before .before .before .before .before .before .remove-frames .ensures) (c .before .before .put-entry .ensures) one e k s
+    popped _ n (c .before .before .before .before .before .before .before .before .before .before .before .before .before .args .cell) m (ap (λ r. r + n) (c .before .before .before .before .before .before .before .before .frames-before .ensures)) (c .before .before .before .before .before .before .remove-frames .ensures) (c .before .before .put-entry .ensures) (c .before .before .before .before .before .before .before .before .before .before .before .before .before .pre .2) one e k s
 
 pub pop-spec : {M : Type 1} → statement M
 pop-spec =

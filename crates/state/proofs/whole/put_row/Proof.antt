@@ -15,11 +15,11 @@ use Rattle.state.proofs.whole.put_row.Tie as tie
 abbrev Inv-loop : tie.InvT-loop
 Inv-loop block₀ i row j₀ block j =
     (length block ≡ length block₀)
-    × (j ≤ 5)
+    × (j ≤ width Positions)
     × ((ws : List ℕ) → block₀ ≡ bytes ws → block ≡ bytes (sets ws (begins Positions + width Positions * i) (take j row)))
 
 abbrev μ-loop : tie.MeasureT-loop
-μ-loop block₀ i row j₀ block j = 5 - j
+μ-loop block₀ i row j₀ block j = width Positions - j
 
 loop-holds : tie.Need-loop-holds Inv-loop μ-loop
 loop-holds c = (refl, omega arith, λ ws is. is)
@@ -37,8 +37,8 @@ loop-again c = (
 returns : tie.Need-returns Inv-loop μ-loop
 returns c ws is =
     let row = c .before .before .before .args .t3 in
-    let e : c .before .loop .j ≡ 5 = omega arith in
-    c .before .loop .inv .2 ws is ∙ ap (λ (vs : List ℕ). bytes (sets ws (begins Positions + width Positions * c .before .before .before .args .i) vs)) (ap (λ (k : ℕ). take k row) e ∙ take-all 5 row (omega arith))
+    let e : c .before .loop .j ≡ width Positions = omega arith in
+    c .before .loop .inv .2 ws is ∙ ap (λ (vs : List ℕ). bytes (sets ws (begins Positions + width Positions * c .before .before .before .args .i) vs)) (ap (λ (k : ℕ). take k row) e ∙ take-all (width Positions) row (omega arith))
 
 pub put-row-spec : {M : Type 1} → statement M
 put-row-spec =

@@ -3,7 +3,7 @@ use borrow.Author.Needs.{needs}
 use mathlib.Core.Path.{_≡_, refl}
 use Prim.Native.Nat.{_-_, _≤_}
 use lib.ListN.{length}
-use Rattle.state.proofs.Putting.{small-there, Writing, write-none, write-more, written}
+use Rattle.state.proofs.Putting.{Writing, write-none, write-more, written}
 use Rattle.state.proofs.whole.put_tree.Statement.{statement}
 use Rattle.state.proofs.whole.put_tree.Tie as tie
 
@@ -24,9 +24,6 @@ mul-row-at c = omega (arith, c .before .before .rows-of .ensures .2)
 
 element-copy-out-row-at : tie.Need-element-copy-out-row-at Inv-loop μ-loop
 element-copy-out-row-at c = omega (arith, c .before .before .rows-of .ensures .2)
-
-row-at-requires : tie.Need-row-at-requires Inv-loop μ-loop
-row-at-requires c κs = λ l. small-there (c .before .before .before .before .before .before .args .t2) (c .before .before .loop .i) (c .before .before .before .before .before .before .pre .2) (c .before .before .before .before .before .before .pre .3) l
 
 put-row-requires : tie.Need-put-row-requires Inv-loop μ-loop
 put-row-requires c κs = (omega arith, omega (arith, c .before .before .before .before .before .rows-of .ensures .2), c .before .row-at .ensures .0)
@@ -56,7 +53,7 @@ put-tree-spec =
     loop-holds
     mul-row-at
     element-copy-out-row-at
-    row-at-requires
+    (λ c κs. search needs)
     put-row-requires
     (λ c. search needs)
     (λ c. search needs)

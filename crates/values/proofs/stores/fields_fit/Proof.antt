@@ -28,10 +28,10 @@ value-fits-requires : tie.Need-value-fits-requires Inv-loop μ-loop
 value-fits-requires c κs = (c .before .before .before .before .before .before .before .pre .0, c .before .before .before .before .before .before .before .pre .1)
 
 returns : tie.Need-returns Inv-loop μ-loop
-returns c = fields-no _ _ _ _ _ _ (c .before .before .before .before .before .loop .inv .1) _ _ _ (omega arith) (c .before .before .before .record-word .ensures .0) (c .before .before .field .ensures) (c .before .value-fits .ensures) (c .if1 .taken)
+returns c = fields-no _ _ _ _ _ _ (c .before .before .before .before .before .loop .inv .1) _ _ _ (omega arith) (c .before .before .before .record-word .ensures .0) (c .before .before .field .ensures .0) (c .before .value-fits .ensures) (c .if1 .taken)
 
 loop-again : tie.Need-loop-again Inv-loop μ-loop
-loop-again c = (omega arith, fields-more _ _ _ _ _ _ (c .before .before .before .before .before .loop .inv .1) _ _ _ (omega arith) (c .before .before .before .record-word .ensures .0) (c .before .before .field .ensures) (c .before .value-fits .ensures) (c .if1 .left))
+loop-again c = (omega arith, fields-more _ _ _ _ _ _ (c .before .before .before .before .before .loop .inv .1) _ _ _ (omega arith) (c .before .before .before .record-word .ensures .0) (c .before .before .field .ensures .0) (c .before .value-fits .ensures) (c .if1 .left))
 
 returns-2 : tie.Need-returns-2 Inv-loop μ-loop
 returns-2 c = fields-done _ _ _ _ _ _ (c .before .loop .inv .1) (omega arith)

@@ -18,14 +18,14 @@ returns-2 c = (λ rest st fs g s. performs-as (binds-full s _ fs (c .before .bef
 
 pop-requires : tie.Need-pop-requires
 pop-requires c κs =
-    let now = bound-more _ _ (c .before .before .before .before .before .before .count .ensures .0) (c .before .before .before .before .before .if1 .left) (c .before .before .before .add-binding .ensures) (c .before .before .before .before .before .before .before .before .before .before .before .before .before .before .before .before .before .before .before .before .before .pre .0 .frame .here .seen) in
+    let now = bound-more _ _ (c .before .before .before .before .before .before .count .ensures .0) (c .before .before .before .before .before .if1 .left) (c .before .before .before .before .before .before .before .before .before .before .before .before .before .before .before .before .before .before .before .before .before .pre .0 .frame .word) (c .before .before .before .add-binding .ensures) (c .before .before .before .before .before .before .before .before .before .before .before .before .before .before .before .before .before .before .before .before .before .pre .0 .frame .here .seen) in
     (some-state now, still-waiting (c .before .before .before .before .before .before .before .before .before .before .before .before .before .before .before .before .before .before .before .before .before .pre .0 .frame .here .seen) now (c .before .before .before .before .before .before .before .before .before .before .before .before .before .before .before .before .before .before .before .before .before .pre .0 .frame .waiting), omega arith)
 
 returns-3 : tie.Need-returns-3
 returns-3 c = (
   λ rest st fs g s.
       performs-as (binds s _ fs (c .before .before .before .before .before .before .before .before .before .before .before .before .before .before .before .before .before .before .before .before .before .before .before .before .args .w .value) (c .before .before .before .before .before .before .before .before .before .before .before .before .before .before .before .before .before .before .before .before .before .before .before .before .args .w .name) (c .before .before .before .before .before .before .before .before .before .before .before .before .before .before .before .before .before .before .before .before .before .before .before .before .args .w .first) (c .before .before .before .before .before .before .before .before .before .before .before .before .before .before .before .before .before .before .before .before .before .before .before .before .args .w .body) (c .before .before .before .before .before .before .before .before .before .before .before .before .before .before .before .before .before .before .before .before .before .before .before .before .args .w .env) _ (c .before .before .before .before .before .before .before .before .before .before .before .before .before .before .before .before .first-type .ensures .0) _ _ (c .before .before .before .before .before .before .before .before .before .before .before .before .first .given .1) (c .before .before .before .before .before .before .before .before .before .count .ensures .0) (c .before .before .before .before .before .before .before .before .if1 .left))
-      (performs-moved (c .before .before .pop .ensures rest _ _ g fs (running _ _ fs) refl refl refl (bound-more _ _ (c .before .before .before .before .before .before .before .before .before .count .ensures .0) (c .before .before .before .before .before .before .before .before .if1 .left) (c .before .before .before .before .before .before .add-binding .ensures) s))),
+      (performs-moved (c .before .before .pop .ensures rest _ _ g fs (running _ _ fs) refl refl refl (bound-more _ _ (c .before .before .before .before .before .before .before .before .before .count .ensures .0) (c .before .before .before .before .before .before .before .before .if1 .left) (c .before .before .before .before .before .before .before .before .before .before .before .before .before .before .before .before .before .before .before .before .before .before .before .before .pre .0 .frame .word) (c .before .before .before .before .before .before .add-binding .ensures) s))),
   c .before .before .before .before .before .before .before .before .before .before .before .before .before .before .before .before .first-type .ensures .1,
 )
 

@@ -6,15 +6,15 @@ use Rattle.waiting.proofs.waiting.add_call.Statement.{statement}
 use Rattle.waiting.proofs.waiting.add_call.Tie as tie
 
 add-binding-requires : tie.Need-add-binding-requires
-add-binding-requires c κs = (long (c .before .before .pre .4 .0) (c .before .before .pre .4 .1), omega (arith, c .before .before .pre .0, c .before .before .pre .1), omega (arith, c .before .before .pre .2))
+add-binding-requires c κs = (long (c .before .before .pre .4 .0) (c .before .before .pre .4 .1), omega (arith, c .before .before .pre .0, c .before .before .pre .1))
 
 add-binding-requires-2 : tie.Need-add-binding-requires-2
-add-binding-requires-2 c κs = (omega (arith, long (c .before .before .before .before .before .before .pre .4 .0) (c .before .before .before .before .before .before .pre .4 .1)), omega (arith, one-more (c .before .before .before .before .before .before .pre .4 .0) _ (c .before .before .before .before .before .before .pre .4 .1) (c .before .before .before .add-binding .ensures), c .before .before .before .before .before .before .pre .0, c .before .before .before .before .before .before .pre .1), c .before .before .before .before .before .before .pre .3)
+add-binding-requires-2 c κs = (omega (arith, long (c .before .before .before .before .before .before .pre .4 .0) (c .before .before .before .before .before .before .pre .4 .1)), omega (arith, one-more (c .before .before .before .before .before .before .pre .4 .0) _ (c .before .before .before .before .before .before .pre .4 .1) (c .before .before .before .add-binding .ensures), c .before .before .before .before .before .before .pre .0, c .before .before .before .before .before .before .pre .1))
 
 returns : tie.Need-returns
 returns c =
     let back = c .before .before .before .before .before .before in
-    λ i rest st u s. adds-call s _ _ _ _ _ (back .before .before .before .pre .0) (back .before .before .before .pre .1) (back .add-binding .ensures) (c .before .before .add-binding2 .ensures)
+    λ i rest st u s. adds-call s _ _ _ _ _ (back .before .before .before .pre .0) (back .before .before .before .pre .1) (omega (arith, back .before .before .before .pre .2)) (back .before .before .before .pre .3) (back .add-binding .ensures) (c .before .before .add-binding2 .ensures)
 
 pub add-call-spec : {M : Type 1} → statement M
 add-call-spec =
