@@ -1,4 +1,4 @@
-/* What the test programs share: words in bytes, and memory to lend that ends where a page that may not be touched begins, so that a read or a write past the end would end the program. */
+/* What the test programs share: words in bytes, the number that a run has come to, and memory to lend that ends where a page that may not be touched begins, so that a read or a write past the end would end the program. */
 #ifndef LENT_H
 #define LENT_H
 
@@ -16,6 +16,14 @@ static inline void put(uint8_t *bytes, size_t at, unsigned word) {
 
 static inline unsigned get(const uint8_t *bytes, size_t at) {
     return bytes[at] + 256u * bytes[at + 1];
+}
+
+/* The number that the root has, if it has a value that is one. docs/BLOCK.md: position 0, its kind, its value's kind, low word and high word. */
+static inline int root_number(const uint8_t *block, long *number) {
+    enum { POSITION = 37896, WITH_VALUE = 2, NUMBER = 2 };
+    long low = (long)get(block, POSITION + 8), high = (long)get(block, POSITION + 10);
+    *number = low + 65536 * (high < 32768 ? high : high - 65536);
+    return get(block, POSITION) == WITH_VALUE && get(block, POSITION + 6) == NUMBER;
 }
 
 struct lent {

@@ -67,14 +67,6 @@ static unsigned replay(uint8_t *block, const uint8_t *choices, size_t count) {
     return reply.stop;
 }
 
-/* The number that the root has, if it has a value that is one. docs/BLOCK.md: position 0, its kind, its value's kind, low word and high word. */
-static int root_number(const uint8_t *block, long *number) {
-    enum { POSITION = 37896, WITH_VALUE = 2, NUMBER = 2 };
-    long low = (long)get(block, POSITION + 8), high = (long)get(block, POSITION + 10);
-    *number = low + 65536 * (high < 32768 ? high : high - 65536);
-    return get(block, POSITION) == WITH_VALUE && get(block, POSITION + 6) == NUMBER;
-}
-
 static void expect_number(const uint8_t *block, unsigned stop, const char *wanted) {
     long number;
     int is_number = stop == OOLONG_FINISHED && root_number(block, &number);
