@@ -115,7 +115,7 @@ enum oolong_stop {
 
 /* Stack that is enough for any call, in bytes, by measurement on x86-64, where the script's expressions are nested so deep: a node that is no part of another is nested 1 deep, and a part one
  * deeper than its node. OOLONG_STACK is enough for any script, OOLONG_STACK_USUAL for one that is nested at most 100 deep. */
-#define OOLONG_STACK_FOR(nesting) (22528u + 410u * (nesting))
+#define OOLONG_STACK_FOR(nesting) (24576u + 410u * (nesting))
 #define OOLONG_STACK_USUAL OOLONG_STACK_FOR(100u)
 #define OOLONG_STACK OOLONG_STACK_FOR(OOLONG_NODES_MOST)
 

@@ -191,7 +191,7 @@ pub fn endless() -> Script {
     }
 }
 
-/// A method that counts: m(x) = let y = this.f in let z = (this.f = y + x) in this.m(x), called with 1. Each round adds four bindings, until there is no room.
+/// A method that counts: m(x) = let y = this.f in let z = (this.f = y + x) in this.m(x), called with 1. Each round adds four bindings; a choice list ends before there is no room.
 pub fn counting() -> Script {
     Script {
         interfaces: vec![[0, 1, 0]],

@@ -87,6 +87,10 @@ static void checks_of_numbers(void) {
         {"a sum's unused word", {{11, 2, 2, 1}}, 1, OOLONG_NO_NODE, 24, 0},
         {"kind 12", {{12, 0, 0, 0}}, 1, OOLONG_NO_NODE, 24, 0},
         {"let x = 1 in lock x in x", {{5, 2, 1, 2}, {10, 1, 0, 0}, {9, 2, 3, 0}, {1, 2, 0, 0}}, 4, OOLONG_NO_MEMBER, 40, 0},
+        {"let x = 1 in x.f", {{5, 2, 1, 2}, {10, 1, 0, 0}, {2, 2, 0, 0}}, 3, OOLONG_NO_MEMBER, 40, 0},
+        {"let x = 1 in x.f = null", {{5, 2, 1, 2}, {10, 1, 0, 0}, {3, 2, 0, 3}, {0, 0, 0, 0}}, 4, OOLONG_NO_MEMBER, 40, 0},
+        {"let x = 1 in x.m(null)", {{5, 2, 1, 2}, {10, 1, 0, 0}, {4, 2, 0, 3}, {0, 0, 0, 0}}, 4, OOLONG_NO_MEMBER, 40, 0},
+        {"(Int)let x = 1 in null", {{7, 1, 1, 0}, {5, 2, 2, 3}, {10, 1, 0, 0}, {0, 0, 0, 0}}, 4, OOLONG_NO_FIT, 48, 0},
         {"let x = 1 in x + y", {{5, 2, 1, 2}, {10, 1, 0, 0}, {11, 2, 3, 0}}, 3, OOLONG_NO_VARIABLE, 40, 0},
         {"let x = (Unit)null in x + x", {{5, 2, 1, 3}, {7, 0, 2, 0}, {0, 0, 0, 0}, {11, 2, 2, 0}}, 4, OOLONG_NO_FIT, 48, 0},
     };

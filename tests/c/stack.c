@@ -150,6 +150,8 @@ int main(void) {
         unsigned kind, name, nodes;
         int numbers;
     } cases[] = {
+        {"a cast", 7, 0, 2, 0},
+        {"10 casts in casts", 7, 0, 10, 0},
         {"100 casts in casts", 7, 0, 100, 0},
         {"casts in casts", 7, 0, OOLONG_NODES_MOST, 0},
         {"casts in casts of a number", 7, 0, OOLONG_NODES_MOST, 1},

@@ -23,7 +23,8 @@ ghost use Rattle.block.specs.Values.{valueIn, Storable};
 ghost use Rattle.block.specs.Block.{shutWord, Parts, laid};
 ghost use Rattle.representation.specs.Changed.{withObjects, withBindings, withShut, withField};
 
-// "new makes an open object with null fields", whatever number m of them: null is 0, as is all past the last object.
+// An open object with null in each of its m fields, whatever m is: null is all zeros, as is all past the last object. The initial values of its class follow in
+// crate moves.
 pub fn new_object(block: &mut [u8], class: u16)
     requires { ⌜ (length (now block) ≡ BLOCK) × (counted (now block) Objects < OBJECTS) ⌝ }
     ensures { λ r. ⌜

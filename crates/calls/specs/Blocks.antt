@@ -106,7 +106,7 @@ blockCases =
     record { config = configured [] (variable 2 3 nil 2 ∷ variable 2 3 nil 0 ∷ []) (running 11 2 []); well = false } ∷
     -- the first to the second
     record { config = configured [] (variable 2 3 nil 0 ∷ variable 2 3 nil 2 ∷ []) (running 11 2 []); well = false } ∷
-    -- "Type 0 is Unit; interfaces are 1 to I, classes I+1 to I+C.": a binding of type 4, the last one
+    -- "Type 0 is Unit; interfaces are 1 to I, classes I+1 to I+C.": a binding of type 4, the last class
     record { config = configured [] (variable 2 4 nil 0 ∷ []) failed; well = true } ∷
     -- a binding of type 6, which is none
     record { config = configured [] (variable 2 6 nil 0 ∷ []) failed; well = false } ∷

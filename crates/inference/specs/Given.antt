@@ -15,7 +15,8 @@ use Rattle.inference.specs.declared.Given.{Given}
 use Rattle.inference.specs.declared.Given.the-variants.{Typed as typed-at, Null as null-at, Faulty as faulty-at}
 use Rattle.inference.specs.Tables.{EnvIs}
 
--- The answer for an expression that gives this, where it is inferred, and with any aim. "A null is checked against any type and inferred never."
+-- The answer for an expression that gives this, where it is inferred, and with any aim. "A null is checked against any type and inferred never",
+-- but "Null does not fit Int (14)".
 abbrev pub inferredAs : Given → Answer
 inferredAs (typed-at t n) = Typed t
 inferredAs (null-at n) = Faulty Nulls n

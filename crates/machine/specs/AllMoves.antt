@@ -27,7 +27,7 @@ use Rattle.machine.specs.Runs.{Report, report}
 use Rattle.machine.specs.Decide.{wellFormedTest}
 
 -- The script. Type 1 is the interface I { 5(I) : I }, type 2 the class C of it, with fields 8 : I, 7 : C and 9 : Int, which is type 3, and a method 6(Int) : C
--- besides; x is variable 2, y is 3, z is 4, the number m is 6, and n is the parameter of method 6. Its nodes:
+-- besides; x is variable 2, y is 3, z is 4; m, a number, is variable 6, and n, another, the parameter of method 6. Its nodes:
 unfoldable pub exampleNodes : List Node
 exampleNodes =
     -- 0, 1: let x = new C in

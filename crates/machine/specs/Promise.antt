@@ -23,7 +23,7 @@ pub record Promised (s : Code) (lim : Places) (c : Config) : Type 0 where
       → (u : ℕ) × FieldIn (s .program) (y .class) f u
   pub method-asked : (m : ℕ) (y : Object) (p : Path) (t : Tree) → part (c .tree) p ≡ some t → AsksMethod s (c .stores) m y t
       → (t u : ℕ) × MsigIn (s .program) (y .class) (record { name = m; param = t; result = u })
-  -- every binding and field holds null, an object whose class is below its type, or a number where its type is Int
+  -- every binding and field holds a number if its type is Int, and else null or an object whose class is below its type
   pub binding-typed : (b : Binding) → b ∈ c .stores .bindings → ValueFits s (c .stores .objects) (b .value) (upto (b .type))
   pub field-typed : (o : ℕ) (y : Object) (f u : ℕ) (v : Value) → object (c .stores .objects) o ≡ some y → FieldIn (s .program) (y .class) f u
       → fieldValue (fieldsOf (s .program) (y .class)) (y .fields) f ≡ some v → ValueFits s (c .stores .objects) v (upto u)

@@ -43,7 +43,8 @@ quietIn s (some (returning v fs)) = false
 quietIn s (some failed) = false
 quietIn s (some (join fs a e l r)) = false
 
--- The silent moves of a thread, one by one: "null becomes a value; kinds 3, 4, 5 and 7 descend into their first-run part and leave a frame".
+-- The silent moves of a thread, one by one: "null becomes a value; kinds 3, 4, 5 and 7 descend into their first-run part and leave a frame", and a constant
+-- "becomes a value silently as null does".
 pub data SilentMove (s : Code) : Tree → Tree → Type 0 where
   -- kind 0
   null-value : {a : Point} {e : ℕ} {fs : List Frame} → s .view a ≡ n-null → SilentMove s (running a e fs) (returning nil fs)

@@ -34,7 +34,7 @@ pub data NullMeets (s : Code) : Want → Type 0 where
 
 -- Γ ⊢ v : t, of Figure 5: "value types fit".
 pub data ValueFits (s : Code) (xs : List Object) : Value → Want → Type 0 where
-  -- WF-NULL
+  -- WF-NULL, with the premise of BD-CHECK-NULL
   fits-nil : {w : Want} → NullMeets s w → ValueFits s xs nil w
   -- WF-LOC: Γ(ι) is the object's class
   fits-ref : {o : ℕ} {x : Object} {w : Want} → object xs o ≡ some x → Meets s (x .class) w → ValueFits s xs (ref o) w
@@ -43,7 +43,7 @@ pub data ValueFits (s : Code) (xs : List Object) : Value → Want → Type 0 whe
 
 -- Γ ⊢ e ⇐ t of Figure 11, and where any type will do the same with some t: `gives-checks`, `gives-some`.
 pub data Gives (s : Code) : List Slot → Expr → Want → Type 0 where
-  -- BD-CHECK-NULL: "A null is checked against any type and inferred never."
+  -- BD-CHECK-NULL: "A null is checked against any type and inferred never", but "Null does not fit Int (14)".
   gives-null : {Γ : List Slot} {n : Point} {w : Want} → NullMeets s w → Gives s Γ (null n) w
   -- BD-CHECK-SUB
   gives-type : {Γ : List Slot} {a : Expr} {t : ℕ} {w : Want} → Infer (s .program) Γ a t → Meets s t w → Gives s Γ a w

@@ -92,8 +92,9 @@ abbrev pub aimed : Program → Point → Aim → Answer → Answer
 aimed p n infers r = r
 aimed p n (checks t) r = andThen r (λ u. fits (below p u t) n t)
 
--- "A null is checked against any type and inferred never." "A write has type Unit. A cast infers its type after checking its operand. Let, lock and fork infer
--- the type of their last part", and "when a let, a lock or a fork is checked against a type, its last part is checked against that same type": the aim goes on.
+-- "A null is checked against any type and inferred never", but `nullTest` excepts Int. "A write has type Unit. A cast infers its type after checking its
+-- operand. Let, lock and fork infer the type of their last part", and "when a let, a lock or a fork is checked against a type, its last part is checked against
+-- that same type": the aim goes on.
 unfoldable pub answer : Program → List Slot → Expr → Aim → Answer
 answer p Γ (null n) infers = Faulty Nulls n
 answer p Γ (null n) (checks t) = fits (nullTest p t) n t

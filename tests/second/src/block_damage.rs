@@ -41,13 +41,20 @@ pub enum ValueDamage {
     Number,
     /// The first word is 3 or more.
     Kind,
-    /// One of the three words is another.
-    Word,
+    /// This one of the three words is another.
+    Word(usize),
 }
 
 impl ValueDamage {
-    pub const ALL: [ValueDamage; 5] =
-        [ValueDamage::Null, ValueDamage::Object, ValueDamage::Number, ValueDamage::Kind, ValueDamage::Word];
+    pub const ALL: [ValueDamage; 7] = [
+        ValueDamage::Null,
+        ValueDamage::Object,
+        ValueDamage::Number,
+        ValueDamage::Kind,
+        ValueDamage::Word(0),
+        ValueDamage::Word(1),
+        ValueDamage::Word(2),
+    ];
 }
 
 /// A random edit of a block whose script has this type as its last, Int. It is not made where the block has no record for it.
@@ -176,11 +183,11 @@ fn change_value(block: &mut [u8], area: Area, damage: ValueDamage, rng: &mut Rng
             value_words(Value::Object(object))
         }
         ValueDamage::Number => value_words(Value::Number(rng.number())),
-        ValueDamage::Kind | ValueDamage::Word => old,
+        ValueDamage::Kind | ValueDamage::Word(_) => old,
     };
     match damage {
         ValueDamage::Kind => new[0] = 3 + rng.word() / 2,
-        ValueDamage::Word => new[rng.below(VALUE)] = [0, 1, 2, rng.word()][rng.below(4)],
+        ValueDamage::Word(word) => new[word] = [0, 1, 2, rng.word()][rng.below(4)],
         ValueDamage::Null | ValueDamage::Object | ValueDamage::Number => {}
     }
     for (index, word) in new.into_iter().enumerate() {

@@ -29,7 +29,7 @@ fn sum(tallies: &BTreeMap<Origin, Tally>, which: impl Fn(Origin) -> bool) -> Tal
 fn made_blocks_are_accepted_and_damaged_ones_often_not() {
     let mut rng = Rng::new(1);
     let mut tallies: BTreeMap<Origin, Tally> = BTreeMap::new();
-    for _ in 0..10_000 {
+    for _ in 0..30_000 {
         let case = any_case(&mut rng);
         let number = offer(&case.script, &case.block, &mut case.flags.clone()).number;
         let tally = tallies.entry(case.origin).or_default();
@@ -52,10 +52,8 @@ fn made_blocks_are_accepted_and_damaged_ones_often_not() {
             |damage| tallies.get(&Origin::Damaged(Edit::Value { area, damage })).copied().unwrap_or_default();
         // Null fits most positions that wait for a value; a kind of 3 or more fits nowhere.
         assert!(ValueDamage::ALL.map(by_damage).iter().all(|tally| tally.refused > 0), "{tallies:?}");
-        assert!([ValueDamage::Object, ValueDamage::Number, ValueDamage::Word]
-            .map(by_damage)
-            .iter()
-            .all(|tally| tally.accepted > 0));
+        assert!([ValueDamage::Object, ValueDamage::Number].map(by_damage).iter().all(|tally| tally.accepted > 0));
+        assert!((0..3).any(|word| by_damage(ValueDamage::Word(word)).accepted > 0));
         assert!(by_damage(ValueDamage::Kind).accepted == 0);
     }
     let unused = tallies[&Origin::Damaged(Edit::Unused)];

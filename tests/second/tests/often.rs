@@ -15,7 +15,7 @@ use std::collections::BTreeMap;
 const CASES: u32 = 20_000;
 
 /// One in so many is often enough.
-const RARE: u32 = 1_000;
+const RARE: u32 = 2_000;
 
 #[derive(Default)]
 struct Tally(BTreeMap<&'static str, u32>);
@@ -25,10 +25,12 @@ impl Tally {
         *self.0.entry(what).or_default() += u32::from(is_so);
     }
 
-    fn is_often(&self) {
+    /// As many kinds of things came up as are looked for, and each often.
+    fn is_often(&self, kinds: usize) {
         for (what, times) in &self.0 {
             println!("{times:8} {what}");
         }
+        assert_eq!(self.0.len(), kinds);
         assert!(self.0.values().all(|&times| times > CASES / RARE));
     }
 }
@@ -80,7 +82,7 @@ fn refusals_of_scripts() {
         let shares = |side: u16| script.nodes.get(side as usize).is_some_and(|node| node[0] == SUM);
         tally.count("15: an async that is a sum", number == 15 && (shares(a) || shares(b)));
     }
-    tally.is_often();
+    tally.is_often(15);
 }
 
 /// What the chosen move was about, if it was about numbers.
@@ -99,7 +101,8 @@ fn count_move(program: &Program, before: &State, after: &State, choice: u8, tall
         Expr::Number { .. } => tally.count("a constant becomes a value", true),
         Expr::Sum { .. } => {
             tally.count("a sum", number.is_some());
-            tally.count("a sum near an end of the range", number.is_some_and(|sum| sum.unsigned_abs() > 0x7FFF_0000));
+            tally.count("a sum that is the greatest number", number == Some(i32::MAX));
+            tally.count("a sum that is the least number", number == Some(i32::MIN));
             tally.count("a sum that fails", failed);
             tally.count("a sum that fails while an object is shut", failed && holds);
         }
@@ -136,7 +139,7 @@ fn moves() {
             }
         }
     }
-    tally.is_often();
+    tally.is_often(11);
 }
 
 #[test]
@@ -156,12 +159,14 @@ fn damaged_values() {
                 "an object in place of another value",
             ),
             (ValueDamage::Number, "21: a number that does not fit", "a number in place of another value"),
-            (ValueDamage::Word, "21: a word of a value", "a word of a value, and it still fits"),
+            (ValueDamage::Word(1), "21: a value's low word", "a value's low word, and it still fits"),
+            (ValueDamage::Word(2), "21: a value's high word", "a value's high word, and it still fits"),
         ] {
             tally.count(refused, damage == wanted && number == 21);
             tally.count(accepted, damage == wanted && number == 0);
         }
         tally.count("21: a kind of 3 or more", damage == ValueDamage::Kind && number == 21);
+        tally.count("21: a value's first word", damage == ValueDamage::Word(0) && number == 21);
     }
-    tally.is_often();
+    tally.is_often(13);
 }
