@@ -2,8 +2,8 @@
 # make demo       the checking program on every sample script, with what each shows
 # make test       the whole test run, which is the gate
 # make quick      for daily work: what has changed since it was last proved, proved and compiled, and the short tests; no must-fail edit
-# make install    under PREFIX (default /usr/local; each place by itself: LIBDIR, INCLUDEDIR, BINDIR, PKGCONFIGDIR), in DESTDIR if it is given
-# make uninstall  removes what `make install` with the same variables has put there
+# make install    under PREFIX (default /usr/local; each place by itself: LIBDIR, INCLUDEDIR, BINDIR, PKGCONFIGDIR, DOCDIR), in DESTDIR if it is given
+# make uninstall  removes what `make install` with the same variables has put there, and DOCDIR if nothing else is in it
 # make bench      the speed of the calls beside the second implementation's
 # make clean      removes build/ and target/
 
@@ -12,6 +12,7 @@ LIBDIR ?= $(PREFIX)/lib
 INCLUDEDIR ?= $(PREFIX)/include
 BINDIR ?= $(PREFIX)/bin
 PKGCONFIGDIR ?= $(LIBDIR)/pkgconfig
+DOCDIR ?= $(PREFIX)/share/doc/liboolong
 OBJCOPY ?= objcopy
 CFLAGS ?= -O2
 CFLAGS += -std=c11 -D_DEFAULT_SOURCE -Wall -Wextra -Werror
@@ -25,13 +26,24 @@ CALLS := oolong_check oolong_start oolong_offer oolong_run
 
 LIBRARY := build/lib/liboolong.a
 PROGRAM := build/bin/oolong_check
-INSTALLED = $(LIBDIR)/liboolong.a $(INCLUDEDIR)/oolong.h $(BINDIR)/oolong_check $(PKGCONFIGDIR)/liboolong.pc
+DOCUMENTS := BLOCK.md SCRIPT.md
+INSTALLED = $(LIBDIR)/liboolong.a $(INCLUDEDIR)/oolong.h $(BINDIR)/oolong_check $(PKGCONFIGDIR)/liboolong.pc $(addprefix $(DOCDIR)/,$(DOCUMENTS))
 
 ifneq ($(filter-out clean uninstall,$(or $(MAKECMDGOALS),all)),)
 ifneq ($(shell uname -sm),Linux x86_64)
 $(error the engine is compiled for x86-64 Linux only, and this is $(shell uname -sm))
 endif
 endif
+
+# make's lists of files and pkg-config's words end at a space, so no place may have one.
+space := $(subst ,, )
+ifneq ($(filter install uninstall,$(MAKECMDGOALS)),)
+$(foreach place,DESTDIR PREFIX LIBDIR INCLUDEDIR BINDIR PKGCONFIGDIR DOCDIR,\
+    $(if $(findstring $(space),$($(place))),$(error $(place) is '$($(place))', and no place may have a space in it)))
+endif
+
+# A place as liboolong.pc names it: within the prefix, so that the folder can be moved.
+in_prefix = $(patsubst $(PREFIX)/%,$${prefix}/%,$(1))
 
 .PHONY: all test quick demo install uninstall bench clean
 
@@ -79,10 +91,13 @@ install: all
 	install -m 644 $(LIBRARY) $(DESTDIR)$(LIBDIR)/
 	install -m 644 build/include/oolong.h $(DESTDIR)$(INCLUDEDIR)/
 	install -m 755 $(PROGRAM) $(DESTDIR)$(BINDIR)/
-	sed 's|@PREFIX@|$(PREFIX)|; s|@LIBDIR@|$(LIBDIR)|; s|@INCLUDEDIR@|$(INCLUDEDIR)|; s|@VERSION@|$(VERSION)|' include/liboolong.pc.in >$(DESTDIR)$(PKGCONFIGDIR)/liboolong.pc
+	install -m 644 $(addprefix docs/,$(DOCUMENTS)) $(DESTDIR)$(DOCDIR)/
+	sed 's|@PREFIX@|$(PREFIX)|; s|@LIBDIR@|$(call in_prefix,$(LIBDIR))|; s|@INCLUDEDIR@|$(call in_prefix,$(INCLUDEDIR))|; s|@VERSION@|$(VERSION)|' \
+	    include/liboolong.pc.in >$(DESTDIR)$(PKGCONFIGDIR)/liboolong.pc
 
 uninstall:
 	rm -f $(addprefix $(DESTDIR),$(INSTALLED))
+	rmdir $(DESTDIR)$(DOCDIR) 2>/dev/null || :
 
 bench: $(LIBRARY)
 	cargo run --quiet --release --offline --manifest-path bench/Cargo.toml

@@ -8,6 +8,8 @@
  *     oolong_offer   which threads can move next?
  *     oolong_run     moves threads in the order that you choose
  *
+ * SCRIPT.md and BLOCK.md are installed beside this header, in share/doc/liboolong, and stand in docs/ of the sources.
+ *
  * Every call returns, whatever bytes it is lent: you need not check them first. Nothing here allocates memory, keeps anything between calls, reads or writes a file, or calls back.
  * A reply depends on nothing but the lent bytes and lengths. Calls may run at the same time in different threads if each has buffers of its own for what it writes: one script, and any
  * other buffer that the calls only read, may be lent to all of them at once.
@@ -20,13 +22,15 @@
  * the byte offset in the script of the lowest record at fault, or 0 where the question is about the script as a whole or about another buffer. A refusal leaves every other number of
  * the reply 0, and EVERY LENT BYTE AS IT WAS.
  *
- * The block. A run's whole state is in the 65,536 bytes of the block, which is yours; docs/BLOCK.md says what each byte means. A state has exactly one block: two runs of a script are in the
+ * The script. A file of 24 to 13,592 bytes; SCRIPT.md says what each byte means.
+ *
+ * The block. A run's whole state is in the 65,536 bytes of the block, which is yours; BLOCK.md says what each byte means. A state has exactly one block: two runs of a script are in the
  * same state just where memcmp of their blocks is 0. All numbers in it stand low byte first on every machine. Between calls you may keep a block as long as you like, move it, save it to a
  * file and load it again, copy it to come back to that state later, and run the copies on in different ways. Lend it with the script that it was started with. You may also lend a block
  * that was changed, damaged or made by hand: if it is no well-formed state of the script the call is refused with OOLONG_NO_BLOCK_FORM, and if it is one, the run goes on from there.
  * A block that was written by a library of major version 1 (layout 1, 49,152 bytes) is refused with OOLONG_NO_BLOCK_LENGTH: let the old library end its runs, or start them anew.
  *
- * Stack. See OOLONG_STACK_FOR: the calls go as deep as the script's expressions are nested.
+ * Stack. The calls go as deep as the script's expressions are nested: OOLONG_STACK_FOR says what a thread needs that makes them.
  *
  * Versions. The names that the linker sees end in the major version: a program that was compiled with the header of another major version does not link with this library, since replies are
  * returned by value and may then have other fields. In C and C++ the calls have the names that are declared here. The header is for gcc and clang, in C from C89 and in C++ from C++98 on.
@@ -44,7 +48,7 @@ extern "C" {
 /* The major version changes where a call, a reply, a number's meaning or the block's layout does; the minor where something is added; the patch where neither does. */
 #define OOLONG_VERSION_MAJOR 2
 #define OOLONG_VERSION_MINOR 0
-#define OOLONG_VERSION_PATCH 0
+#define OOLONG_VERSION_PATCH 1
 #define OOLONG_VERSION (OOLONG_VERSION_MAJOR * 10000 + OOLONG_VERSION_MINOR * 100 + OOLONG_VERSION_PATCH)
 
 /* The number of the block's layout: it changes where a byte of the block changes its meaning. A block that you keep in a file is best kept with this number. */
@@ -113,9 +117,12 @@ enum oolong_stop {
     OOLONG_FULL_THREADS = 7
 };
 
-/* Stack that is enough for any call, in bytes, by measurement on x86-64, where the script's expressions are nested so deep: a node that is no part of another is nested 1 deep, and a part one
- * deeper than its node. OOLONG_STACK is enough for any script, OOLONG_STACK_USUAL for one that is nested at most 100 deep. */
-#define OOLONG_STACK_FOR(nesting) (24576u + 410u * (nesting))
+/* Stack that is enough for a thread that makes any of the calls, in bytes, where the script's expressions are nested so deep: a node that is no part of another is nested 1 deep, and a part one
+ * deeper than its node. pthread_attr_setstacksize may be given this number as it is. In it are 8,192 bytes for the thread itself, 24,576 for a call, and 410 for each level of nesting, all by
+ * measurement on x86-64 with glibc, with some room. Add what your own functions use that make the call; the program's thread-local variables, if they are large, since glibc keeps them, and what
+ * it knows of a thread, on the thread's stack; and what signal handlers use, if they run there. OOLONG_STACK is enough for any script, OOLONG_STACK_USUAL for one that is nested at most
+ * 100 deep. */
+#define OOLONG_STACK_FOR(nesting) (8192u + 24576u + 410u * (nesting))
 #define OOLONG_STACK_USUAL OOLONG_STACK_FOR(100u)
 #define OOLONG_STACK OOLONG_STACK_FOR(OOLONG_NODES_MOST)
 

@@ -1,6 +1,7 @@
 /*
  * How often a move copies the tree of threads. `copies < script` lends one choice at a time, round and round over the positions, and counts the copies of a tree's size: it is linked so that the
- * library's calls of memcpy and memmove come here first. No move may make more than two. Of a script with a fork some move makes one: else nothing would have been counted.
+ * library's calls of memcpy and memmove come here first. No move may make more than two: a fork, a failure and a join that goes on take the tree out, which is one, and the join makes another
+ * (docs/DECISIONS.md, 67). Of a script with a fork some move makes one: else nothing would have been counted.
  */
 #include "lent.h"
 #include "oolong.h"

@@ -1,13 +1,16 @@
 /*
  * How much stack the calls use. `stack < script` measures each call on a stack of our own that is painted first: without a script, which is refused at once, on the script, which is one of the
- * usual size, and on scripts that are nested as deep as a file can be. None may use more than the header's OOLONG_STACK_FOR says for its nesting.
+ * usual size, and on scripts that are nested as deep as a file can be. None may use more than the header's OOLONG_STACK_FOR has for a call and its nesting. Then a thread whose stack has just
+ * OOLONG_STACK_FOR bytes makes all of the calls, in a process of its own, which a stack that is too small would end.
  */
 #include <pthread.h>
+#include <sys/wait.h>
 
 #include "lent.h"
 #include "oolong.h"
 
-enum { STACK = 4 * 1024 * 1024, PAINT = 0xa5 };
+/* THREAD: what OOLONG_STACK_FOR has for the thread itself. */
+enum { STACK = 4 * 1024 * 1024, PAINT = 0xa5, THREAD = 8192 };
 
 static uint8_t block[OOLONG_BLOCK];
 
@@ -125,11 +128,38 @@ static unsigned nesting(const uint8_t *script, size_t len) {
     return most;
 }
 
-/* Says what each call uses on this script; whether all answer with this number and none uses more than the header says. */
+/* All calls in one thread; the number of the last. */
+static void *work_all(void *given) {
+    struct job *job = given;
+    for (size_t i = 0; i < sizeof calls / sizeof *calls; i++) job->number = calls[i].call(job->script, job->len);
+    return NULL;
+}
+
+/* Whether a thread with this many bytes of stack makes all calls on the script, the last with this number: a process of its own ends with 0 then. */
+static int enough(size_t bytes, const uint8_t *script, size_t len, unsigned number) {
+    int status = 0;
+    fflush(stdout);
+    pid_t child = fork();
+    sure(child >= 0, "fork");
+    if (child == 0) {
+        struct job job = {NULL, script, len, 0};
+        pthread_attr_t attributes;
+        pthread_t thread;
+        if (pthread_attr_init(&attributes) != 0 || pthread_attr_setstacksize(&attributes, bytes) != 0) _exit(2);
+        if (pthread_create(&thread, &attributes, work_all, &job) != 0 || pthread_join(thread, NULL) != 0) _exit(2);
+        _exit(job.number != number);
+    }
+    sure(waitpid(child, &status, 0) == child, "waitpid");
+    if (WIFSIGNALED(status)) printf(" (FAIL  a thread of %zu bytes was ended by signal %d)", bytes, WTERMSIG(status));
+    if (WIFEXITED(status) && WEXITSTATUS(status) != 0) printf(" (FAIL  a thread of %zu bytes: status %d)", bytes, WEXITSTATUS(status));
+    return WIFEXITED(status) && WEXITSTATUS(status) == 0;
+}
+
+/* Says what each call uses on this script; whether all answer with this number, none uses more than the header has for it, and a thread with the header's stack is enough. */
 static int within(const char *what, const uint8_t *script, size_t len, unsigned number) {
     struct job idle = {NULL, NULL, 0, 0};
     unsigned deep = nesting(script, len);
-    size_t base = used(&idle), most = 0;
+    size_t base = used(&idle), most = 0, has = OOLONG_STACK_FOR(deep);
     int answered = 1;
     printf("%s, nested %u deep:", what, deep);
     for (size_t i = 0; i < sizeof calls / sizeof *calls; i++) {
@@ -139,8 +169,9 @@ static int within(const char *what, const uint8_t *script, size_t len, unsigned 
         if (job.number != number) printf(" (FAIL  its number is %u and not %u)", job.number, number), answered = 0;
         if (bytes > most) most = bytes;
     }
-    printf("; %s: the header says %u\n", most <= OOLONG_STACK_FOR(deep) ? "ok" : "FAIL", OOLONG_STACK_FOR(deep));
-    return answered && most <= OOLONG_STACK_FOR(deep);
+    answered &= enough(has, script, len, number);
+    printf("; %s: the header says %zu, of which %d are for the thread itself\n", most <= has - THREAD ? "ok" : "FAIL", has, THREAD);
+    return answered && most <= has - THREAD;
 }
 
 int main(void) {

@@ -1,8 +1,8 @@
 -- What the code's proofs need of the block's laws: the callees' contracts are premises, and the code's locals variables.
-use mathlib.Core.Path.{_≡_, refl, sym, ap, _∙_}
+use mathlib.Core.Path.{_≡_, sym, ap, _∙_}
 use mathlib.Core.Bool.{Bool, false}
 use mathlib.Core.List.{List, [], _∷_, _++_}
-use Prim.Native.Nat.{ℕ, zero, suc, _+_, _*_, _-_, _<_, _≤_}
+use Prim.Native.Nat.{ℕ, suc, _+_, _*_, _-_, _<_, _≤_}
 use native.Mathlib.Omega.{arith}
 use borrow.Author.Tests.{ne-eqb}
 use lib.IntN.{ℤ}
@@ -23,7 +23,7 @@ use Rattle.machine.specs.Config.{Object, Binding}
 use Rattle.machine.specs.Machine.{initial}
 use Rattle.block.specs.declared.Area.{Area}
 use Rattle.block.specs.declared.Area.the-variants.{Objects, Bindings, Positions, Frames}
-use Rattle.representation.specs.Changed.{putWords, withObjects, withBindings, withFrames, withShut, withField}
+use Rattle.representation.specs.Changed.{putWords, withObjects, withBindings, withFrames, markedShut, withField}
 use Rattle.block.specs.Layout.{width, most, begins, END, countByte, wordByte, counted, wordIn, SHUT, fieldWord, NAME, BOUND, LINK, RUNNING, AWAITS, CASTS}
 use Rattle.block.specs.Values.{REF, INT, valueWords, valueIn}
 use Rattle.block.specs.Block.{shutWord, objectWords, bindingWords, frameWords, Parts, laid, encode}
@@ -57,14 +57,11 @@ casts-said k x y e = rw e
 pub locks-said : (k x y : ℕ) → (k ≡ AWAITS → ⊥) → (k ≡ CASTS → ⊥) → locks x ≡ frameOf (k ∷ x ∷ y ∷ [])
 locks-said k x y a b = rw (ne-eqb k AWAITS a, ne-eqb k CASTS b)
 
-zeros : (n i : ℕ) → _≡_ {A = ℕ} (getD (replicate n 0) i 0) 0
-zeros zero i = refl
-zeros (suc n) zero = refl
-zeros (suc n) (suc i) = zeros n i
-
 -- the start written over bytes that were made 0
 pub started : (e z : List ℕ) → length e ≡ BLOCK → z ≡ replicate (length e) 0 → putWord (putWord z (wordByte Positions 0 0) RUNNING) (countByte Positions) 1 ≡ encode initial
-started e z long is = start-block z (ap length is ∙ length-replicate (length e) 0 ∙ long) (λ i. rw is (zeros (length e) i))
+started e z long is =
+    let same : length z ≡ length e = ap length is ∙ length-replicate (length e) 0 in
+    start-block z (same ∙ long) (is ∙ ap (λ (n : ℕ). replicate n 0) (sym same))
 
 -- words put one after the other
 pub pair-put :
@@ -174,7 +171,7 @@ module _ (b : List ℕ) (p : Parts) (is : b ≡ bytes (laid p)) where
 
   module _ (c : List ℕ) (o : ℕ) (d : Object) (room : o < OBJECTS) (h : o < length (p .objects)) where
     pub object-shut :
-        (s : Bool) (w : ℕ) → w ≡ shutWord s → c ≡ putWord b (wordByte Objects o SHUT) w → c ≡ bytes (laid (withObjects p (set (p .objects) o (withShut (getD (p .objects) o d) s))))
+        (s : Bool) (w : ℕ) → w ≡ shutWord s → c ≡ putWord b (wordByte Objects o SHUT) w → c ≡ bytes (laid (withObjects p (set (p .objects) o (markedShut (getD (p .objects) o d) s))))
     object-shut s w v e = e ∙ rw (v, is) (put-shut p o d room h s)
 
     pub object-field :

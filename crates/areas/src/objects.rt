@@ -21,7 +21,7 @@ ghost use Rattle.block.specs.declared.Area.the-variants.{Objects, Bindings};
 ghost use Rattle.block.specs.Layout.{counted, wordIn, fieldWord};
 ghost use Rattle.block.specs.Values.{valueIn, Storable};
 ghost use Rattle.block.specs.Block.{shutWord, Parts, laid};
-ghost use Rattle.representation.specs.Changed.{withObjects, withBindings, withShut, withField};
+ghost use Rattle.representation.specs.Changed.{withObjects, withBindings, markedShut, withField};
 
 // An open object with null in each of its m fields, whatever m is: null is all zeros, as is all past the last object. The initial values of its class follow in
 // crate moves.
@@ -55,7 +55,7 @@ pub fn set_shut(block: &mut [u8], o: usize, shut: bool)
         ((p : Parts) (d : Object) →
         now (block .entry) ≡ bytes (laid p) →
         o < length (p .objects) →
-        now (block .exit) ≡ bytes (laid (withObjects p (set (p .objects) o (withShut (getD (p .objects) o d) shut)))))
+        now (block .exit) ≡ bytes (laid (withObjects p (set (p .objects) o (markedShut (getD (p .objects) o d) shut)))))
         ⌝ }
 {
     let w = shut_word(shut);
@@ -67,7 +67,12 @@ pub fn field(block: &[u8], o: usize, k: usize) -> Value
     requires { ⌜ (length (now block) ≡ BLOCK) × (o < OBJECTS) × (k < CLASS-FIELDS) ⌝ }
     ensures { λ r. ⌜ (r ≡ valueIn (wordIn (now (block .entry)) Objects o) (fieldWord k)) × Storable r ⌝ }
 {
-    value(block, Area::Objects, o, Layout::FIELDS + Layout::VALUE * k)
+    value(
+        block,
+        Area::Objects,
+        o,
+        Layout::FIRST_FIELD + Layout::VALUE * k,
+    )
 }
 
 // v in field k of object o.
@@ -85,7 +90,7 @@ pub fn put_field(block: &mut [u8], o: usize, k: usize, v: Value)
         block,
         Area::Objects,
         o,
-        Layout::FIELDS + Layout::VALUE * k,
+        Layout::FIRST_FIELD + Layout::VALUE * k,
         v,
     );
 }

@@ -1,6 +1,6 @@
 -- The block is canonical: a configuration that fits is got back from its block, and a block is that of the configuration got from it.
 use mathlib.Core.Path.{_≡_, refl, sym}
-use mathlib.Core.Bool.{Bool, true, false, cond, _&&_}
+use mathlib.Core.Bool.{Bool, true, false, cond, _&&_, and-eq-true-iff}
 use mathlib.Core.List.{List, [], _∷_, map, reverse, reverse-reverse, List·Memᴰ·head, List·Memᴰ·tail}
 use mathlib.Core.Option.{none, some}
 use Prim.Native.Nat.{ℕ, _≤_}
@@ -79,10 +79,6 @@ module _ (fieldCount : ℕ → ℕ) (c : Config) (fit : Fits fieldCount c) where
           rw (read Positions, read Frames, map-back frameWords frameOf (framesOf (c .tree)) (λ f m. frame-back f))
           (tree-back (c .tree) (fit .values Positions))
 
-both-true : (a b : Bool) → a && b ≡ true → (a ≡ true) × (b ≡ true)
-both-true true b e = (refl, e)
-both-true false b e = absurd (true-false (sym e))
-
 -- the test of two lists for being the same
 same-self : (xs : List ℕ) → same xs xs ≡ true
 unfolding same
@@ -94,7 +90,7 @@ unfolding same
 same-is [] [] e = refl
 same-is [] (y ∷ ys) e = absurd (true-false (sym e))
 same-is (x ∷ xs) [] e = absurd (true-false (sym e))
-same-is (x ∷ xs) (y ∷ ys) e = let h = both-true (eqb x y) (same xs ys) e in let k = eqb-true x y (h .0) in let r = same-is xs ys (h .1) in cc
+same-is (x ∷ xs) (y ∷ ys) e = let h = and-eq-true-iff (eqb x y) (same xs ys) .0 e in let k = eqb-true x y (h .0) in let r = same-is xs ys (h .1) in cc
 
 -- a configuration that fits is got back from its block
 pub decode-encode : (fieldCount : ℕ → ℕ) (c : Config) → Fits fieldCount c → decode fieldCount (encode c) ≡ some c
@@ -111,7 +107,7 @@ unfolding decode
 encode-decode fieldCount b c e =
     let x = configIn fieldCount b in
     let p = passed (fitsTest fieldCount x && same (encode x) b) x c e in
-    let h = both-true (fitsTest fieldCount x) (same (encode x) b) (p .0) in
+    let h = and-eq-true-iff (fitsTest fieldCount x) (same (encode x) b) .0 (p .0) in
     rw (← p .1) (same-is (encode x) b (h .1), says-yes (decides-fits fieldCount x) (h .0))
 
 -- so two configurations that fit have the same block only if they are the same

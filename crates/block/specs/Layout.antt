@@ -25,18 +25,18 @@ countWord Positions = 3
 abbrev pub VALUE : ℕ
 VALUE = 3
 
--- Which word of its record is what. Of an object: its class, whether it is shut, and from FIELDS on a value for each field.
+-- Which word of its record is what. Of an object: its class, whether it is shut, and from FIRST-FIELD on a value for each field.
 abbrev pub CLASS : ℕ
 CLASS = 0
 
 abbrev pub SHUT : ℕ
 SHUT = 1
 
-abbrev pub FIELDS : ℕ
-FIELDS = 2
+abbrev pub FIRST-FIELD : ℕ
+FIRST-FIELD = 2
 
 abbrev pub fieldWord : ℕ → ℕ
-fieldWord k = FIELDS + VALUE * k
+fieldWord k = FIRST-FIELD + VALUE * k
 
 -- Of a binding: its name, its type, its value, and the binding beneath.
 abbrev pub NAME : ℕ

@@ -3,7 +3,7 @@ use crate::Area;
 use limits::Limits;
 ghost use mathlib.Core.Path.{_≡_};
 ghost use Prim.Native.Nat.{_<_};
-ghost use Rattle.block.specs.Layout.{WORDS, HEADER, countWord, width, most, begins, END, VALUE, CLASS, SHUT, FIELDS, NAME, TYPE, BOUND, LINK, KIND};
+ghost use Rattle.block.specs.Layout.{WORDS, HEADER, countWord, width, most, begins, END, VALUE, CLASS, SHUT, FIRST-FIELD, NAME, TYPE, BOUND, LINK, KIND};
 ghost use Rattle.block.specs.Layout.{NODE, OBJECT, ENV, RESULT, WAITING, RUNNING, RETURNING, FAILED, JOIN, AWAITS, CASTS, LOCKS};
 ghost use Rattle.block.specs.Values.{NULL, REF, INT};
 
@@ -16,7 +16,7 @@ impl Layout {
 
     pub const SHUT: usize = 1;
 
-    pub const FIELDS: usize = 2;
+    pub const FIRST_FIELD: usize = 2;
 
     pub const NAME: usize = 0;
 
@@ -59,7 +59,7 @@ impl Layout {
     pub const INT: u16 = 2;
 
     // The words of a record of each area.
-    pub const OBJECT_WIDTH: usize = Self::FIELDS + Self::VALUE * Limits::CLASS_FIELDS;
+    pub const OBJECT_WIDTH: usize = Self::FIRST_FIELD + Self::VALUE * Limits::CLASS_FIELDS;
 
     pub const BINDING_WIDTH: usize = Self::LINK + 1;
 
@@ -86,7 +86,7 @@ pub fn agreed()
     ensures { λ r. do ⌜ (← ⟦Layout::VALUE⟧ .entry) ≡ VALUE ⌝ }
     ensures { λ r. do ⌜ (← ⟦Layout::CLASS⟧ .entry) ≡ CLASS ⌝ }
     ensures { λ r. do ⌜ (← ⟦Layout::SHUT⟧ .entry) ≡ SHUT ⌝ }
-    ensures { λ r. do ⌜ (← ⟦Layout::FIELDS⟧ .entry) ≡ FIELDS ⌝ }
+    ensures { λ r. do ⌜ (← ⟦Layout::FIRST_FIELD⟧ .entry) ≡ FIRST-FIELD ⌝ }
     ensures { λ r. do ⌜ (← ⟦Layout::NAME⟧ .entry) ≡ NAME ⌝ }
     ensures { λ r. do ⌜ (← ⟦Layout::TYPE⟧ .entry) ≡ TYPE ⌝ }
     ensures { λ r. do ⌜ (← ⟦Layout::BOUND⟧ .entry) ≡ BOUND ⌝ }

@@ -24,8 +24,8 @@ use Rattle.block.specs.Fits.{Fits}
 use Rattle.block.specs.Decode.{decode}
 use Rattle.block.proofs.Decode.{decode-encode, encode-decode}
 use Rattle.calls.specs.declared.LentQuestion.the-variants.{BlockLength, BufferLength}
-use Rattle.calls.specs.Calls.{Questioned, no-at, yes-with, askScript, ask, askForm, wellFormed, configOf, blockLong, choicesFew, flagsLong, startAsked, blockAsked, startedFrom, startOf, offeredFrom, offerOf, ranFrom, runOf}
-use Rattle.calls.specs.Answers.{Holds, Stands, found, FirstNoTo, by-script, by-length, by-buffer, by-form, StartAnswers, start-refused, started, OfferAnswers, offer-refused, offered, RunAnswers, run-refused, has-run}
+use Rattle.calls.specs.Calls.{Questioned, no-at, yes-with, askScript, ask, askForm, wellFormed, configOf, blockLong, choicesFew, flagsLong, startAsked, blockAsked, checkedFrom, checkedOf, startedFrom, startOf, offeredFrom, offerOf, ranFrom, runOf}
+use Rattle.calls.specs.Answers.{Holds, Stands, found, CheckAnswers, check-refused, checked, FirstNoTo, by-script, by-length, by-buffer, by-form, StartAnswers, start-refused, started, OfferAnswers, offer-refused, offered, RunAnswers, run-refused, has-run}
 use Rattle.calls.proofs.Fits.{well-fits}
 
 only-some : (a : Bool) (x c : Config) → only a (some x) ≡ some c → (a ≡ true) × (x ≡ c)
@@ -111,6 +111,15 @@ module _ (s : List ℕ) (bytes : (i : ℕ) → getD s i 0 < 256) where
   unfolding offerOf
   offer-answers b fl =
       offer-from b fl (blockAsked s b (flagsLong fl)) (block-answers b (flagsLong fl) (eqb-true (length fl) FLAGS) (eqb-false (length fl) FLAGS))
+
+-- Check, on all inputs.
+check-from : (s : List ℕ) (v : Verdict) → checkOf s ≡ v → CheckAnswers s (checkedFrom v)
+check-from s (Accepted t) e = checked e
+check-from s (Refused q place) e = check-refused e
+
+pub check-answers : (s : List ℕ) → CheckAnswers s (checkedOf s)
+unfolding checkedOf
+check-answers s = check-from s (checkOf s) refl
 
 -- Start, on all inputs: it asks no question about the block's bytes.
 module _ (s b : List ℕ) where

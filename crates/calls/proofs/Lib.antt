@@ -1,3 +1,4 @@
+pub mod AllLent
 pub mod Fits
 pub mod Answers
 pub mod Replies
@@ -6,7 +7,5 @@ pub mod Runs
 pub mod Still
 pub mod Reached
 pub mod Bytes
-pub mod Tables
-pub mod Samples
-pub mod Blocks
+pub mod Lent
 pub mod Promise

@@ -77,7 +77,7 @@ module _ (s : List ℕ) (bytes : (i : ℕ) → getD s i 0 < 256) (t : ℕ) (acc 
       let r = run-whole h ns in
       (report (codeOf s) limits c (take (r .0) ns) .config, r .2, λ u. run-keeps (accepts s bytes t acc) limits (take (r .0) ns) c (h .well))
 
-  -- A block that the list comes to holds a configuration, with the bindings of the first if no Start is gone past; and so does each point between moves.
+  -- A block that the list comes to holds a configuration, with the objects and bindings of the first if no Start is gone past; and so does each point between moves.
   comes-holds : {Past : Lent → Type 0} {b d : List ℕ} {c : Config} {calls rest : List Lent} → Holds s t b c → Comes s Past b calls d rest
       → (x : Config) × Holds s t d x × (((call : Lent) → Past call → NotToStart call) → Kept c x)
   comes-holds {c = c} h at-first = (c, h, λ f. kept-same c)
@@ -91,7 +91,7 @@ module _ (s : List ℕ) (bytes : (i : ℕ) → getD s i 0 < 256) (t : ℕ) (acc 
   has-holds {c = c} h (between-moves ns n l) =
       (report (codeOf s) limits c (take n ns) .config, point-holds h ns n l, run-keeps (accepts s bytes t acc) limits (take n ns) c (h .well))
 
-  -- and no binding is lost up to there
+  -- and no object or binding is lost up to there
   past-holds : {b x e : List ℕ} {c : Config} {calls rest : List Lent} → Holds s t b c → Comes s NotToStart b calls x rest → Has s x rest e
       → (d : Config) × Holds s t e d × Kept c d
   past-holds h k i =

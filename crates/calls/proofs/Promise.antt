@@ -3,9 +3,10 @@ use Prim.Native.Nat.{ℕ, _<_}
 use mathlib.Core.List.{List}
 use lib.ListN.{getD}
 use Rattle.typing.proofs.Exact.{exact, outside-refused, refused-exact}
-use Rattle.published.proofs.Traces.{initial-reads}
+use Rattle.machine.specs.Machine.{limits}
+use Rattle.published.proofs.Traces.{silent-bound, initial-reads}
 use Rattle.calls.specs.Promise.{Promise}
-use Rattle.calls.proofs.Answers.{accepts, start-answers, offer-answers, run-answers}
+use Rattle.calls.proofs.Answers.{accepts, check-answers, start-answers, offer-answers, run-answers}
 use Rattle.calls.proofs.Replies.{start-writes}
 use Rattle.calls.proofs.Runs.{run-left, run-trace-bytes}
 use Rattle.calls.proofs.Reached.{steps-reached-bytes}
@@ -16,7 +17,8 @@ promise s bytes =
     record {
       one =
           record {
-            check = refused-exact s;
+            refused = refused-exact s;
+            check = check-answers s;
             start = start-answers s;
             offer = offer-answers s bytes;
             run = run-answers s bytes;
@@ -28,6 +30,7 @@ promise s bytes =
             begins = λ t acc b l. (start-writes s bytes t acc b l, initial-reads (accepts s bytes t acc));
             runs = run-left s bytes;
             moves = run-trace-bytes s bytes;
+            silent = λ acc h r p o. silent-bound (accepts s bytes _ acc) limits p (h .well .formed) r o;
             reached = λ acc h k. steps-reached-bytes s bytes _ acc h k;
           };
       three = λ acc x calls. demand-three-bytes s bytes _ acc calls (x .holds);

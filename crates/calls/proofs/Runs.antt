@@ -49,11 +49,11 @@ number-some Fits e = omega arith
 number-some Sharing e = omega arith
 
 -- a refusal has a number
-no-number : {s b : List ℕ} {Fine Off : Type 0} {n place : ℕ} → FirstNoTo s b Fine Off n place → n ≡ 0 → ⊥
-no-number (by-script {q = q} x) e = number-some q e
-no-number (by-length x y) e = omega arith
-no-number (by-buffer x y z) e = omega arith
-no-number (by-form x y z w) e = omega arith
+refusal-numbered : {s b : List ℕ} {Fine Off : Type 0} {n place : ℕ} → FirstNoTo s b Fine Off n place → n ≡ 0 → ⊥
+refusal-numbered (by-script {q = q} x) e = number-some q e
+refusal-numbered (by-length x y) e = omega arith
+refusal-numbered (by-buffer x y z) e = omega arith
+refusal-numbered (by-form x y z w) e = omega arith
 
 record Opened (s b : List ℕ) (Fine : Type 0) : Type 0 where
   pub type : ℕ
@@ -63,7 +63,7 @@ record Opened (s b : List ℕ) (Fine : Type 0) : Type 0 where
   pub holds : Holds s type b config
 
 run-had : {s b ns : List ℕ} (r : Ran) → RunAnswers s b ns r → r .number ≡ 0 → Opened s b (length ns ≤ CHOICES)
-run-had _ (run-refused x) e = absurd (no-number x e)
+run-had _ (run-refused x) e = absurd (refusal-numbered x e)
 run-had _ (has-run {t = t} {c = c} acc f h) e = record { type = t; accepted = acc; fine = f; config = c; holds = h }
 
 record Flags (s b fl : List ℕ) (r : Offered) : Type 0 where
@@ -71,7 +71,7 @@ record Flags (s b fl : List ℕ) (r : Offered) : Type 0 where
   pub are : r .flags ≡ flagsOf s (had .config)
 
 offer-had : {s b fl : List ℕ} (r : Offered) → OfferAnswers s b fl r → r .number ≡ 0 → Flags s b fl r
-offer-had _ (offer-refused x) e = absurd (no-number x e)
+offer-had _ (offer-refused x) e = absurd (refusal-numbered x e)
 offer-had _ (offered {t = t} {c = c} acc f h) e = record { had = record { type = t; accepted = acc; fine = f; config = c; holds = h }; are = refl }
 
 -- It stops with the number of an ending exactly when it leaves nothing that can move, and then in that one of the three cases.

@@ -1,4 +1,4 @@
--- What the three calls answer, as plain statements to be held against document 01.
+-- What the four calls answer, as plain statements to be held against document 01.
 use Prim.Native.Nat.{ℕ, _<_, _≤_}
 use mathlib.Core.Path.{_≡_}
 use mathlib.Core.Bool.{Bool, true, false}
@@ -25,7 +25,7 @@ use Rattle.published.specs.Reach.{OneRun}
 use Rattle.published.specs.Traces.{Trace}
 use Rattle.block.specs.Block.{encode}
 use Rattle.calls.specs.declared.LentQuestion.the-variants.{BlockLength, BufferLength, BlockForm}
-use Rattle.calls.specs.Calls.{lentNumber, Started, Offered, flagsOf, Ran, ran, runOf}
+use Rattle.calls.specs.Calls.{lentNumber, Checked, Started, Offered, flagsOf, Ran, ran, runOf}
 
 -- The block stands for this configuration, well formed for the script, whose start has type t.
 pub record Holds (s : List ℕ) (t : ℕ) (b : List ℕ) (c : Config) : Type 0 where
@@ -41,6 +41,11 @@ pub record Stands (s : List ℕ) (t : ℕ) (b : List ℕ) : Type 0 where
 abbrev pub found : Option Config → Bool
 found none = false
 found (some c) = true
+
+-- Check has a no, with document 01's number of the question, the place and type 0; or the start's type.
+pub data CheckAnswers (s : List ℕ) : Checked → Type 0 where
+  check-refused : {q : Question} {place : ℕ} → checkOf s ≡ Refused q place → CheckAnswers s (record { number = numberOf q; place = place; type = 0 })
+  checked : {t : ℕ} → checkOf s ≡ Accepted t → CheckAnswers s (record { number = 0; place = 0; type = t })
 
 -- The first no of each call, in order, and its number and place. `Fine` says what is asked of the other buffer, `Off` that it gets a no.
 pub data FirstNoTo (s b : List ℕ) (Fine Off : Type 0) : ℕ → ℕ → Type 0 where

@@ -1,5 +1,5 @@
--- Start, Offer and Run on byte lists (Check is `checkOf`): each gives its reply's numbers and every lent byte that the call may write, for all inputs. The
--- script and the choices are lent to be read only.
+-- The four calls on byte lists: each gives its reply's numbers and every lent byte that the call may write, for all inputs. The script and the choices are lent
+-- to be read only.
 use Prim.Native.Nat.{ℕ}
 use mathlib.Core.Bool.{Bool, true, false}
 use mathlib.Core.List.{List}
@@ -11,7 +11,7 @@ use Rattle.script.specs.Lists.{run}
 use Rattle.script.specs.Asking.{numberOf}
 use Rattle.typing.specs.declared.Verdict.{Verdict}
 use Rattle.typing.specs.declared.Verdict.the-variants.{Accepted, Refused}
-use Rattle.typing.specs.Check.{checkOf}
+use Rattle.typing.specs.Check.{checkOf, verdictNumber, verdictPlace, verdictType}
 use Rattle.machine.specs.Stops.{stopNumber}
 use Rattle.machine.specs.Config.{Config, codeOf}
 use Rattle.machine.specs.Machine.{fieldCount, oneIf, limits, canMove, initial}
@@ -76,6 +76,11 @@ unfoldable pub blockAsked : List ℕ → List ℕ → Bool → Questioned
 blockAsked s b lent = askScript (checkOf s) (λ t. ask BlockLength (blockLong b) (ask BufferLength lent (askForm (configOf s t b))))
 
 -- "A refusal returns its number and place, with every other number 0, and lent buffers unchanged. A call that is not refused has number 0 and place 0."
+pub record Checked : Type 0 where
+  pub number : ℕ
+  pub place : ℕ
+  pub type : ℕ
+
 pub record Started : Type 0 where
   pub number : ℕ
   pub place : ℕ
@@ -94,6 +99,13 @@ pub record Ran : Type 0 where
   pub read : ℕ
   pub moves : ℕ
   pub block : List ℕ
+
+-- "Check answers the start's type."
+abbrev pub checkedFrom : Verdict → Checked
+checkedFrom v = record { number = verdictNumber v; place = verdictPlace v; type = verdictType v }
+
+unfoldable pub checkedOf : List ℕ → Checked
+checkedOf s = checkedFrom (checkOf s)
 
 -- "Start writes the initial block over anything"
 abbrev pub startedFrom : List ℕ → Questioned → Started

@@ -1,6 +1,5 @@
 pub mod Calls
 pub mod Answers
 pub mod Lists
-pub mod Samples
-pub mod Blocks
+pub mod Lent
 pub mod Promise

@@ -102,7 +102,7 @@ pub record StopOf (s : List ℕ) (t : ℕ) (r : Ran) : Type 0 where
 pub record DemandThreeOf (s : List ℕ) (t : ℕ) (b : List ℕ) (calls : List Lent) : Type 0 where
   -- of each block "at first, at each point between moves and after each call"
   pub claimed : {x e : List ℕ} {rest : List Lent} → Comes s AnyLent b calls x rest → Has s x rest e → ClaimedOf s t e
-  -- "Objects and bindings are never freed": a binding once there keeps its name, type, value and link until the next Start
+  -- "Objects and bindings are never freed": until the next Start a binding once there keeps its name, type, value and link, an object its number and class
   pub kept : {x d e : List ℕ} {rest : List Lent} → Comes s AnyLent b calls x rest → Later s x rest d e → OfBoth s t Kept d e
   -- "no move makes a thread failed except at a null target or by a failed side", and "failure on null becomes failure on null or on a sum"
   pub fails : {x d e : List ℕ} {o : Option ℕ} {rest : List Lent} → Comes s AnyLent b calls x rest → Next s x rest d o e

@@ -1,11 +1,11 @@
 -- The whole promise, of the four calls on bytes, a field to each sentence of docs/DEMANDS.md. By the contracts of the crate `engine` the four calls from C are
--- `checkOf`, `startOf`, `offerOf` and `runOf`, so each sentence is about what they return and leave.
-use Prim.Native.Nat.{ℕ}
+-- `checkedOf`, `startOf`, `offerOf` and `runOf`, so each sentence is about what they return and leave.
+use Prim.Native.Nat.{ℕ, _≤_}
 use mathlib.Core.Path.{_≡_}
 use mathlib.Core.List.{List}
 use mathlib.Core.Logic.{_↔_}
 use lib.ListN.{length}
-use Rattle.limits.specs.Limits.{BLOCK}
+use Rattle.limits.specs.Limits.{BLOCK, SILENT}
 use Rattle.script.specs.declared.Question.{Question}
 use Rattle.script.specs.Reading.{programOf}
 use Rattle.script.specs.Statements.{WithinLayout}
@@ -14,18 +14,21 @@ use Rattle.typing.specs.Published.{WfProgram}
 use Rattle.typing.specs.Refusals.{FirstNo}
 use Rattle.typing.specs.Check.{checkOf}
 use Rattle.machine.specs.Config.{Config, codeOf}
-use Rattle.machine.specs.Machine.{initial}
+use Rattle.machine.specs.Machine.{limits, Path, initial}
 use Rattle.published.specs.ReadAs.{Reading, reading, Steps, initialReading}
 use Rattle.published.specs.Reach.{site}
-use Rattle.calls.specs.Calls.{startOf, offerOf, runOf}
-use Rattle.calls.specs.Answers.{Holds, Stands, StartAnswers, OfferAnswers, RunAnswers, NotRefused, TraceOf, ReachedBy}
+use Rattle.published.specs.Traces.{Trace, OnlySilent, silentMoves}
+use Rattle.calls.specs.Calls.{checkedOf, startOf, offerOf, runOf}
+use Rattle.calls.specs.Answers.{Holds, Stands, CheckAnswers, StartAnswers, OfferAnswers, RunAnswers, NotRefused, TraceOf, ReachedBy}
 use Rattle.calls.specs.Lists.{Lent, DemandThreeOf}
 
 -- Demand 1: "The converter gets a reply from every call .., without checking them first; a bad one gets document 01's refusal number and changes no lent byte."
 -- That a reply comes is the contracts': they ask nothing, and every function ends.
 pub record DemandOneOf (s : List ℕ) : Type 0 where
   -- Check is refused with the first no and its place, and by no other
-  pub check : (q : Question) (place : ℕ) → (checkOf s ≡ Refused q place) ↔ FirstNo s q place
+  pub refused : (q : Question) (place : ℕ) → (checkOf s ≡ Refused q place) ↔ FirstNo s q place
+  -- and its reply is that no's number and place, "with every other number 0", or the start's type
+  pub check : CheckAnswers s (checkedOf s)
   -- Start, Offer and Run, whatever is lent to them: refused with their first no, with the lent bytes as they were, or done
   pub start : (b : List ℕ) → StartAnswers s b (startOf s b)
   pub offer : (b fl : List ℕ) → OfferAnswers s b fl (offerOf s b fl)
@@ -42,6 +45,9 @@ pub record DemandTwoOf (s : List ℕ) : Type 0 where
   pub runs : (b ns : List ℕ) → runOf s b ns .number ≡ 0 → NotRefused s b ns
   -- "each move is one published step or a listed silent one"
   pub moves : (b ns : List ℕ) → runOf s b ns .number ≡ 0 → TraceOf s b ns
+  -- "A thread makes at most 1,024 silent moves in a row": on every way from a block that holds a configuration, so between any two points of a Run
+  pub silent : {t : ℕ} → checkOf s ≡ Accepted t → {b : List ℕ} {c d : Config} {ns : List ℕ} {n : ℕ} → Holds s t b c
+      → (r : Trace (codeOf s) limits c ns n d) (p : Path) → OnlySilent p r → silentMoves p r ≤ SILENT
   -- "each open published step can be reached by choices, unless a store is full"
   pub reached : {t : ℕ} → checkOf s ≡ Accepted t → {b : List ℕ} {c : Config} {q : Reading} → Holds s t b c
       → (k : Steps (codeOf s .program) (reading (codeOf s) c) q) → ReachedBy s t b c q (site k)

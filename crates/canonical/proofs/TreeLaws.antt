@@ -4,7 +4,6 @@ use mathlib.Core.Bool.{false}
 use mathlib.Core.List.{List, [], _∷_}
 use mathlib.Core.Logic.{_↔_}
 use Prim.Native.Nat.{ℕ, suc, _+_, _-_, _<_, _≤_}
-use native.Mathlib.Numerals.{add-one}
 use native.Mathlib.Omega.{arith}
 use lib.Dec.{eqb}
 use Rattle.script.specs.Lists.{run, sumBelow}
@@ -81,10 +80,6 @@ module _ {b : List ℕ} {n i trees : ℕ} (w : Walked b n i trees) where
       (decides-eq trees 0)
 
 -- The loop that adds the numbers of frames.
-pub sum-next : (f : ℕ → ℕ) (i sum r : ℕ) → sum ≡ sumBelow f i → r ≡ f i → sum + r ≡ sumBelow f (i + 1)
-unfolding sumBelow
-sum-next f i sum r p q = rw (add-one i, p, q)
-
 pub sum-all :
     (b : List ℕ) (i n m sum : ℕ) → sum ≡ sumBelow (λ k. wordIn b Positions k WAITING) i → i ≡ n → n ≡ counted b Positions → m ≡ counted b Frames
     → Decides (FramesAdd b) (eqb sum m)

@@ -20,8 +20,8 @@ use Rattle.canonical.proofs.Answers.{after-yes, after-no}
 -- the three words of a value, by its kind
 module _ (w : ℕ → ℕ) (j kind low high : ℕ) (kind-is : kind ≡ w j)
     (low-is : (low ≡ w (j + 1)) × (low < WORD)) (high-is : (high ≡ w (j + 2)) × (high < WORD)) where
-  pub a-number : kind ≡ INT → Decides (ValueOk w j) true
-  a-number k = holds (number-ok w j (rw (low-is .0) at (low-is .1)) (rw (high-is .0) at (high-is .1)) (sym kind-is ∙ k))
+  pub number-words : kind ≡ INT → Decides (ValueOk w j) true
+  number-words k = holds (number-ok w j (rw (low-is .0) at (low-is .1)) (rw (high-is .0) at (high-is .1)) (sym kind-is ∙ k))
 
   -- what no number is, is an object or null, with no high word
   its-word : (kind ≡ INT → ⊥) → ValueOk w j → (m : ℕ) → m < VALUE → w (j + m) ≡ wordOf (valueWords (cond (eqb kind REF) (ref (w (j + 1))) nil)) m

@@ -1,6 +1,6 @@
 // The records of a block: is each in order by itself?
-use crate::values::fields_fit;
-use crate::values::value_fits;
+use crate::values::fields_in_order;
+use crate::values::value_in_order;
 use crate::zeros::unused;
 use areas::count;
 use areas::word;
@@ -35,7 +35,7 @@ fn field_count(s: &[u8], t: u16) -> usize
 }
 
 // Is object i open or shut, with a value for each field of its class and 0 for each field that its class does not have?
-fn object_fits(s: &[u8], block: &[u8], i: usize) -> bool
+fn object_in_order(s: &[u8], block: &[u8], i: usize) -> bool
     requires { ⌜ WithinLayout (now s) × (length (now block) ≡ BLOCK) × (i < OBJECTS) ⌝ }
     ensures { λ r. ⌜ Decides (ObjectOk (fieldCount (now (s .entry))) (wordIn (now (block .entry)) Objects i)) r ⌝ }
 {
@@ -45,15 +45,15 @@ fn object_fits(s: &[u8], block: &[u8], i: usize) -> bool
     }
     let class = word(block, Area::Objects, i, Layout::CLASS);
     let n = field_count(s, class);
-    if !fields_fit(block, i, n) {
+    if !fields_in_order(block, i, n) {
         return false;
     }
-    let used = Layout::FIELDS + Layout::VALUE * n;
+    let used = Layout::FIRST_FIELD + Layout::VALUE * n;
     unused(block, Area::Objects, i, used, Layout::OBJECT_WIDTH)
 }
 
 // Is position i of a known kind, with a value where it has one and 0 for each word without a meaning for that kind?
-fn position_fits(block: &[u8], i: usize) -> bool
+fn position_in_order(block: &[u8], i: usize) -> bool
     requires { ⌜ (length (now block) ≡ BLOCK) × (i < POSITIONS) ⌝ }
     ensures { λ r. ⌜ Decides (PositionOk (wordIn (now (block .entry)) Positions i)) r ⌝ }
 {
@@ -62,7 +62,7 @@ fn position_fits(block: &[u8], i: usize) -> bool
         return unused(block, Area::Positions, i, Layout::RESULT, Layout::WAITING);
     }
     if kind == Layout::RETURNING {
-        if !value_fits(block, Area::Positions, i, Layout::RESULT) {
+        if !value_in_order(block, Area::Positions, i, Layout::RESULT) {
             return false;
         }
         return unused(block, Area::Positions, i, Layout::NODE, Layout::RESULT);
@@ -83,7 +83,7 @@ fn position_fits(block: &[u8], i: usize) -> bool
 }
 
 // Is frame i of a known kind, with 0 for the last word where it has no meaning?
-fn frame_fits(block: &[u8], i: usize) -> bool
+fn frame_in_order(block: &[u8], i: usize) -> bool
     requires { ⌜ (length (now block) ≡ BLOCK) × (i < FRAMES) ⌝ }
     ensures { λ r. ⌜ Decides (FrameOk (wordIn (now (block .entry)) Frames i)) r ⌝ }
 {
@@ -101,27 +101,27 @@ fn frame_fits(block: &[u8], i: usize) -> bool
 }
 
 // Is record i of an area in order?
-fn record_fits(s: &[u8], block: &[u8], a: Area, i: usize) -> bool
+fn record_in_order(s: &[u8], block: &[u8], a: Area, i: usize) -> bool
     requires { ⌜ WithinLayout (now s) × (length (now block) ≡ BLOCK) × (i < most a) ⌝ }
     ensures { λ r. ⌜ Decides (RecordOk (fieldCount (now (s .entry))) a (wordIn (now (block .entry)) a i)) r ⌝ }
 {
     match a {
-        Area::Objects => object_fits(s, block, i),
-        Area::Bindings => value_fits(block, Area::Bindings, i, Layout::BOUND),
-        Area::Positions => position_fits(block, i),
-        Area::Frames => frame_fits(block, i),
+        Area::Objects => object_in_order(s, block, i),
+        Area::Bindings => value_in_order(block, Area::Bindings, i, Layout::BOUND),
+        Area::Positions => position_in_order(block, i),
+        Area::Frames => frame_in_order(block, i),
     }
 }
 
 // Is each record of an area in order?
-pub fn records_fit(s: &[u8], block: &[u8], a: Area) -> bool
+pub fn records_in_order(s: &[u8], block: &[u8], a: Area) -> bool
     requires { ⌜ WithinLayout (now s) × (length (now block) ≡ BLOCK) × (counted (now block) a ≤ most a) ⌝ }
     ensures { λ r. ⌜ Decides (RecordsOk (fieldCount (now (s .entry))) (now (block .entry)) a (counted (now (block .entry)) a)) r ⌝ }
 {
     let n = count(block, a);
     let mut i = 0;
     while i < n {
-        if !record_fits(s, block, a, i) {
+        if !record_in_order(s, block, a, i) {
             return false;
         }
         i += 1;

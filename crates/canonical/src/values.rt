@@ -13,7 +13,7 @@ ghost use Rattle.block.specs.Values.{ValueOk};
 ghost use Rattle.representation.specs.InOrder.{FieldsInOrder};
 
 // Are the words of record i of an area from word j on those of a value? Any two words are those of a number, an object has no high word, and null is 0.
-pub fn value_fits(block: &[u8], a: Area, i: usize, j: usize) -> bool
+pub fn value_in_order(block: &[u8], a: Area, i: usize, j: usize) -> bool
     requires { ⌜ (length (now block) ≡ BLOCK) × (i < most a) × (j + VALUE ≤ width a) ⌝ }
     ensures { λ r. ⌜ Decides (ValueOk (wordIn (now (block .entry)) a i) j) r ⌝ }
 {
@@ -36,13 +36,18 @@ pub fn value_fits(block: &[u8], a: Area, i: usize, j: usize) -> bool
 }
 
 // Has each of the first n fields of object i a value?
-pub fn fields_fit(block: &[u8], i: usize, n: usize) -> bool
+pub fn fields_in_order(block: &[u8], i: usize, n: usize) -> bool
     requires { ⌜ (length (now block) ≡ BLOCK) × (i < OBJECTS) × (n ≤ CLASS-FIELDS) ⌝ }
     ensures { λ r. ⌜ Decides (FieldsInOrder (wordIn (now (block .entry)) Objects i) n) r ⌝ }
 {
     let mut k = 0;
     while k < n {
-        if !value_fits(block, Area::Objects, i, Layout::FIELDS + Layout::VALUE * k) {
+        if !value_in_order(
+            block,
+            Area::Objects,
+            i,
+            Layout::FIRST_FIELD + Layout::VALUE * k,
+        ) {
             return false;
         }
         k += 1;

@@ -1,5 +1,5 @@
 // The bytes of a block as a whole.
-use crate::records::records_fit;
+use crate::records::records_in_order;
 use crate::trees::frames_add_up;
 use crate::trees::one_tree;
 use crate::zeros::blank;
@@ -17,7 +17,7 @@ ghost use Rattle.representation.specs.InOrder.{AreaOk, InOrder};
 ghost use Rattle.canonical.specs.Parts.{ThreadsOk};
 
 // Has an area at most as many records as places, each in order, and 0 in the other places?
-pub fn area_fits(s: &[u8], block: &[u8], a: Area) -> bool
+pub fn area_in_order(s: &[u8], block: &[u8], a: Area) -> bool
     requires { ⌜ WithinLayout (now s) × (length (now block) ≡ BLOCK) ⌝ }
     ensures { λ r. ⌜ Decides (AreaOk (fieldCount (now (s .entry))) (now (block .entry)) a) r ⌝ }
 {
@@ -26,7 +26,7 @@ pub fn area_fits(s: &[u8], block: &[u8], a: Area) -> bool
     if all < n {
         return false;
     }
-    if !records_fit(s, block, a) {
+    if !records_in_order(s, block, a) {
         return false;
     }
     blank(block, a)
@@ -37,10 +37,10 @@ pub fn threads_in_order(s: &[u8], block: &[u8]) -> bool
     requires { ⌜ WithinLayout (now s) × (length (now block) ≡ BLOCK) ⌝ }
     ensures { λ r. ⌜ Decides (ThreadsOk (fieldCount (now (s .entry))) (now (block .entry))) r ⌝ }
 {
-    if !area_fits(s, block, Area::Positions) {
+    if !area_in_order(s, block, Area::Positions) {
         return false;
     }
-    if !area_fits(s, block, Area::Frames) {
+    if !area_in_order(s, block, Area::Frames) {
         return false;
     }
     if !one_tree(block) {
@@ -57,10 +57,10 @@ pub fn in_order(s: &[u8], block: &[u8]) -> bool
     requires { ⌜ WithinLayout (now s) × (length (now block) ≡ BLOCK) ⌝ }
     ensures { λ r. ⌜ Decides (InOrder (fieldCount (now (s .entry))) (now (block .entry))) r ⌝ }
 {
-    if !area_fits(s, block, Area::Objects) {
+    if !area_in_order(s, block, Area::Objects) {
         return false;
     }
-    if !area_fits(s, block, Area::Bindings) {
+    if !area_in_order(s, block, Area::Bindings) {
         return false;
     }
     threads_in_order(s, block)

@@ -1,12 +1,12 @@
 -- What `verdict_of` answers: a law for each of its returns, one question after the other.
-use Prim.Native.Nat.{ℕ, zero, suc, _<_, _≤_}
-use mathlib.Core.Path.{_≡_, refl, sym}
+use Prim.Native.Nat.{ℕ, zero, _<_, _≤_}
+use mathlib.Core.Path.{_≡_, sym}
 use mathlib.Core.Bool.{Bool, true, false}
 use mathlib.Core.List.{List, [], _∷_}
 use mathlib.Core.Logic.{⊎-elim}
 use mathlib.Core.Option.{Option, none, some}
 use native.Mathlib.Omega.{arith}
-use lib.ListN.{length, getD, replicate}
+use lib.ListN.{length, replicate}
 use Rattle.script.specs.declared.Found.{Found}
 use Rattle.script.specs.declared.Found.the-variants.{At, Nothing}
 use Rattle.script.specs.declared.Question.{Question}
@@ -20,6 +20,7 @@ use Rattle.script.specs.Asking.{Asked, firstNo, atZero, Asks, Each, FaultAt, Lo
 use Rattle.script.specs.Questions.{lengthTest, countsTest, placesTest, layoutQuestions}
 use Rattle.sections.specs.Laid.{Laid, foundOf}
 use Rattle.slices.specs.Zero.{AllZero}
+use Rattle.script.proofs.Lists.{zeros}
 use Rattle.script.proofs.Tests.{says-yes}
 use Rattle.script.proofs.LayoutLaws.{decides-length, decides-counts, decides-places}
 use Rattle.sections.proofs.Access.{record-within}
@@ -30,6 +31,7 @@ use Rattle.typing.specs.declared.Verdict.the-variants.{Accepted, Refused}
 use Rattle.typing.specs.Typing.{bodiesOf, walk}
 use Rattle.typing.specs.Check.{refusedOr, walked, checkOf}
 use Rattle.members.specs.Tables.{Starts}
+use Rattle.members.proofs.LookupLaws.{found-at, found-nothing}
 use Rattle.names.specs.Facts.{Facts}
 use Rattle.checker.specs.Lent.{TablesFilled}
 use Rattle.checker.specs.Stages.{NodeThere, walkStage, memberStage, recordStage}
@@ -106,15 +108,6 @@ module _ (s : List ℕ) where
       unfolding layoutQuestions recordStage
       then-records r y₃ h = left-whole (left-whole (left-whole ask-length y₁) y₂) y₃ .then r h
 
--- What a search that finds nothing says, and where one that finds something stands.
-found-none : (o : Option ℕ) (f : Found) → f ≡ foundOf o → f ≡ Nothing → o ≡ none
-found-none none f e h = refl
-found-none (some i) f e h = absurd (let z : _≡_ {A = ℕ} 0 1 = cc in omega arith)
-
-found-some : (o : Option ℕ) (f : Found) (i : ℕ) → f ≡ foundOf o → f ≡ At i → o ≡ some i
-found-some none f i e h = absurd (let z : _≡_ {A = ℕ} 0 1 = cc in omega arith)
-found-some (some j) f i e h = let d : i ≡ j = cc in rw d
-
 each-of : {s : List ℕ} {l : Asks} {o : Option ℕ} → Lowest s l o → o ≡ none → Each s l
 each-of (all-good g) e = g
 each-of (lowest-at n) e = absurd (let z : _≡_ {A = ℕ} 0 1 = cc in omega arith)
@@ -133,14 +126,10 @@ place-of {s} {l} place laid (lowest-at {place = p} n) e = let d : place ≡ p = 
 module _ {s : List ℕ} {l : Asks} {o : Option ℕ} (f : Found) (w : Lowest s l o) (e : f ≡ foundOf o) where
   -- Nothing was found: the statement holds of each record. Something was: its place fits a word.
   pub all-fit : f ≡ Nothing → Each s l
-  all-fit h = each-of w (found-none o f e h)
+  all-fit h = each-of w (found-nothing o f e h)
 
   pub place-fits : (place : ℕ) → Laid s → f ≡ At place → place ≤ FILE
-  place-fits place laid h = place-of place laid w (found-some o f place e h)
-
--- The contents of a script within layout and limits are in order.
-pub laid-within : {s : List ℕ} → WithinLayout s → Laid s
-laid-within w = record { length-is = w .length-is; counts-are = w .counts-are; places-are = w .places-are }
+  place-fits place laid h = place-of place laid w (found-at o f e place h)
 
 -- The walk's answer as a verdict.
 module _ (s : List ℕ) (a : Answer) where
@@ -165,13 +154,8 @@ module _ (s : List ℕ) (a : Answer) where
   walk-is v e h = rw (← e) h
 
 -- A new table is zeros.
-new-zero : (n k : ℕ) → _≡_ {A = ℕ} (getD (replicate n 0) k 0) 0
-new-zero zero k = refl
-new-zero (suc n) zero = refl
-new-zero (suc n) (suc k) = new-zero n k
-
 pub new-zeros : (n : ℕ) → AllZero (replicate n 0)
-new-zeros n = record { zero = new-zero n }
+new-zeros n = record { zero = zeros n }
 
 -- Filled tables are what they must be after every verdict.
 pub tables-filled : {s starts facts : List ℕ} → Starts s starts → Facts s facts → (v : Verdict) → TablesFilled s starts facts v

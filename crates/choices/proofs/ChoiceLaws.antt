@@ -32,7 +32,7 @@ use Rattle.state.proofs.Glue.{around, seen-whole, positions-many}
 use Rattle.moves.specs.declared.Effect.{Effect}
 use Rattle.moves.specs.declared.Effect.the-variants.{Still}
 use Rattle.moves.specs.Performs.{Performs, performs-still, performs-full, performs-moved, AtPosition, Resumes, WordBound}
-use Rattle.choices.specs.PerformsChoice.{PerformsChoice, choice-still, choice-full, choice-moved, Ready}
+use Rattle.choices.specs.PerformsChoice.{PerformsChoice, choice-still, choice-full, choice-moved, FormedBlock}
 use Rattle.soundness.proofs.Places.{part-ok}
 use Rattle.moves.proofs.Positions.{ChosenPart, chosen-at, root-told, here-told}
 use Rattle.moves.proofs.Ready.{seen-chain, seen-words}
@@ -95,10 +95,10 @@ pub cell-told : {x y : Entry} {k : Cell} → x ≡ y → x .cell ≡ k → y .ce
 cell-told e h = ap (λ (z : Entry). z .cell) (sym e) ∙ h
 
 -- what the moves of a formed configuration ask
-pub ready-long : {s starts facts table b : List ℕ} → Ready s starts facts table b → length b ≡ BLOCK
+pub ready-long : {s starts facts table b : List ℕ} → FormedBlock s starts facts table b → length b ≡ BLOCK
 ready-long h = rw (h .represents .block) (encode-length (h .config))
 
-module _ {s starts facts table b : List ℕ} {n : ℕ} (h : Ready s starts facts table b) (l : n < counted b Positions) where
+module _ {s starts facts table b : List ℕ} {n : ℕ} (h : FormedBlock s starts facts table b) (l : n < counted b Positions) where
   ready-there : ChosenPart b (h .config) n
   ready-there = chosen-at n (h .represents) l
 

@@ -1,13 +1,13 @@
 -- The move of a thread at a node, by the node's kind.
-use mathlib.Core.Path.{_≡_, refl, sym, ap, _∙_}
+use mathlib.Core.Path.{_≡_, sym, ap, _∙_}
 use mathlib.Core.List.{List, []}
-use Prim.Native.Nat.{ℕ, zero, suc, _-_}
+use Prim.Native.Nat.{ℕ, _-_}
 use lib.ListN.{length}
 use Rattle.words.specs.Integer.{integer}
 use Rattle.limits.specs.Limits.{OBJECTS, FRAMES, THREADS}
 use Rattle.script.specs.Section.{nodeWord}
-use Rattle.script.specs.Syntax.{n-null}
 use Rattle.script.specs.Reading.{kindOf, nodeOf, viewAt}
+use Rattle.script.proofs.Reading.{only-null}
 use Rattle.machine.specs.declared.Value.the-variants.{Null as nil, Int as int}
 use Rattle.machine.specs.declared.Frame.{Frame}
 use Rattle.machine.specs.declared.Frame.the-variants.{Awaits as awaits, Casts as casts}
@@ -18,29 +18,12 @@ use Rattle.block.specs.declared.Area.the-variants.{Objects, Frames}
 use Rattle.block.specs.Layout.{counted}
 use Rattle.block.specs.Block.{partsOf}
 use Rattle.representation.specs.Preorder.{framesAbove}
-use Rattle.environments.proofs.LaidLaws.{objects-counted, frames-counted}
+use Rattle.areas.proofs.Laws.{frames-counted}
+use Rattle.environments.proofs.LaidLaws.{objects-counted}
 use Rattle.state.specs.Represents.{Represents, Rest}
 use Rattle.state.proofs.Seeing.{frames-many}
 use Rattle.moves.specs.declared.Effect.{Effect}
 use Rattle.moves.specs.Performs.{Performs}
-
--- a kind that is none of the others reads as null
-other-kind : (k x y z : ℕ) → (k ≡ 1 → ⊥) → (k ≡ 2 → ⊥) → (k ≡ 3 → ⊥) → (k ≡ 4 → ⊥) → (k ≡ 5 → ⊥) → (k ≡ 6 → ⊥) → (k ≡ 7 → ⊥) → (k ≡ 8 → ⊥)
-    → (k ≡ 9 → ⊥) → (k ≡ 10 → ⊥) → (k ≡ 11 → ⊥) → nodeOf (kindOf k) x y z ≡ n-null
-unfolding kindOf
-other-kind zero x y z h1 h2 h3 h4 h5 h6 h7 h8 h9 h10 h11 = refl
-other-kind (suc zero) x y z h1 h2 h3 h4 h5 h6 h7 h8 h9 h10 h11 = absurd (h1 refl)
-other-kind (suc (suc zero)) x y z h1 h2 h3 h4 h5 h6 h7 h8 h9 h10 h11 = absurd (h2 refl)
-other-kind (suc (suc (suc zero))) x y z h1 h2 h3 h4 h5 h6 h7 h8 h9 h10 h11 = absurd (h3 refl)
-other-kind (suc (suc (suc (suc zero)))) x y z h1 h2 h3 h4 h5 h6 h7 h8 h9 h10 h11 = absurd (h4 refl)
-other-kind (suc (suc (suc (suc (suc zero))))) x y z h1 h2 h3 h4 h5 h6 h7 h8 h9 h10 h11 = absurd (h5 refl)
-other-kind (suc (suc (suc (suc (suc (suc zero)))))) x y z h1 h2 h3 h4 h5 h6 h7 h8 h9 h10 h11 = absurd (h6 refl)
-other-kind (suc (suc (suc (suc (suc (suc (suc zero))))))) x y z h1 h2 h3 h4 h5 h6 h7 h8 h9 h10 h11 = absurd (h7 refl)
-other-kind (suc (suc (suc (suc (suc (suc (suc (suc zero)))))))) x y z h1 h2 h3 h4 h5 h6 h7 h8 h9 h10 h11 = absurd (h8 refl)
-other-kind (suc (suc (suc (suc (suc (suc (suc (suc (suc zero))))))))) x y z h1 h2 h3 h4 h5 h6 h7 h8 h9 h10 h11 = absurd (h9 refl)
-other-kind (suc (suc (suc (suc (suc (suc (suc (suc (suc (suc zero)))))))))) x y z h1 h2 h3 h4 h5 h6 h7 h8 h9 h10 h11 = absurd (h10 refl)
-other-kind (suc (suc (suc (suc (suc (suc (suc (suc (suc (suc (suc zero))))))))))) x y z h1 h2 h3 h4 h5 h6 h7 h8 h9 h10 h11 = absurd (h11 refl)
-other-kind (suc (suc (suc (suc (suc (suc (suc (suc (suc (suc (suc (suc k)))))))))))) x y z h1 h2 h3 h4 h5 h6 h7 h8 h9 h10 h11 = refl
 
 -- the words of a node, as the code has read them
 pub record Words (s : List ℕ) (a kind x y z : ℕ) : Type 0 where
@@ -58,7 +41,7 @@ view-kind {x = x} {y = y} {z = z} w k e = view-words w ∙ ap (λ (n : ℕ). nod
 
 -- the places left, as the block has them
 pub frames-room : {b : List ℕ} {c : Config} → Represents b c → frameCount (c .tree) ≡ counted b Frames
-frames-room {c = c} h = sym (frames-counted (partsOf c) (h .block) ∙ frames-many (c .tree))
+frames-room {c = c} h = sym (frames-counted _ (partsOf c) (h .block) ∙ frames-many (c .tree))
 
 pub objects-room : {b : List ℕ} {c : Config} → Represents b c → length (c .stores .objects) ≡ counted b Objects
 objects-room {c = c} h = sym (objects-counted (partsOf c) (h .block))
@@ -119,4 +102,4 @@ module _ {b : List ℕ} {i : ℕ} {rest : Rest} {after : List ℕ} {r : Effect} 
   pub at-null : (kind ≡ 1 → ⊥) → (kind ≡ 2 → ⊥) → (kind ≡ 3 → ⊥) → (kind ≡ 4 → ⊥) → (kind ≡ 5 → ⊥) → (kind ≡ 6 → ⊥) → (kind ≡ 7 → ⊥) → (kind ≡ 8 → ⊥)
       → (kind ≡ 9 → ⊥) → (kind ≡ 10 → ⊥) → (kind ≡ 11 → ⊥)
       → Performs b i rest (moved (c .stores) (returning nil fs)) after r → Runs s c p fs a env b i rest after r
-  at-null h1 h2 h3 h4 h5 h6 h7 h8 h9 h10 h11 came = rw (view-words w ∙ other-kind kind x y z h1 h2 h3 h4 h5 h6 h7 h8 h9 h10 h11) came
+  at-null h1 h2 h3 h4 h5 h6 h7 h8 h9 h10 h11 came = rw (view-words w ∙ only-null kind x y z h1 h2 h3 h4 h5 h6 h7 h8 h9 h10 h11) came

@@ -4,7 +4,7 @@ use mathlib.Core.List.{List, _∷_}
 use Prim.Native.Nat.{ℕ}
 use Rattle.script.specs.Syntax.{Point, n-bind}
 use Rattle.script.specs.Reading.{viewAt}
-use Rattle.inference.specs.At.{Blank}
+use Rattle.inference.specs.Walk.{EmptyEnv}
 use Rattle.machine.specs.declared.Value.{Value}
 use Rattle.machine.specs.declared.Frame.{Frame}
 use Rattle.machine.specs.declared.Want.{Want}
@@ -28,8 +28,8 @@ pub data PerformsChoice (b : List ℕ) : Outcome → List ℕ → Effect → Typ
       → PerformsChoice b (moved st t) after Moved
 
 -- The tables of an accepted script, and a formed configuration that the block is.
-pub record Ready (s starts facts table b : List ℕ) : Type 0 where
-  pub blank : Blank s starts facts table
+pub record FormedBlock (s starts facts table b : List ℕ) : Type 0 where
+  pub blank : EmptyEnv s starts facts table
   pub config : Config
   pub want : Want
   pub represents : Represents b config

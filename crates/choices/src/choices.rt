@@ -11,7 +11,7 @@ ghost use Rattle.machine.specs.Config.{codeOf, Config};
 ghost use Rattle.machine.specs.Machine.{limits, choice};
 ghost use Rattle.machine.specs.WellFormed.{WfConfig};
 ghost use Rattle.state.specs.Represents.{Represents};
-ghost use Rattle.choices.specs.PerformsChoice.{PerformsChoice, Ready};
+ghost use Rattle.choices.specs.PerformsChoice.{PerformsChoice, FormedBlock};
 
 // "A choice is a byte naming a tree position": its move, if it is there and can move. The table of zeros is lent for the types of an environment.
 pub fn choose(
@@ -22,7 +22,7 @@ pub fn choose(
     block: &mut [u8],
     n: usize,
 ) -> Effect
-    requires { ⌜ Ready (now s) (now starts) (now facts) (now table) (now block) ⌝ }
+    requires { ⌜ FormedBlock (now s) (now starts) (now facts) (now table) (now block) ⌝ }
     ensures { λ r. ⌜
         ((c : Config) (w : Want) →
         Represents (now (block .entry)) c →

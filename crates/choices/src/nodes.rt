@@ -30,7 +30,7 @@ ghost use Rattle.script.specs.Section.{countOf};
 ghost use Rattle.script.specs.Reading.{viewAt};
 ghost use Rattle.script.specs.Statements.{WithinLayout};
 ghost use Rattle.members.specs.Tables.{Starts};
-ghost use Rattle.inference.specs.At.{Blank};
+ghost use Rattle.inference.specs.Walk.{EmptyEnv};
 ghost use Rattle.machine.specs.declared.Frame.{Frame};
 ghost use Rattle.machine.specs.Config.{running, returning, Config, codeOf};
 ghost use Rattle.machine.specs.Machine.{limits, spare, runNode, resume as resumes, Path};
@@ -137,7 +137,7 @@ pub fn resume(
     i: usize,
     v: Value,
 ) -> Effect
-    requires { ⌜ Blank (now s) (now starts) (now facts) (now table) × Resumes (now s) (now block) i v ⌝ }
+    requires { ⌜ EmptyEnv (now s) (now starts) (now facts) (now table) × Resumes (now s) (now block) i v ⌝ }
     ensures { λ r. ⌜
         ((c : Config) (p : Path) (x : Rest) (fs : List Frame) →
         OwnFields (codeOf (now (s .entry))) (c .stores .objects) →

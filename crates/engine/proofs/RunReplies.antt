@@ -7,12 +7,10 @@ use mathlib.Core.Option.{Option, none, some}
 use lib.ListN.{length}
 use borrow.Author.Tests.{eq-eqb, ne-eqb, le-leb, lt-leb}
 use Rattle.limits.specs.Limits.{BLOCK, CHOICES}
-use Rattle.script.specs.Statements.{WithinLayout}
 use Rattle.script.proofs.Tests.{true-false}
 use Rattle.typing.specs.declared.Verdict.{Verdict}
 use Rattle.typing.specs.declared.Verdict.the-variants.{Accepted, Refused}
 use Rattle.typing.specs.Check.{checkOf, verdictNumber, verdictPlace, verdictType}
-use Rattle.typing.proofs.Exact.{outside-refused}
 use Rattle.machine.specs.Config.{codeOf, Config}
 use Rattle.machine.specs.Machine.{limits}
 use Rattle.machine.specs.Runs.{report}
@@ -26,9 +24,6 @@ use Rattle.engine.proofs.Replies.{accepts}
 -- the start's type, where the script is accepted
 pub type-is : (s : List ℕ) (checked t : ℕ) → checked ≡ verdictNumber (checkOf s) → checked ≡ 0 → t ≡ verdictType (checkOf s) → checkOf s ≡ Accepted t
 type-is s checked t c z e = let a = accepts s s (sym z ∙ c) in rw (e, a .1) refl
-
-pub within : (s : List ℕ) (t : ℕ) → checkOf s ≡ Accepted t → WithinLayout s
-within s t e = outside-refused s t e
 
 -- what the block held
 not-formed : (s b ns after : List ℕ) (p : RunResult) (q : Option Config) → ResultOfRun s b ns q after p → not (p .formed) ≡ true → (q ≡ none) × (after ≡ b)

@@ -26,16 +26,12 @@ use Rattle.typing.proofs.Rules.{infer-type, inferred-typed}
 use Rattle.members.specs.declared.Member.{Member}
 use Rattle.members.specs.declared.Member.the-variants.{Types}
 use Rattle.members.specs.Tables.{memberOf}
-use Rattle.inference.specs.At.{Blank}
+use Rattle.members.proofs.LookupLaws.{found-at}
+use Rattle.inference.specs.Walk.{EmptyEnv}
 use Rattle.inference.proofs.InferLaws.{nodeBy, type-small}
 use Rattle.machine.specs.Machine.{context}
 use Rattle.environments.specs.Chains.{Chain, bindingsIn}
 use Rattle.environments.specs.Known.{ScopedNode, Inferable, Tells}
-
--- what was found
-pub found-some : (o : Option ℕ) (r : Found) (t : ℕ) → r ≡ foundOf o → r ≡ At t → o ≡ some t
-found-some none r t e f = absurd (let z : _≡_ {A = ℕ} 0 1 = cc in omega arith)
-found-some (some u) r t e f = let z : u ≡ t = cc in ap some z
 
 -- what goes on after a check with its own type has that type, if any
 after : (q : Answer) (u t : ℕ) → andThen q (λ v. Typed u) ≡ Typed t → u ≡ t
@@ -67,7 +63,7 @@ expr-is {s} {a} w h kind e = expr-at s a h (in-order s w a h) ∙ rw e
 pub told-nothing : (s b : List ℕ) (env : ℕ) (a : Point) → Tells s b env a Nothing
 told-nothing s b env a t e = absurd (let z : _≡_ {A = ℕ} 0 1 = cc in omega arith)
 
-pub scoped : {s starts facts table b : List ℕ} {env : ℕ} {a : Point} → Blank s starts facts table → a < countOf s nodes → Chain b env
+pub scoped : {s starts facts table b : List ℕ} {env : ℕ} {a : Point} → EmptyEnv s starts facts table → a < countOf s nodes → Chain b env
     → WfEnv (programOf s) (context (bindingsIn b) env) → ScopedNode s starts b env a
 scoped lent h ch g = record { within = lent .within; runs = lent .runs; there = h; chain = ch; types = g }
 
@@ -84,7 +80,7 @@ module _ {s starts b : List ℕ} {env : ℕ} {a : Point} (k : ScopedNode s start
   module _ (x : ℕ) (ex : x ≡ nodeWord s a 1) where
     pub told-var : nodeWord s a 0 ≡ 1 → (r : Found) → r ≡ foundOf (typeIn (context (bindingsIn b) env) x) → Tells s b env a r
     unfolding kindOf answer
-    told-var e r h t f = rw (expr-is (k .within) (k .there) 1 e, ← ex, found-some (typeIn (context (bindingsIn b) env) x) r t h f)
+    told-var e r h t f = rw (expr-is (k .within) (k .there) 1 e, ← ex, found-at (typeIn (context (bindingsIn b) env) x) r h t f)
 
     pub told-new : nodeWord s a 0 ≡ 6 → Tells s b env a (At x)
     unfolding kindOf answer
@@ -95,7 +91,7 @@ module _ {s starts b : List ℕ} {env : ℕ} {a : Point} (k : ScopedNode s start
       pub told-read : nodeWord s a 0 ≡ 2 → (r : Found) → r ≡ foundOf (fieldIn (programOf s) c m) → Tells s b env a r
       unfolding kindOf answer
       told-read e r h t f =
-          rw (expr-is (k .within) (k .there) 2 e, ← ex, found-some (typeIn (context (bindingsIn b) env) x) v c ev fv, ← em, found-some (fieldIn (programOf s) c m) r t h f)
+          rw (expr-is (k .within) (k .there) 2 e, ← ex, found-at (typeIn (context (bindingsIn b) env) x) v ev c fv, ← em, found-at (fieldIn (programOf s) c m) r h t f)
 
       pub told-call : nodeWord s a 0 ≡ 4 → Inferable s b env a → (r : Member) → r ≡ memberOf (methodIn (programOf s) c m) → (p u : ℕ) → r ≡ Types p u → Tells s b env a (At u)
       unfolding kindOf answer
@@ -105,7 +101,7 @@ module _ {s starts b : List ℕ} {env : ℕ} {a : Point} (k : ScopedNode s start
         where
           call-is : inferred (programOf s) (context (bindingsIn b) env) (exprAt s a)
               ≡ orFaulty Members a (methodIn (programOf s) c m) (λ g. andThen (checked (programOf s) (context (bindingsIn b) env) (exprAt s (nodeWord s a 3)) (g .param)) (λ v. Typed (g .result)))
-          call-is = rw (expr-is (k .within) (k .there) 4 e, ← ex, found-some (typeIn (context (bindingsIn b) env) x) v c ev fv, ← em)
+          call-is = rw (expr-is (k .within) (k .there) 4 e, ← ex, found-at (typeIn (context (bindingsIn b) env) x) v ev c fv, ← em)
 
     -- a cast and a write that have a type
     pub told-cast : nodeWord s a 0 ≡ 7 → Inferable s b env a → Tells s b env a (At x)

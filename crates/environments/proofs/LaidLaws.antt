@@ -13,11 +13,11 @@ use Rattle.machine.specs.declared.Value.{Value}
 use Rattle.machine.specs.declared.Value.the-variants.{Null as nil}
 use Rattle.machine.specs.Config.{Object, Binding}
 use Rattle.machine.specs.Machine.{object, setShut, setFields}
-use Rattle.block.specs.declared.Area.the-variants.{Objects, Bindings, Frames}
+use Rattle.block.specs.declared.Area.the-variants.{Objects, Bindings}
 use Rattle.block.specs.Rows.{wordOf}
 use Rattle.block.specs.Layout.{width, counted, wordIn, NAME, TYPE, BOUND, LINK}
-use Rattle.block.specs.Block.{objectWords, bindingWords, frameWords, Parts, laid}
-use Rattle.representation.specs.Changed.{withShut, withField}
+use Rattle.block.specs.Block.{objectWords, bindingWords, Parts, laid}
+use Rattle.representation.specs.Changed.{markedShut, withField}
 use Rattle.block.specs.Fits.{Few, StorableIn}
 use Rattle.block.proofs.Rows.{row-at}
 use Rattle.block.proofs.Values.{value-same, value-back, value-after}
@@ -51,9 +51,6 @@ module _ {b : List ℕ} (p : Parts) (is : b ≡ bytes (laid p)) where
 
   pub bindings-counted : counted b Bindings ≡ length (p .bindings)
   bindings-counted = rw is (count-is p Bindings) ∙ length-map (p .bindings) bindingWords
-
-  pub frames-counted : counted b Frames ≡ length (p .frames)
-  frames-counted = rw is (count-is p Frames) ∙ length-map (p .frames) frameWords
 
   module _ (few : Few p) where
     -- the words of a binding, and of an object
@@ -102,7 +99,7 @@ object-absent [] o h = refl
 object-absent (x ∷ xs) zero h = absurd (omega arith)
 object-absent (x ∷ xs) (suc o) h = object-absent xs o (omega arith)
 
-pub shut-set : (b : Bool) (xs : List Object) (o : ℕ) (d : Object) → setShut b xs o ≡ set xs o (withShut (getD xs o d) b)
+pub shut-set : (b : Bool) (xs : List Object) (o : ℕ) (d : Object) → setShut b xs o ≡ set xs o (markedShut (getD xs o d) b)
 shut-set b [] o d = refl
 shut-set b (x ∷ xs) zero d = refl
 shut-set b (x ∷ xs) (suc o) d = ap (λ (l : List Object). x ∷ l) (shut-set b xs o d)

@@ -23,7 +23,7 @@ use Rattle.machine.specs.Machine.{scope, slot, context}
 use Rattle.soundness.proofs.Stores.{scope-empty}
 use Rattle.block.specs.declared.Area.the-variants.{Bindings}
 use Rattle.block.specs.Layout.{wordIn, NAME, TYPE, LINK}
-use Rattle.environments.specs.Chains.{bindingCount, bindingAt, bindingsIn, Chain, Typed, Filled, orElse, TypeStored}
+use Rattle.environments.specs.Chains.{bindingCount, bindingAt, bindingsIn, Chain, Typed, Filled, storedOr, TypeStored}
 use Rattle.environments.proofs.ChainLaws.{chain-link}
 
 -- A variable's type is noted: it has no rank, or the word at its rank stands, or is 0 and is stored over.
@@ -40,7 +40,7 @@ module _ {s facts : List ℕ} (f : Facts s facts) (table : List ℕ) (name t i :
   noted-before n =
       record { size = refl; here = λ k j. let same : k ≡ i = f .ranked .same j h in rw same (kept (getD table i 0) n); elsewhere = λ x k j m. refl }
     where
-      kept : (w : ℕ) → (w ≡ 0 → ⊥) → w ≡ orElse w (suc t)
+      kept : (w : ℕ) → (w ≡ 0 → ⊥) → w ≡ storedOr w (suc t)
       kept zero n = absurd (n refl)
       kept (suc w) n = refl
 
@@ -62,11 +62,11 @@ other-type : (d : Slot) (Γ : List Slot) (x : ℕ) → (x ≡ d .name → ⊥) �
 unfolding typeIn named
 other-type d Γ x n = rw (ne-eqb (d .name) x (λ e. n (sym e)))
 
-or-twice : (a t r : ℕ) → orElse (orElse a (suc t)) r ≡ orElse a (suc t)
+or-twice : (a t r : ℕ) → storedOr (storedOr a (suc t)) r ≡ storedOr a (suc t)
 or-twice zero t r = refl
 or-twice (suc a) t r = refl
 
-or-none : (a : ℕ) → orElse a 0 ≡ a
+or-none : (a : ℕ) → storedOr a 0 ≡ a
 or-none zero = refl
 or-none (suc a) = refl
 
@@ -76,7 +76,7 @@ pub record Filling (s facts b before table : List ℕ) (env e : ℕ) : Type 0 wh
   pub size : length table ≡ length before
   pub rest :
       (x k : ℕ) → RankOf s facts x k
-      → orElse (getD table k 0) (boundWord (typeIn (context (bindingsIn b) e) x)) ≡ boundWord (typeIn (context (bindingsIn b) env) x)
+      → storedOr (getD table k 0) (boundWord (typeIn (context (bindingsIn b) e) x)) ≡ boundWord (typeIn (context (bindingsIn b) env) x)
 
 module _ {b : List ℕ} {env : ℕ} (ch : Chain b env) where
   pub reached : {e : ℕ} → e ≤ bindingCount b → 0 < e → e - 1 < BINDINGS
@@ -123,16 +123,16 @@ module _ {b : List ℕ} {env : ℕ} (ch : Chain b env) where
         mine : Slot
         mine = slot (bindingAt b (e - 1))
 
-        was : (x k : ℕ) → RankOf s facts x k → orElse (getD table k 0) (boundWord (typeIn (mine ∷ context (bindingsIn b) link) x)) ≡ now x
+        was : (x k : ℕ) → RankOf s facts x k → storedOr (getD table k 0) (boundWord (typeIn (mine ∷ context (bindingsIn b) link) x)) ≡ now x
         was x k h = rw hl (rw (front (f .within) more) at (f .rest x k h))
 
-        own : (x k : ℕ) → RankOf s facts x k → x ≡ name → orElse (getD after k 0) (later x) ≡ now x
+        own : (x k : ℕ) → RankOf s facts x k → x ≡ name → storedOr (getD after k 0) (later x) ≡ now x
         own x k h q =
-            let there : getD after k 0 ≡ orElse (getD table k 0) (suc t) = n .here k (rw q at h) in
+            let there : getD after k 0 ≡ storedOr (getD table k 0) (suc t) = n .here k (rw q at h) in
             let type : boundWord (typeIn (mine ∷ context (bindingsIn b) link) x) ≡ suc t = own-type mine (context (bindingsIn b) link) x (q ∙ hn) ∙ ap suc (sym ht) in
             rw (there, or-twice (getD table k 0) t (later x)) (rw type at (was x k h))
 
-        other : (x k : ℕ) → RankOf s facts x k → (x ≡ name → ⊥) → orElse (getD after k 0) (later x) ≡ now x
+        other : (x k : ℕ) → RankOf s facts x k → (x ≡ name → ⊥) → storedOr (getD after k 0) (later x) ≡ now x
         other x k h q =
             let theirs : typeIn (mine ∷ context (bindingsIn b) link) x ≡ typeIn (context (bindingsIn b) link) x = other-type mine (context (bindingsIn b) link) x (λ m. q (m ∙ sym hn)) in
             rw (n .elsewhere x k h q) (rw theirs at (was x k h))

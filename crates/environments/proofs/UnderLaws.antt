@@ -11,10 +11,10 @@ use Rattle.script.specs.Reading.{programOf}
 use Rattle.slices.specs.Zero.{AllZero}
 use Rattle.typing.specs.Published.{WfEnv}
 use Rattle.inference.specs.Tables.{EnvIs}
-use Rattle.inference.specs.At.{At, Blank}
+use Rattle.inference.specs.Walk.{NodeInEnv, EmptyEnv}
 use Rattle.environments.specs.Chains.{Filled}
 
-module _ {s starts facts table : List ℕ} (lent : Blank s starts facts table) where
+module _ {s starts facts table : List ℕ} (lent : EmptyEnv s starts facts table) where
   -- made zeros again after a walk that left it as it was filled, it is what was lent
   pub zeros-again : {filled walked after : List ℕ} → length filled ≡ length table → walked ≡ filled → length after ≡ length walked → AllZero after → after ≡ table
   zeros-again {after = after} e w f z = ext-getD 0 after table (f ∙ ap length w ∙ e) (λ i h. z .zero i ∙ sym (lent .zeros .zero i))
@@ -24,7 +24,7 @@ module _ {s starts facts table : List ℕ} (lent : Blank s starts facts table) w
     pub environment : EnvIs s facts filled Γ
     environment = record { types = wf; holds = λ {x} {k} h. f x k h }
 
-    pub at-node : (n : Point) → length filled ≡ length table → n < countOf s nodes → At s starts facts filled n
+    pub at-node : (n : Point) → length filled ≡ length table → n < countOf s nodes → NodeInEnv s starts facts filled n
     at-node n e l =
         record {
           within = lent .within;

@@ -53,12 +53,12 @@ abbrev pub Filled : List ℕ → List ℕ → List ℕ → List Slot → Type 0
 Filled s facts table Γ = (x k : ℕ) → RankOf s facts x k → getD table k 0 ≡ boundWord (typeIn Γ x)
 
 -- The word that is stored for a name, or if none is, the other.
-abbrev pub orElse : ℕ → ℕ → ℕ
-orElse zero n = n
-orElse (suc m) n = suc m
+abbrev pub storedOr : ℕ → ℕ → ℕ
+storedOr zero n = n
+storedOr (suc m) n = suc m
 
 -- A table after a variable's type is noted.
 pub record TypeStored (s facts table : List ℕ) (name type : ℕ) (after : List ℕ) : Type 0 where
   pub size : length after ≡ length table
-  pub here : (k : ℕ) → RankOf s facts name k → getD after k 0 ≡ orElse (getD table k 0) (suc type)
+  pub here : (k : ℕ) → RankOf s facts name k → getD after k 0 ≡ storedOr (getD table k 0) (suc type)
   pub elsewhere : (x k : ℕ) → RankOf s facts x k → (x ≡ name → ⊥) → getD after k 0 ≡ getD table k 0

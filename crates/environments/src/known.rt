@@ -14,7 +14,7 @@ ghost use Rattle.script.specs.Section.{countOf, nodeWord};
 ghost use Rattle.script.specs.Reading.{programOf, exprAt};
 ghost use Rattle.typing.specs.Published.{WfEnv};
 ghost use Rattle.typing.specs.Typing.{inferred};
-ghost use Rattle.inference.specs.At.{Blank};
+ghost use Rattle.inference.specs.Walk.{EmptyEnv};
 ghost use Rattle.machine.specs.Machine.{context};
 ghost use Rattle.environments.specs.Chains.{Chain, Typed, bindingsIn};
 ghost use Rattle.environments.specs.Known.{ScopedNode, Inferable, Tells};
@@ -78,7 +78,7 @@ pub fn first_type(
     env: u16,
     a: u16,
 ) -> Answer
-    requires { ⌜ Blank (now s) (now starts) (now facts) (now table) × (a < countOf (now s) nodes) ⌝ }
+    requires { ⌜ EmptyEnv (now s) (now starts) (now facts) (now table) × (a < countOf (now s) nodes) ⌝ }
     requires { ⌜ Chain (now block) env × Typed (now block) × WfEnv (programOf (now s)) (context (bindingsIn (now block)) env) ⌝ }
     requires { ⌜ Inferable (now s) (now block) env a ⌝ }
     ensures { λ r. ⌜ r ≡ inferred (programOf (now (s .entry))) (context (bindingsIn (now (block .entry))) env) (exprAt (now (s .entry)) a) ⌝ }

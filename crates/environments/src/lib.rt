@@ -23,7 +23,7 @@ ghost use Rattle.slices.specs.Zero.{AllZero};
 ghost use Rattle.typing.specs.Published.{WfEnv};
 ghost use Rattle.names.specs.Ranks.{RANKS};
 ghost use Rattle.names.specs.Facts.{Facts};
-ghost use Rattle.inference.specs.At.{Blank};
+ghost use Rattle.inference.specs.Walk.{EmptyEnv};
 ghost use Rattle.inference.specs.Given.{GivenIn};
 ghost use Rattle.block.specs.declared.Area.the-variants.{Bindings};
 ghost use Rattle.block.specs.Layout.{width, wordIn};
@@ -99,7 +99,7 @@ pub fn infer_under(
     env: u16,
     a: u16,
 ) -> Given
-    requires { ⌜ Blank (now s) (now starts) (now facts) (now table) × (a < countOf (now s) nodes) ⌝ }
+    requires { ⌜ EmptyEnv (now s) (now starts) (now facts) (now table) × (a < countOf (now s) nodes) ⌝ }
     requires { ⌜ Chain (now block) env × Typed (now block) × WfEnv (programOf (now s)) (context (bindingsIn (now block)) env) ⌝ }
     ensures { λ r. ⌜ GivenIn (programOf (now (s .entry))) (context (bindingsIn (now (block .entry))) env) (exprAt (now (s .entry)) a) r ⌝ }
     ensures { λ r. ⌜ now (table .exit) ≡ now (table .entry) ⌝ }

@@ -17,11 +17,12 @@ use Rattle.block.specs.declared.Area.the-variants.{Frames}
 use Rattle.block.specs.Layout.{counted}
 use Rattle.block.specs.Block.{Parts, partsOf, laid}
 use Rattle.environments.specs.Chains.{bindingsIn}
-use Rattle.frames.specs.declared.awaited.Expects.{Expects}
-use Rattle.frames.specs.declared.awaited.Expects.the-variants.{No, Wants}
-use Rattle.frames.specs.declared.awaited.Waits.{Waits}
-use Rattle.frames.specs.Expecting.{expectsOf, wantsOf, configOf, Ready, AwaitsAs, CastsAs, frameStep, framesIn, framesFrom}
-use Rattle.frames.proofs.ReadyLaws.{in-block, frames-many}
+use Rattle.awaited.specs.declared.Expects.{Expects}
+use Rattle.awaited.specs.declared.Expects.the-variants.{No, Wants}
+use Rattle.awaited.specs.declared.Waits.{Waits}
+use Rattle.awaited.specs.Awaited.{expectsOf, wantsOf, ScopedBlock}
+use Rattle.frames.specs.Expecting.{configRead, AwaitsAs, CastsAs, frameStep, framesIn, framesFrom}
+use Rattle.frames.proofs.BlockLaws.{in-block, frames-many}
 
 -- what an answer says
 pub is-none : (o : Option Want) (r : Expects) → r ≡ expectsOf o → r ≡ No → o ≡ none
@@ -48,14 +49,14 @@ module _ (s : Code) (bs : List Binding) (w : Want) where
   expects-none [] gs h = h
   expects-none (f ∷ fs) gs h = expects-more f (fs ++ gs) ∙ ap (λ (o : Option Want). given o (λ v. frameStep s bs f v)) (expects-none fs gs h)
 
-module _ {s starts facts table b : List ℕ} (y : Ready s starts facts table b) where
+module _ {s starts facts table b : List ℕ} (y : ScopedBlock s starts facts table b) where
   pub frame-place : (i : ℕ) → i < counted b Frames → i < FRAMES
   frame-place i l = omega (arith, y .in-order .areas Frames .few)
 
   -- frame i, as it is read
   module _ (i : ℕ) (l : i < counted b Frames) (f : Frame) (read : (p : Parts) → b ≡ bytes (laid p) → i < length (p .frames) → f ≡ getD (p .frames) i (awaits 0 0)) where
     frame-known : f ≡ getD (framesIn s b) i (awaits 0 0)
-    frame-known = read (partsOf (configOf s b)) (in-block y) (omega (arith, frames-many y))
+    frame-known = read (partsOf (configRead s b)) (in-block y) (omega (arith, frames-many y))
 
     module _ (v : Want) (w : Waits) (r : Expects) (er : r ≡ expectsOf (wantsOf (codeOf s) v w)) where
       pub frame-awaits : (n e : ℕ) → f ≡ awaits n e → AwaitsAs s b n e w
@@ -78,7 +79,7 @@ pub record Climbed (s b before table : List ℕ) (from n : ℕ) (want : Want) (k
 pub climb-begun : (s b table : List ℕ) (from n : ℕ) (want : Want) → Climbed s b table table from n want 0 want
 climb-begun s b table from n want = record { within = omega arith; same = refl; so-far = refl }
 
-module _ {s starts facts before table b : List ℕ} (y : Ready s starts facts before b) {from n : ℕ} (l : from + n ≤ counted b Frames) {want : Want} {k : ℕ} {w : Want} (x : Climbed s b before table from n want k w) where
+module _ {s starts facts before table b : List ℕ} (y : ScopedBlock s starts facts before b) {from n : ℕ} (l : from + n ≤ counted b Frames) {want : Want} {k : ℕ} {w : Want} (x : Climbed s b before table from n want k w) where
   module _ (h : k < n) where
     pub climb-place : from + k < counted b Frames
     climb-place = omega arith

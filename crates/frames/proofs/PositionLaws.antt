@@ -29,19 +29,20 @@ use Rattle.representation.proofs.Places.{frame-at}
 use Rattle.representation.proofs.InOrder.{sum-same}
 use Rattle.representation.proofs.Ordered.{frame-number, at-in}
 use Rattle.environments.specs.Chains.{bindingsIn}
-use Rattle.frames.specs.declared.awaited.Expects.{Expects}
-use Rattle.frames.specs.declared.awaited.Expects.the-variants.{No, Wants}
-use Rattle.frames.specs.Expecting.{expectsOf, configOf, Ready, framesIn, framesFrom, framesBefore, placeAt, nodeTest, positionTest}
-use Rattle.frames.proofs.ReadyLaws.{in-block, storable, frames-many}
+use Rattle.awaited.specs.declared.Expects.{Expects}
+use Rattle.awaited.specs.declared.Expects.the-variants.{No, Wants}
+use Rattle.awaited.specs.Awaited.{expectsOf, ScopedBlock}
+use Rattle.frames.specs.Expecting.{configRead, framesIn, framesFrom, framesBefore, placeAt, nodeMeetsTest, positionTest}
+use Rattle.frames.proofs.BlockLaws.{in-block, storable, frames-many}
 use Rattle.frames.proofs.FrameLaws.{is-none, is-some}
 use Rattle.values.proofs.ReadLaws.{bindings-read}
 
-module _ {s starts facts table b : List ℕ} (y : Ready s starts facts table b) where
-  pub places-many : counted b Positions ≡ length (preorder (configOf s b .tree))
+module _ {s starts facts table b : List ℕ} (y : ScopedBlock s starts facts table b) where
+  pub places-many : counted b Positions ≡ length (preorder (configRead s b .tree))
   places-many =
       ap (λ (x : List ℕ). counted x Positions) (in-block y)
-      ∙ count-is (partsOf (configOf s b)) Positions
-      ∙ length-map (preorder (configOf s b .tree)) positionWords
+      ∙ count-is (partsOf (configRead s b)) Positions
+      ∙ length-map (preorder (configRead s b .tree)) positionWords
 
   pub place-there : (i : ℕ) → i < counted b Positions → i < POSITIONS
   place-there i h = omega (arith, y .in-order .areas Positions .few)
@@ -49,11 +50,11 @@ module _ {s starts facts table b : List ℕ} (y : Ready s starts facts table b) 
   place-word : (i j : ℕ) → i < counted b Positions → j < width Positions → wordIn b Positions i j ≡ getD (positionWords (placeAt s b i)) j 0
   place-word i j h hj =
       ap (λ (x : List ℕ). wordIn x Positions i j) (in-block y)
-      ∙ word-is (partsOf (configOf s b)) Positions i j (place-there i h) hj
-      ∙ ap (λ (r : List ℕ). getD r j 0) (row-at positionWords (preorder (configOf s b .tree)) i failed (omega (arith, places-many)))
+      ∙ word-is (partsOf (configRead s b)) Positions i j (place-there i h) hj
+      ∙ ap (λ (r : List ℕ). getD r j 0) (row-at positionWords (preorder (configRead s b .tree)) i failed (omega (arith, places-many)))
 
   place-storable : (i : ℕ) → i < counted b Positions → Storable (returned (placeAt s b i))
-  place-storable i h = storable y Positions (placeAt s b i) (at-in (preorder (configOf s b .tree)) i failed (omega (arith, places-many)))
+  place-storable i h = storable y Positions (placeAt s b i) (at-in (preorder (configRead s b .tree)) i failed (omega (arith, places-many)))
 
   place-frames : (i : ℕ) → i < counted b Positions → wordIn b Positions i WAITING ≡ length (waiting (placeAt s b i))
   place-frames i h = place-word i WAITING h (omega arith) ∙ frame-number (placeAt s b i)
@@ -63,7 +64,7 @@ module _ {s starts facts table b : List ℕ} (y : Ready s starts facts table b) 
     pub frames-within : from + n ≤ counted b Frames
     frames-within = omega (arith, begins, many, sum-more (λ k. wordIn b Positions k WAITING) i (counted b Positions) h, y .in-order .all-frames)
 
-    frames-start : from ≡ frameStart (configOf s b .tree) i
+    frames-start : from ≡ frameStart (configRead s b .tree) i
     frames-start = begins ∙ sum-same (λ k. wordIn b Positions k WAITING) (λ k. length (waiting (placeAt s b k))) i (λ k l. place-frames k (omega arith))
 
     pub frames-own : framesFrom s b from n ≡ waiting (placeAt s b i)
@@ -78,7 +79,7 @@ module _ {s starts facts table b : List ℕ} (y : Ready s starts facts table b) 
         getD-take n (drop from fs) k (awaits 0 0) (omega arith)
         ∙ getD-drop from fs k (awaits 0 0)
         ∙ ap (λ (x : ℕ). getD fs (x + k) (awaits 0 0)) frames-start
-        ∙ frame-at (configOf s b .tree) i k (awaits 0 0) (omega (arith, places-many)) (omega arith))
+        ∙ frame-at (configRead s b .tree) i k (awaits 0 0) (omega (arith, places-many)) (omega arith))
         in
         ap reverse turned-round ∙ reverse-reverse own
 
@@ -104,48 +105,48 @@ module _ (s : Code) (st : Stores) (v : Want) where
   value-fits (join fs a e l r) u g k f = absurd (omega arith)
 
   node-fits : (q : Tree) (u : Want) → (getD (positionWords q) 0 0 ≡ 3 → ⊥) → (getD (positionWords q) 0 0 ≡ 2 → ⊥) → expects s (st .bindings) v (waiting q) ≡ some u
-      → nodeTest s (st .bindings) (getD (positionWords q) 1 0) (getD (positionWords q) 2 0) u ≡ positionTest s st v q
+      → nodeMeetsTest s (st .bindings) (getD (positionWords q) 1 0) (getD (positionWords q) 2 0) u ≡ positionTest s st v q
   node-fits (running a e fs) u k l f = rw f
   node-fits (returning x fs) u k l f = absurd (l refl)
   node-fits failed u k l f = absurd (k refl)
   node-fits (join fs a e l r) u k j f = rw f
 
 -- one law for each answer
-module _ {s starts facts table b : List ℕ} (y : Ready s starts facts table b) (i : ℕ) (h : i < counted b Positions) (v : Want) (kind : ℕ) (ek : kind ≡ wordIn b Positions i 0) where
+module _ {s starts facts table b : List ℕ} (y : ScopedBlock s starts facts table b) (i : ℕ) (h : i < counted b Positions) (v : Want) (kind : ℕ) (ek : kind ≡ wordIn b Positions i 0) where
   abbrev Tests : Bool → Type 0
-  Tests m = m ≡ positionTest (codeOf s) (configOf s b .stores) v (placeAt s b i)
+  Tests m = m ≡ positionTest (codeOf s) (configRead s b .stores) v (placeAt s b i)
 
   kind-is : kind ≡ getD (positionWords (placeAt s b i)) 0 0
   kind-is = ek ∙ place-word y i 0 h (omega arith)
 
   pub place-failed : kind ≡ 3 → Tests true
-  place-failed k = failed-fits (codeOf s) (configOf s b .stores) v (placeAt s b i) (sym kind-is ∙ k)
+  place-failed k = failed-fits (codeOf s) (configRead s b .stores) v (placeAt s b i) (sym kind-is ∙ k)
 
   module _ (k : kind ≡ 3 → ⊥) (from n : ℕ) (begins : from ≡ framesBefore b i) (many : n ≡ wordIn b Positions i WAITING) (r : Expects)
       (er : r ≡ expectsOf (expects (codeOf s) (bindingsIn b) v (framesFrom s b from n))) where
-    answer : r ≡ expectsOf (expects (codeOf s) (configOf s b .stores .bindings) v (waiting (placeAt s b i)))
+    answer : r ≡ expectsOf (expects (codeOf s) (configRead s b .stores .bindings) v (waiting (placeAt s b i)))
     answer = rw (bindings-read (fieldCount s) b, ← frames-own y i h from n begins many) er
 
     pub place-misfit : r ≡ No → Tests false
     place-misfit f =
-        frames-misfit (codeOf s) (configOf s b .stores) v (placeAt s b i) (λ z. k (kind-is ∙ z))
-        (is-none (expects (codeOf s) (configOf s b .stores .bindings) v (waiting (placeAt s b i))) r answer f)
+        frames-misfit (codeOf s) (configRead s b .stores) v (placeAt s b i) (λ z. k (kind-is ∙ z))
+        (is-none (expects (codeOf s) (configRead s b .stores .bindings) v (waiting (placeAt s b i))) r answer f)
 
     module _ (u : Want) (f : r ≡ Wants u) where
-      wanted : expects (codeOf s) (configOf s b .stores .bindings) v (waiting (placeAt s b i)) ≡ some u
-      wanted = is-some (expects (codeOf s) (configOf s b .stores .bindings) v (waiting (placeAt s b i))) r u answer f
+      wanted : expects (codeOf s) (configRead s b .stores .bindings) v (waiting (placeAt s b i)) ≡ some u
+      wanted = is-some (expects (codeOf s) (configRead s b .stores .bindings) v (waiting (placeAt s b i))) r u answer f
 
-      pub place-value : kind ≡ 2 → (x : Value) (m : Bool) → x ≡ valueIn (wordIn b Positions i) RESULT → m ≡ valueFitsTest (codeOf s) (configOf s b .stores .objects) x u → Tests m
+      pub place-value : kind ≡ 2 → (x : Value) (m : Bool) → x ≡ valueIn (wordIn b Positions i) RESULT → m ≡ valueFitsTest (codeOf s) (configRead s b .stores .objects) x u → Tests m
       place-value j x m ex em =
           em
-          ∙ ap (λ (v : Value). valueFitsTest (codeOf s) (configOf s b .stores .objects) v u)
+          ∙ ap (λ (v : Value). valueFitsTest (codeOf s) (configRead s b .stores .objects) v u)
           (ex ∙ value-same (wordIn b Positions i) (wordOf (positionWords (placeAt s b i))) RESULT (λ n k. place-word y i (RESULT + n) h (omega arith)))
-          ∙ value-fits (codeOf s) (configOf s b .stores) v (placeAt s b i) u (place-storable y i h) (sym kind-is ∙ j) wanted
+          ∙ value-fits (codeOf s) (configRead s b .stores) v (placeAt s b i) u (place-storable y i h) (sym kind-is ∙ j) wanted
 
-      pub place-node : (kind ≡ 2 → ⊥) → (a e : ℕ) (m : Bool) → a ≡ wordIn b Positions i 1 → e ≡ wordIn b Positions i 2 → m ≡ nodeTest (codeOf s) (bindingsIn b) a e u → Tests m
+      pub place-node : (kind ≡ 2 → ⊥) → (a e : ℕ) (m : Bool) → a ≡ wordIn b Positions i 1 → e ≡ wordIn b Positions i 2 → m ≡ nodeMeetsTest (codeOf s) (bindingsIn b) a e u → Tests m
       place-node j a e m ea ee em =
           em
-          ∙ ap (λ (x : List Binding). nodeTest (codeOf s) x a e u) (sym (bindings-read (fieldCount s) b))
-          ∙ ap (λ (x : ℕ). nodeTest (codeOf s) (configOf s b .stores .bindings) x e u) (ea ∙ place-word y i 1 h (omega arith))
-          ∙ ap (λ (x : ℕ). nodeTest (codeOf s) (configOf s b .stores .bindings) (getD (positionWords (placeAt s b i)) 1 0) x u) (ee ∙ place-word y i 2 h (omega arith))
-          ∙ node-fits (codeOf s) (configOf s b .stores) v (placeAt s b i) u (λ z. k (kind-is ∙ z)) (λ z. j (kind-is ∙ z)) wanted
+          ∙ ap (λ (x : List Binding). nodeMeetsTest (codeOf s) x a e u) (sym (bindings-read (fieldCount s) b))
+          ∙ ap (λ (x : ℕ). nodeMeetsTest (codeOf s) (configRead s b .stores .bindings) x e u) (ea ∙ place-word y i 1 h (omega arith))
+          ∙ ap (λ (x : ℕ). nodeMeetsTest (codeOf s) (configRead s b .stores .bindings) (getD (positionWords (placeAt s b i)) 1 0) x u) (ee ∙ place-word y i 2 h (omega arith))
+          ∙ node-fits (codeOf s) (configRead s b .stores) v (placeAt s b i) u (λ z. k (kind-is ∙ z)) (λ z. j (kind-is ∙ z)) wanted

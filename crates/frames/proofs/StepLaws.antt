@@ -19,11 +19,12 @@ use Rattle.machine.specs.Config.{codeOf}
 use Rattle.machine.specs.Machine.{context}
 use Rattle.machine.specs.Decide.{castType}
 use Rattle.environments.specs.Chains.{bindingCount, bindingsIn}
-use Rattle.frames.specs.declared.awaited.Waits.{Waits}
-use Rattle.frames.specs.declared.awaited.Waits.the-variants.{Never, For}
-use Rattle.frames.specs.Expecting.{givenTest, WaitsAs, AwaitsAs, CastsAs, nodeTest}
-use Rattle.frames.proofs.ReadyLaws.{bindings-length}
-use Rattle.frames.proofs.AwaitedLaws.{view-by, gives-by}
+use Rattle.awaited.specs.declared.Waits.{Waits}
+use Rattle.awaited.specs.declared.Waits.the-variants.{Never, For}
+use Rattle.awaited.specs.Awaited.{givenTest, WaitsAs}
+use Rattle.frames.specs.Expecting.{AwaitsAs, CastsAs, nodeMeetsTest}
+use Rattle.awaited.proofs.ReadyLaws.{bindings-length}
+use Rattle.awaited.proofs.AwaitedLaws.{view-by, gives-by}
 
 -- an environment of the block, and none of it
 module _ (b : List ℕ) (e : ℕ) where
@@ -76,12 +77,12 @@ module _ (s : List ℕ) (n : Point) where
 
 -- a node that runs
 module _ (s b : List ℕ) (n : Point) (e : ℕ) (v : Want) where
-  pub node-outside : countOf s nodes ≤ n → false ≡ nodeTest (codeOf s) (bindingsIn b) n e v
+  pub node-outside : countOf s nodes ≤ n → false ≡ nodeMeetsTest (codeOf s) (bindingsIn b) n e v
   node-outside h = rw (le-ltb n (countOf s nodes) h, and-false (leb e (length (bindingsIn b))))
 
-  pub node-unbound : bindingCount b < e → false ≡ nodeTest (codeOf s) (bindingsIn b) n e v
+  pub node-unbound : bindingCount b < e → false ≡ nodeMeetsTest (codeOf s) (bindingsIn b) n e v
   node-unbound l = rw (env-not b e l)
 
   pub node-gives : n < countOf s nodes → e ≤ bindingCount b → (g : Given) → GivenIn (programOf s) (context (bindingsIn b) e) (exprAt s n) g → (m : Bool) → m ≡ givenTest (codeOf s) g v
-      → m ≡ nodeTest (codeOf s) (bindingsIn b) n e v
+      → m ≡ nodeMeetsTest (codeOf s) (bindingsIn b) n e v
   node-gives h l g eg m em = rw (env-there b e l, lt-ltb n (countOf s nodes) h, gives-by (codeOf s) (context (bindingsIn b) e) (exprAt s n) g eg v) em

@@ -1,6 +1,6 @@
 -- What the test of the stores leaves to rely on: links run to earlier bindings, and every binding has a type. So a block in order that passes it is ready for the walk over its tree.
-use mathlib.Core.Path.{_≡_, refl, sym, ap, _∙_}
-use mathlib.Core.Bool.{Bool, true, false, _&&_}
+use mathlib.Core.Path.{_≡_, sym, ap, _∙_}
+use mathlib.Core.Bool.{Bool, true, _&&_, and-eq-true-iff}
 use mathlib.Core.List.{List}
 use Prim.Native.Nat.{ℕ, zero, suc, _<_, _≤_}
 use native.Mathlib.Omega.{arith}
@@ -12,7 +12,6 @@ use Rattle.script.specs.Questions.{allOf}
 use Rattle.script.specs.Syntax.{intOf}
 use Rattle.script.specs.Regular.{IsType}
 use Rattle.script.specs.Reading.{programOf}
-use Rattle.script.proofs.Tests.{true-false}
 use Rattle.machine.specs.Config.{Code, codeOf, Object, Binding}
 use Rattle.machine.specs.declared.Want.the-variants.{Upto as upto}
 use Rattle.typing.specs.Members.{fieldsOf}
@@ -22,37 +21,33 @@ use Rattle.block.specs.declared.Area.the-variants.{Bindings}
 use Rattle.block.specs.Layout.{wordIn, TYPE, LINK}
 use Rattle.environments.specs.Chains.{bindingCount, bindingAt, newest, bindingsIn}
 use Rattle.environments.proofs.ChainLaws.{length-newest}
-use Rattle.frames.specs.Expecting.{configOf}
+use Rattle.frames.specs.Expecting.{configRead}
 use Rattle.values.proofs.ReadLaws.{bindings-read}
-
-both : (a b : Bool) → a && b ≡ true → (a ≡ true) × (b ≡ true)
-both true b e = (refl, e)
-both false b e = absurd (true-false (sym e))
 
 -- one binding that passes, and binding i of bindings that all pass
 binding-passed : (s : Code) (xs : List Object) (older : ℕ) (x : Binding) → bindingTest s xs older x ≡ true → (x .link ≤ older) × IsType (s .program) (x .type)
 binding-passed s xs older x h =
     let types : ℕ = intOf (s .program) in
     let value : Bool = valueFitsTest s xs (x .value) (upto (x .type)) in
-    let named = both (ltb (x .name) 65536) (leb (x .type) types && (leb (x .link) older && value)) h in
-    let typed = both (leb (x .type) types) (leb (x .link) older && value) (named .1) in
-    (leb-true (x .link) older (both (leb (x .link) older) value (typed .1) .0), leb-true (x .type) types (typed .0))
+    let named = and-eq-true-iff (ltb (x .name) 65536) (leb (x .type) types && (leb (x .link) older && value)) .0 h in
+    let typed = and-eq-true-iff (leb (x .type) types) (leb (x .link) older && value) .0 (named .1) in
+    (leb-true (x .link) older (and-eq-true-iff (leb (x .link) older) value .0 (typed .1) .0), leb-true (x .type) types (typed .0))
 
 each-passed : (s : Code) (xs : List Object) (f : ℕ → Binding) (n : ℕ) → bindingsTest s xs (newest f n) ≡ true → (i : ℕ) → i < n → (f i .link ≤ i) × IsType (s .program) (f i .type)
 each-passed s xs f zero h i l = absurd (omega arith)
 each-passed s xs f (suc n) h i l =
-    let all = both (bindingTest s xs (length (newest f n)) (f n)) (bindingsTest s xs (newest f n)) h in
+    let all = and-eq-true-iff (bindingTest s xs (length (newest f n)) (f n)) (bindingsTest s xs (newest f n)) .0 h in
     elim (ℕ-discrete i n) [
       | yes q ↦ rw q (rw (length-newest f n) at (binding-passed s xs (length (newest f n)) (f n) (all .0)))
       | no q ↦ each-passed s xs f n (all .1) i (omega arith)
     ]
 
-pub stores-passed : (s b : List ℕ) → storesTest (codeOf s) (configOf s b .stores) ≡ true
+pub stores-passed : (s b : List ℕ) → storesTest (codeOf s) (configRead s b .stores) ≡ true
     → (i : ℕ) → i < bindingCount b → (wordIn b Bindings i LINK ≤ i) × IsType (programOf s) (wordIn b Bindings i TYPE)
 unfolding bindingsIn
 stores-passed s b h =
-    let st = configOf s b .stores in
+    let st = configRead s b .stores in
     let fields : Bool = allOf (λ x. fieldsTest (codeOf s) (st .objects) (fieldsOf (programOf s) (x .class)) (x .fields)) (st .objects) in
-    let heap = both (allOf (isClassTest (codeOf s)) (st .objects)) (fields && bindingsTest (codeOf s) (st .objects) (st .bindings)) h in
+    let heap = and-eq-true-iff (allOf (isClassTest (codeOf s)) (st .objects)) (fields && bindingsTest (codeOf s) (st .objects) (st .bindings)) .0 h in
     each-passed (codeOf s) (st .objects) (bindingAt b) (bindingCount b)
-    (ap (bindingsTest (codeOf s) (st .objects)) (sym (bindings-read (fieldCount s) b)) ∙ both fields (bindingsTest (codeOf s) (st .objects) (st .bindings)) (heap .1) .1)
+    (ap (bindingsTest (codeOf s) (st .objects)) (sym (bindings-read (fieldCount s) b)) ∙ and-eq-true-iff fields (bindingsTest (codeOf s) (st .objects) (st .bindings)) .0 (heap .1) .1)

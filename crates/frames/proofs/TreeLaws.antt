@@ -1,7 +1,7 @@
 -- All positions of a tree: it is typed if and only if each position is, the root to its own expectation and the others to any.
 use mathlib.Core.Path.{_≡_, refl, sym, ap, _∙_}
 use mathlib.Core.Bool.{Bool, true, false, _&&_, and-true, and-false, and-assoc}
-use mathlib.Core.List.{List, [], _∷_, _++_}
+use mathlib.Core.List.{List, [], _∷_}
 use mathlib.Core.Option.{Option, none, some}
 use Prim.Native.Nat.{ℕ, zero, suc, _+_, _<_, _≤_}
 use native.Mathlib.Omega.{arith}
@@ -11,6 +11,7 @@ use lib.ListN.{length, getD, drop}
 use Rattle.limits.specs.Limits.{FRAMES}
 use Rattle.script.specs.Lists.{sumBelow}
 use Rattle.script.specs.Questions.{allOf}
+use Rattle.script.proofs.Tests.{all-append}
 use Rattle.machine.specs.declared.Want.{Want}
 use Rattle.machine.specs.declared.Want.the-variants.{Any as any}
 use Rattle.machine.specs.Config.{Code, codeOf, Stores, Tree, running, returning, failed, join}
@@ -19,13 +20,9 @@ use Rattle.machine.specs.Decide.{wantTest, atTest, expects, treeTest}
 use Rattle.block.specs.declared.Area.the-variants.{Positions, Frames}
 use Rattle.block.specs.Layout.{counted, wordIn, WAITING}
 use Rattle.block.specs.Block.{preorder}
-use Rattle.frames.specs.Expecting.{configOf, Ready, framesBefore, placeAt, positionTest, wantAt}
+use Rattle.frames.specs.Expecting.{configRead, framesBefore, placeAt, positionTest, wantAt}
+use Rattle.awaited.specs.Awaited.{ScopedBlock}
 use Rattle.frames.proofs.PositionLaws.{places-many, frames-within}
-
-all-append : {A : Type 0} (f : A → Bool) (xs ys : List A) → allOf f (xs ++ ys) ≡ allOf f xs && allOf f ys
-unfolding allOf
-all-append f [] ys = refl
-all-append f (x ∷ xs) ys = ap (λ (b : Bool). f x && b) (all-append f xs ys) ∙ sym (and-assoc (f x) (allOf f xs) (allOf f ys))
 
 -- a test that does not ask what is wanted
 asked-inside : (b : Bool) (o : Option Want) (f : Want → Bool) → b && wantTest o f ≡ wantTest o (λ v. b && f v)
@@ -86,26 +83,26 @@ pub record Passed (s b before table : List ℕ) (w : Want) (from i : ℕ) (want 
   pub same : table ≡ before
   pub begins : from ≡ framesBefore b i
   pub expected : want ≡ wantAt w i
-  pub each : (k : ℕ) → k < i → positionTest (codeOf s) (configOf s b .stores) (wantAt w k) (placeAt s b k) ≡ true
+  pub each : (k : ℕ) → k < i → positionTest (codeOf s) (configRead s b .stores) (wantAt w k) (placeAt s b k) ≡ true
 
 pub pass-begun : (s b table : List ℕ) (w : Want) → Passed s b table table w 0 0 w
 unfolding sumBelow
 pass-begun s b table w = record { within = omega arith; same = refl; begins = refl; expected = refl; each = λ k h. absurd (omega arith) }
 
-module _ {s starts facts before table b : List ℕ} (y : Ready s starts facts before b) {w want : Want} {from i : ℕ} (x : Passed s b before table w from i want) where
+module _ {s starts facts before table b : List ℕ} (y : ScopedBlock s starts facts before b) {w want : Want} {from i : ℕ} (x : Passed s b before table w from i want) where
   pub pass-room : i < counted b Positions → (n : ℕ) → n ≡ wordIn b Positions i WAITING → from + n ≤ FRAMES
   pass-room h n en = omega (arith, frames-within y i h from n (x .begins) en, y .in-order .areas Frames .few)
 
-  module _ (h : i < counted b Positions) (m : Bool) (em : m ≡ positionTest (codeOf s) (configOf s b .stores) want (placeAt s b i)) where
-    here : m ≡ positionTest (codeOf s) (configOf s b .stores) (wantAt w i) (placeAt s b i)
-    here = em ∙ ap (λ (v : Want). positionTest (codeOf s) (configOf s b .stores) v (placeAt s b i)) (x .expected)
+  module _ (h : i < counted b Positions) (m : Bool) (em : m ≡ positionTest (codeOf s) (configRead s b .stores) want (placeAt s b i)) where
+    here : m ≡ positionTest (codeOf s) (configRead s b .stores) (wantAt w i) (placeAt s b i)
+    here = em ∙ ap (λ (v : Want). positionTest (codeOf s) (configRead s b .stores) v (placeAt s b i)) (x .expected)
 
-    pub pass-misfit : m ≡ false → false ≡ treeTest (codeOf s) (configOf s b .stores) w (configOf s b .tree)
+    pub pass-misfit : m ≡ false → false ≡ treeTest (codeOf s) (configRead s b .stores) w (configRead s b .tree)
     pass-misfit f =
-        let t = configOf s b .tree in
+        let t = configRead s b .tree in
         let e = front t in
-        tree-misfit (codeOf s) (configOf s b .stores) w t i (omega (arith, ap length e, places-many y))
-        (ap (λ (l : List Tree). positionTest (codeOf s) (configOf s b .stores) (wantAt w i) (getD l i failed)) (sym e) ∙ sym here ∙ f)
+        tree-misfit (codeOf s) (configRead s b .stores) w t i (omega (arith, ap length e, places-many y))
+        (ap (λ (l : List Tree). positionTest (codeOf s) (configRead s b .stores) (wantAt w i) (getD l i failed)) (sym e) ∙ sym here ∙ f)
 
     pub pass-more : {after : List ℕ} → after ≡ table → (n : ℕ) → n ≡ wordIn b Positions i WAITING → m ≡ true → Passed s b before after w (from + n) (i + 1) any
     unfolding sumBelow
@@ -119,7 +116,7 @@ module _ {s starts facts before table b : List ℕ} (y : Ready s starts facts be
           each = λ k l. elim (ℕ-discrete k i) [ yes q ↦ rw q (sym here ∙ f) | no q ↦ x .each k (omega arith) ];
         }
 
-  pub pass-done : (i < counted b Positions → ⊥) → true ≡ treeTest (codeOf s) (configOf s b .stores) w (configOf s b .tree)
+  pub pass-done : (i < counted b Positions → ⊥) → true ≡ treeTest (codeOf s) (configRead s b .stores) w (configRead s b .tree)
   pass-done h =
-      tree-passed (codeOf s) (configOf s b .stores) w (configOf s b .tree) (preorder (configOf s b .tree)) (front (configOf s b .tree))
+      tree-passed (codeOf s) (configRead s b .stores) w (configRead s b .tree) (preorder (configRead s b .tree)) (front (configRead s b .tree))
       (λ k l. x .each k (omega (arith, places-many y, x .within)))

@@ -1,15 +1,15 @@
 // What the frames of a position expect, and whether a node meets it: "frames are typed up to the start's type or below at the root and to any type at an
 // async".
-use crate::awaited::Expects;
-use crate::awaited::Waits;
-use crate::awaited::call_waits;
-use crate::awaited::expected;
-use crate::awaited::given_meets;
-use crate::awaited::write_waits;
-use crate::memo::let_recalled;
+use awaited::Expects;
+use awaited::Waits;
+use awaited::call_waits;
+use awaited::expected;
+use awaited::given_meets;
+use awaited::write_waits;
 use block::Area;
 use machine::Frame;
 use machine::Want;
+use memo::let_recalled;
 use script::Section;
 use sections::count_of;
 use sections::node_word;
@@ -23,8 +23,9 @@ ghost use Rattle.machine.specs.Decide.{expects};
 ghost use Rattle.block.specs.declared.Area.the-variants.{Frames};
 ghost use Rattle.block.specs.Layout.{counted};
 ghost use Rattle.environments.specs.Chains.{bindingsIn};
-ghost use Rattle.frames.specs.Expecting.{expectsOf, WaitsAs, AwaitsAs, CastsAs, Ready, NodeUnder, frameStep, framesIn, framesFrom, nodeTest};
-ghost use Rattle.frames.specs.Memo.{Remembers, MemoReady};
+ghost use Rattle.awaited.specs.Awaited.{expectsOf, WaitsAs, ScopedBlock, NodeUnder};
+ghost use Rattle.frames.specs.Expecting.{AwaitsAs, CastsAs, frameStep, framesIn, framesFrom, nodeMeetsTest};
+ghost use Rattle.memo.specs.Memo.{Remembers, MemoReady};
 
 // What node n waits for in the environment e, as a frame: a write, a call or a let.
 fn node_waits(
@@ -171,8 +172,8 @@ pub fn node_fits(
     e: u16,
     want: Want,
 ) -> bool
-    requires { ⌜ Ready (now s) (now starts) (now facts) (now table) (now block) ⌝ }
-    ensures { λ r. ⌜ r ≡ nodeTest (codeOf (now (s .entry))) (bindingsIn (now (block .entry))) n e want ⌝ }
+    requires { ⌜ ScopedBlock (now s) (now starts) (now facts) (now table) (now block) ⌝ }
+    ensures { λ r. ⌜ r ≡ nodeMeetsTest (codeOf (now (s .entry))) (bindingsIn (now (block .entry))) n e want ⌝ }
     ensures { λ r. ⌜ now (table .exit) ≡ now (table .entry) ⌝ }
 {
     if count_of(s, Section::Nodes) <= n as usize {

@@ -1,11 +1,11 @@
 // Whether all positions of the thread tree are typed.
-use crate::awaited::Expects;
 use crate::frames::frames_want;
 use crate::frames::node_fits;
-use crate::memo::MEMO;
+use awaited::Expects;
 use block::Area;
 use block::Layout;
 use machine::Want;
+use memo::MEMO;
 use values::value_fits;
 ghost use mathlib.Core.Path.{_≡_};
 ghost use Prim.Native.Nat.{_<_};
@@ -14,8 +14,9 @@ ghost use Rattle.machine.specs.Config.{codeOf};
 ghost use Rattle.machine.specs.Decide.{treeTest};
 ghost use Rattle.block.specs.declared.Area.the-variants.{Positions};
 ghost use Rattle.block.specs.Layout.{counted};
-ghost use Rattle.frames.specs.Expecting.{configOf, Ready, framesBefore, placeAt, positionTest};
-ghost use Rattle.frames.specs.Memo.{Remembers, MemoReady};
+ghost use Rattle.frames.specs.Expecting.{configRead, framesBefore, placeAt, positionTest};
+ghost use Rattle.awaited.specs.Awaited.{ScopedBlock};
+ghost use Rattle.memo.specs.Memo.{Remembers, MemoReady};
 
 // Are the frames of position i typed, and does its node or value meet what they expect? A failed thread always fits. `from` is the number of its first frame.
 fn position_fits(
@@ -32,7 +33,7 @@ fn position_fits(
     requires { ⌜ MemoReady (now s) (now starts) (now facts) (now table) (now block) (now memo) ⌝ }
     requires { ⌜ (i < counted (now block) Positions) × (from ≡ framesBefore (now block) i) ⌝ }
     ensures { λ r. ⌜
-        r ≡ positionTest (codeOf (now (s .entry))) (configOf (now (s .entry)) (now (block .entry)) .stores) want
+        r ≡ positionTest (codeOf (now (s .entry))) (configRead (now (s .entry)) (now (block .entry)) .stores) want
         (placeAt (now (s .entry)) (now (block .entry)) i)
         ⌝ }
     ensures { λ r. ⌜ now (table .exit) ≡ now (table .entry) ⌝ }
@@ -65,10 +66,10 @@ pub fn tree_fits(
     block: &[u8],
     t: u16,
 ) -> bool
-    requires { ⌜ Ready (now s) (now starts) (now facts) (now table) (now block) ⌝ }
+    requires { ⌜ ScopedBlock (now s) (now starts) (now facts) (now table) (now block) ⌝ }
     ensures { λ r. ⌜
-        r ≡ treeTest (codeOf (now (s .entry))) (configOf (now (s .entry)) (now (block .entry)) .stores) (upto t)
-        (configOf (now (s .entry)) (now (block .entry)) .tree)
+        r ≡ treeTest (codeOf (now (s .entry))) (configRead (now (s .entry)) (now (block .entry)) .stores) (upto t)
+        (configRead (now (s .entry)) (now (block .entry)) .tree)
         ⌝ }
     ensures { λ r. ⌜ now (table .exit) ≡ now (table .entry) ⌝ }
 {

@@ -4,7 +4,7 @@ use mathlib.Core.Bool.{Bool, true, false, _&&_}
 use mathlib.Core.List.{List, [], _∷_}
 use mathlib.Core.Logic.{⊎-elim}
 use mathlib.Core.Option.{Option, none, some}
-use Prim.Native.Nat.{ℕ, zero, suc, _+_, _*_, _-_, _<_, _≤_}
+use Prim.Native.Nat.{ℕ, _+_, _*_, _-_, _<_, _≤_}
 use native.Mathlib.Omega.{arith}
 use lib.Dec.{eqb}
 use lib.ListN.{length, getD, set, length-set}
@@ -20,13 +20,13 @@ use Rattle.script.specs.declared.Found.the-variants.{At as Is, Nothing}
 use Rattle.script.specs.declared.Section.the-variants.{Interfaces as interfaces, Classes as classes, Nodes as nodes}
 use Rattle.script.specs.Lists.{_∈_, named}
 use Rattle.script.specs.Section.{countOf, nodeWord}
-use Rattle.script.specs.Syntax.{Point, Expr, null, var, select, update, call, lock, add, pointOf, isNull, Node, n-null, parts, build, Slot, Signature, Program, intOf}
+use Rattle.script.specs.Syntax.{Point, Expr, null, var, select, update, call, lock, add, pointOf, isNull, Node, parts, build, Slot, Signature, Program, intOf}
 use Rattle.script.specs.Reading.{kindOf, nodeOf, viewAt, exprAt, programOf}
 use Rattle.script.specs.Statements.{Part, WithinLayout}
 use Rattle.sections.specs.Laid.{foundOf}
 use Rattle.script.specs.Regular.{IsType}
 use Rattle.script.proofs.Declarations.{length-interfaces, length-classes}
-use Rattle.script.proofs.Reading.{first, expr-at, in-order}
+use Rattle.script.proofs.Reading.{first, only-null, expr-at, in-order}
 use Rattle.script.proofs.Regular.{formed, regular}
 use Rattle.typing.specs.declared.Aim.{Aim}
 use Rattle.typing.specs.declared.Aim.the-variants.{Infers as infers, Checks as checks}
@@ -44,7 +44,7 @@ use Rattle.names.specs.Facts.{Facts}
 use Rattle.names.proofs.SearchLaws.{rank-first}
 use Rattle.members.specs.Tables.{memberOf}
 use Rattle.inference.specs.Tables.{boundWord, EnvIs}
-use Rattle.inference.specs.At.{Target, At, Inferred, Checked, lockedType, Lockable}
+use Rattle.inference.specs.Walk.{Target, NodeInEnv, Inferred, Checked, lockedType, Lockable}
 use Rattle.inference.specs.declared.Given.{Given}
 use Rattle.inference.proofs.Given.{the-type}
 use Rattle.inference.specs.declared.Given.the-variants.{Typed as typed-at, Null as null-at, Faulty as faulty-at}
@@ -272,30 +272,14 @@ module _ (s : List ℕ) (t i : ℕ) (ei : i ≡ intOf (programOf s)) (v : Given)
   pub null-fits : (t ≡ i → ⊥) → Typed t ≡ answerAs (programOf s) (checks t) v
   null-fits h = rw (ev, ne-eqb t (intOf (programOf s)) (λ e. h (e ∙ sym ei)))
 
--- kinds 1 to 11 are not null, and every other one is read as null
-only-null : (k a b c : ℕ) → (k ≡ 1 → ⊥) → (k ≡ 2 → ⊥) → (k ≡ 3 → ⊥) → (k ≡ 4 → ⊥) → (k ≡ 5 → ⊥) → (k ≡ 6 → ⊥) → (k ≡ 7 → ⊥) → (k ≡ 8 → ⊥) → (k ≡ 9 → ⊥) → (k ≡ 10 → ⊥) → (k ≡ 11 → ⊥) → nodeOf (kindOf k) a b c ≡ n-null
-unfolding kindOf
-only-null zero a b c h1 h2 h3 h4 h5 h6 h7 h8 h9 h10 h11 = refl
-only-null (suc zero) a b c h1 h2 h3 h4 h5 h6 h7 h8 h9 h10 h11 = absurd (h1 refl)
-only-null (suc (suc zero)) a b c h1 h2 h3 h4 h5 h6 h7 h8 h9 h10 h11 = absurd (h2 refl)
-only-null (suc (suc (suc zero))) a b c h1 h2 h3 h4 h5 h6 h7 h8 h9 h10 h11 = absurd (h3 refl)
-only-null (suc (suc (suc (suc zero)))) a b c h1 h2 h3 h4 h5 h6 h7 h8 h9 h10 h11 = absurd (h4 refl)
-only-null (suc (suc (suc (suc (suc zero))))) a b c h1 h2 h3 h4 h5 h6 h7 h8 h9 h10 h11 = absurd (h5 refl)
-only-null (suc (suc (suc (suc (suc (suc zero)))))) a b c h1 h2 h3 h4 h5 h6 h7 h8 h9 h10 h11 = absurd (h6 refl)
-only-null (suc (suc (suc (suc (suc (suc (suc zero))))))) a b c h1 h2 h3 h4 h5 h6 h7 h8 h9 h10 h11 = absurd (h7 refl)
-only-null (suc (suc (suc (suc (suc (suc (suc (suc zero)))))))) a b c h1 h2 h3 h4 h5 h6 h7 h8 h9 h10 h11 = absurd (h8 refl)
-only-null (suc (suc (suc (suc (suc (suc (suc (suc (suc zero))))))))) a b c h1 h2 h3 h4 h5 h6 h7 h8 h9 h10 h11 = absurd (h9 refl)
-only-null (suc (suc (suc (suc (suc (suc (suc (suc (suc (suc zero)))))))))) a b c h1 h2 h3 h4 h5 h6 h7 h8 h9 h10 h11 = absurd (h10 refl)
-only-null (suc (suc (suc (suc (suc (suc (suc (suc (suc (suc (suc zero))))))))))) a b c h1 h2 h3 h4 h5 h6 h7 h8 h9 h10 h11 = absurd (h11 refl)
-only-null (suc (suc (suc (suc (suc (suc (suc (suc (suc (suc (suc (suc k)))))))))))) a b c h1 h2 h3 h4 h5 h6 h7 h8 h9 h10 h11 = refl
-
 -- What a part gives that is inferred, and what it answers: a type, or a no whatever the aim.
 no-null-typed : (g : Given) (t : ℕ) (n : Point) → noNull g ≡ typed-at t n → inferredAs g ≡ Typed t
 no-null-typed (typed-at u m) t n e = cc
 no-null-typed (null-at m) t n e = absurd (let z : _≡_ {A = ℕ} 0 1 = cc in omega arith)
 no-null-typed (faulty-at q m) t n e = absurd (let z : _≡_ {A = ℕ} 0 1 = cc in omega arith)
 
-none-of : (n : ℕ) → OneOf (1 ∷ 2 ∷ []) n → n ≡ 0 → ⊥
+-- neither 1 nor 2 is 0
+pub none-of : (n : ℕ) → OneOf (1 ∷ 2 ∷ []) n → n ≡ 0 → ⊥
 none-of n h z = ⊎-elim (λ (e : n ≡ 1). omega arith) (λ (e : n ≡ 2). omega arith) h
 
 no-null-no : (p : Program) (a : Aim) (g : Given) (k : ℕ → Answer) → OneOf (1 ∷ 2 ∷ []) (tagOf the-type (noNull g)) → answerAs p a (noNull g) ≡ andThen (inferredAs g) k
@@ -329,12 +313,12 @@ plain-as p Γ e (checks t) h = checked-as p Γ e t h
 pub same-env : (s facts : List ℕ) {env env′ : List ℕ} (e : Expr) {r : Given} → env′ ≡ env → GivenAs s facts env′ e r → GivenAs s facts env e r
 same-env s facts e k h Γ g = h Γ (rw k g)
 
-module _ {s starts facts env : List ℕ} {n : Point} (a : At s starts facts env n) where
+module _ {s starts facts env : List ℕ} {n : Point} (a : NodeInEnv s starts facts env n) where
   -- A part of the node, and what a call there asks.
   pub part : (k q′ q : ℕ) → nodeWord s n 0 ≡ k → q′ ≡ q → q ∈ parts (nodeBy s n k) → Part s n q′
   part k q′ q e eq m = rw eq (part-kind (a .within) n (a .there) k e q m)
 
-  pub down : (q : Point) (env′ : List ℕ) → Part s n q → env′ ≡ env → At s starts facts env′ q
+  pub down : (q : Point) (env′ : List ℕ) → Part s n q → env′ ≡ env → NodeInEnv s starts facts env′ q
   down q env′ h e =
       record {
         within = a .within;
@@ -491,7 +475,7 @@ module _ {s starts facts env : List ℕ} {n : Point} (a : At s starts facts env 
       bound-let Γ g = env-bind g (nodeWord s n 1) (getD facts (2 * n) 0) t (a .known .ranked) (let-rank e) (let-there e) (value-type Γ g)
 
       module _ (env₁ : List ℕ) (e₁ : env₁ ≡ env) where
-        pub let-under : (c : Point) → Part s n c → At s starts facts (set env₁ (getD facts (2 * n) 0) (t + 1)) c
+        pub let-under : (c : Point) → Part s n c → NodeInEnv s starts facts (set env₁ (getD facts (2 * n) 0) (t + 1)) c
         let-under c h =
             record {
               within = a .within;

@@ -24,11 +24,11 @@ use Rattle.typing.specs.Typing.{andThen, Body, bodiesFrom, bodiesOf, walk}
 use Rattle.typing.specs.Published.{WF-ENV}
 use Rattle.names.specs.Ranks.{of-this, of-parameter}
 use Rattle.inference.specs.Tables.{EnvIs}
-use Rattle.inference.specs.At.{At, Checked, Inferred, Blank, bodiesIn, bodyAnswer, WalksAs}
+use Rattle.inference.specs.Walk.{NodeInEnv, Checked, Inferred, EmptyEnv, bodiesIn, bodyAnswer, WalksAs}
 use Rattle.inference.proofs.InferLaws.{env-bind, word-back, type-small}
 
 -- A body is checked with two variables, which are bound and unbound again.
-module _ {s starts facts env : List ℕ} (b : Blank s starts facts env) where
+module _ {s starts facts env : List ℕ} (b : EmptyEnv s starts facts env) where
   no-variable : EnvIs s facts env []
   unfolding typeIn named
   no-variable = record { types = WF-ENV (λ x m. absurd (List·Memᴰ·not-nil m)); holds = λ {x} {k} h. b .zeros .zero k }
@@ -60,7 +60,7 @@ module _ {s starts facts env : List ℕ} (b : Blank s starts facts env) where
         env-bind (env-bind no-variable 0 0 class (b .known .ranked) of-this (omega (arith, b .size)) i) 1 1 (recordWord s methods m 1) (b .known .ranked) of-parameter
         (rw (length-set env 0 (class + 1)) (omega (arith, b .size))) param-type
 
-    pub body-at : (param body : ℕ) → param ≡ recordWord s methods m 1 → body ≡ recordWord s methods m 3 → At s starts facts (set (set env 0 (class + 1)) 1 (param + 1)) body
+    pub body-at : (param body : ℕ) → param ≡ recordWord s methods m 1 → body ≡ recordWord s methods m 3 → NodeInEnv s starts facts (set (set env 0 (class + 1)) 1 (param + 1)) body
     body-at param body ep eb =
         record {
           within = b .within;
@@ -80,7 +80,7 @@ module _ {s starts facts env : List ℕ} (b : Blank s starts facts env) where
     body-checked param result body r ep er eb c = rw (er, eb) at (c (bodyEnv class (methodAt s m .signature)) (rw ep body-env))
 
   -- The start is inferred with no variable.
-  pub start-at : {env₁ : List ℕ} → env₁ ≡ env → At s starts facts env₁ 0
+  pub start-at : {env₁ : List ℕ} → env₁ ≡ env → NodeInEnv s starts facts env₁ 0
   start-at e =
       record {
         within = b .within;
@@ -92,7 +92,7 @@ module _ {s starts facts env : List ℕ} (b : Blank s starts facts env) where
         environment = rw e no-variable;
       }
 
-  pub blank-still : {env₁ : List ℕ} → env₁ ≡ env → Blank s starts facts env₁
+  pub blank-still : {env₁ : List ℕ} → env₁ ≡ env → EmptyEnv s starts facts env₁
   blank-still e = rw e b
 
 -- A class's type is a type, and its methods are records of the script.
@@ -167,6 +167,6 @@ module _ {s env₀ env : List ℕ} {c : ℕ} (i : ClassesLeft s env₀ env c) wh
     pub class-faulty : (q : Question) (n : Point) → r ≡ Faulty q n → r ≡ walk (programOf s) (bodiesOf (programOf s))
     class-faulty q n k = rw (class-next, k)
 
-  pub classes-all : {starts facts : List ℕ} (r : Answer) → Blank s starts facts env₀ → countOf s classes ≤ c → Inferred s facts env (exprAt s 0) r → r ≡ walk (programOf s) (bodiesOf (programOf s))
+  pub classes-all : {starts facts : List ℕ} (r : Answer) → EmptyEnv s starts facts env₀ → countOf s classes ≤ c → Inferred s facts env (exprAt s 0) r → r ≡ walk (programOf s) (bodiesOf (programOf s))
   unfolding run bodiesFrom walk programOf
   classes-all r b h e = let k : countOf s classes - c ≡ 0 = omega arith in rw (i .left, k) (e [] (rw (i .same) (no-variable b)))

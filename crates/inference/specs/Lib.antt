@@ -1,3 +1,3 @@
 pub mod Tables
-pub mod At
+pub mod Walk
 pub mod Given

@@ -17,7 +17,7 @@ ghost use Rattle.script.specs.Reading.{programOf, exprAt};
 ghost use Rattle.script.specs.Statements.{WithinLayout};
 ghost use Rattle.typing.specs.declared.Aim.the-variants.{Checks as checks};
 ghost use Rattle.members.specs.Tables.{Starts};
-ghost use Rattle.inference.specs.At.{Target, At, Inferred, Checked, Lockable};
+ghost use Rattle.inference.specs.Walk.{Target, NodeInEnv, Inferred, Checked, Lockable};
 ghost use Rattle.inference.specs.Given.{inferredAs, answerAs, noNull, givenBy, GivenAs};
 
 // What is inferred for an expression that gives this: a null is inferred never.
@@ -126,7 +126,7 @@ fn lock_target(s: &[u8], facts: &[u16], env: &[u16], n: u16) -> Answer
 
 // A write has type Unit, after its value is checked against the field's type.
 fn infer_update(s: &[u8], starts: &[u16], facts: &[u16], env: &mut [u16], n: u16) -> Answer
-    requires { ⌜ At (now s) (now starts) (now facts) (now env) n × (nodeWord (now s) n 0 ≡ 3) ⌝ }
+    requires { ⌜ NodeInEnv (now s) (now starts) (now facts) (now env) n × (nodeWord (now s) n 0 ≡ 3) ⌝ }
     ensures { λ r. ⌜ Inferred (now (s .entry)) (now (facts .entry)) (now (env .entry)) (exprAt (now (s .entry)) n) r ⌝ }
     ensures { λ r. ⌜ now (env .exit) ≡ now (env .entry) ⌝ }
 {
@@ -144,7 +144,7 @@ fn infer_update(s: &[u8], starts: &[u16], facts: &[u16], env: &mut [u16], n: u16
 
 // A call has the method's result type, after its argument is checked against the parameter's type.
 fn infer_call(s: &[u8], starts: &[u16], facts: &[u16], env: &mut [u16], n: u16) -> Answer
-    requires { ⌜ At (now s) (now starts) (now facts) (now env) n × (nodeWord (now s) n 0 ≡ 4) ⌝ }
+    requires { ⌜ NodeInEnv (now s) (now starts) (now facts) (now env) n × (nodeWord (now s) n 0 ≡ 4) ⌝ }
     ensures { λ r. ⌜ Inferred (now (s .entry)) (now (facts .entry)) (now (env .entry)) (exprAt (now (s .entry)) n) r ⌝ }
     ensures { λ r. ⌜ now (env .exit) ≡ now (env .entry) ⌝ }
 {
@@ -166,7 +166,7 @@ fn infer_call(s: &[u8], starts: &[u16], facts: &[u16], env: &mut [u16], n: u16) 
 
 // A let gives what its last part does, in which its variable has the type of the first; the variable's old word is put back.
 fn infer_let(s: &[u8], starts: &[u16], facts: &[u16], env: &mut [u16], n: u16) -> Given
-    requires { ⌜ At (now s) (now starts) (now facts) (now env) n × (nodeWord (now s) n 0 ≡ 5) ⌝ }
+    requires { ⌜ NodeInEnv (now s) (now starts) (now facts) (now env) n × (nodeWord (now s) n 0 ≡ 5) ⌝ }
     ensures { λ r. ⌜ GivenAs (now (s .entry)) (now (facts .entry)) (now (env .entry)) (exprAt (now (s .entry)) n) r ⌝ }
     ensures { λ r. ⌜ now (env .exit) ≡ now (env .entry) ⌝ }
 {
@@ -186,7 +186,7 @@ fn infer_let(s: &[u8], starts: &[u16], facts: &[u16], env: &mut [u16], n: u16) -
 
 // A cast has its type, after its operand is checked against it.
 fn infer_cast(s: &[u8], starts: &[u16], facts: &[u16], env: &mut [u16], n: u16) -> Answer
-    requires { ⌜ At (now s) (now starts) (now facts) (now env) n × (nodeWord (now s) n 0 ≡ 7) ⌝ }
+    requires { ⌜ NodeInEnv (now s) (now starts) (now facts) (now env) n × (nodeWord (now s) n 0 ≡ 7) ⌝ }
     ensures { λ r. ⌜ Inferred (now (s .entry)) (now (facts .entry)) (now (env .entry)) (exprAt (now (s .entry)) n) r ⌝ }
     ensures { λ r. ⌜ now (env .exit) ≡ now (env .entry) ⌝ }
 {
@@ -197,7 +197,7 @@ fn infer_cast(s: &[u8], starts: &[u16], facts: &[u16], env: &mut [u16], n: u16) 
 
 // A fork gives what its last part does, where its asyncs share no variable and have types.
 fn infer_fork(s: &[u8], starts: &[u16], facts: &[u16], env: &mut [u16], n: u16) -> Given
-    requires { ⌜ At (now s) (now starts) (now facts) (now env) n × (nodeWord (now s) n 0 ≡ 8) ⌝ }
+    requires { ⌜ NodeInEnv (now s) (now starts) (now facts) (now env) n × (nodeWord (now s) n 0 ≡ 8) ⌝ }
     ensures { λ r. ⌜ GivenAs (now (s .entry)) (now (facts .entry)) (now (env .entry)) (exprAt (now (s .entry)) n) r ⌝ }
     ensures { λ r. ⌜ now (env .exit) ≡ now (env .entry) ⌝ }
 {
@@ -220,7 +220,7 @@ fn infer_fork(s: &[u8], starts: &[u16], facts: &[u16], env: &mut [u16], n: u16) 
 
 // A lock gives what its part does, where its variable has a type that may be locked.
 fn infer_lock(s: &[u8], starts: &[u16], facts: &[u16], env: &mut [u16], n: u16) -> Given
-    requires { ⌜ At (now s) (now starts) (now facts) (now env) n × (nodeWord (now s) n 0 ≡ 9) ⌝ }
+    requires { ⌜ NodeInEnv (now s) (now starts) (now facts) (now env) n × (nodeWord (now s) n 0 ≡ 9) ⌝ }
     ensures { λ r. ⌜ GivenAs (now (s .entry)) (now (facts .entry)) (now (env .entry)) (exprAt (now (s .entry)) n) r ⌝ }
     ensures { λ r. ⌜ now (env .exit) ≡ now (env .entry) ⌝ }
 {
@@ -234,7 +234,7 @@ fn infer_lock(s: &[u8], starts: &[u16], facts: &[u16], env: &mut [u16], n: u16) 
 
 // What node n gives.
 pub fn infer(s: &[u8], starts: &[u16], facts: &[u16], env: &mut [u16], n: u16) -> Given
-    requires { ⌜ At (now s) (now starts) (now facts) (now env) n ⌝ }
+    requires { ⌜ NodeInEnv (now s) (now starts) (now facts) (now env) n ⌝ }
     ensures { λ r. ⌜ GivenAs (now (s .entry)) (now (facts .entry)) (now (env .entry)) (exprAt (now (s .entry)) n) r ⌝ }
     ensures { λ r. ⌜ now (env .exit) ≡ now (env .entry) ⌝ }
 {
@@ -280,7 +280,7 @@ fn given_fits(s: &[u8], starts: &[u16], g: Given, t: u16) -> Answer
 
 // Has node n the type t?
 pub fn check(s: &[u8], starts: &[u16], facts: &[u16], env: &mut [u16], n: u16, t: u16) -> Answer
-    requires { ⌜ At (now s) (now starts) (now facts) (now env) n ⌝ }
+    requires { ⌜ NodeInEnv (now s) (now starts) (now facts) (now env) n ⌝ }
     ensures { λ r. ⌜ Checked (now (s .entry)) (now (facts .entry)) (now (env .entry)) (exprAt (now (s .entry)) n) t r ⌝ }
     ensures { λ r. ⌜ now (env .exit) ≡ now (env .entry) ⌝ }
 {
@@ -290,7 +290,7 @@ pub fn check(s: &[u8], starts: &[u16], facts: &[u16], env: &mut [u16], n: u16, t
 
 // The same of a node's part, which is most often a variable: its type is at hand, and no call is made for it.
 fn check_part(s: &[u8], starts: &[u16], facts: &[u16], env: &mut [u16], n: u16, t: u16) -> Answer
-    requires { ⌜ At (now s) (now starts) (now facts) (now env) n ⌝ }
+    requires { ⌜ NodeInEnv (now s) (now starts) (now facts) (now env) n ⌝ }
     ensures { λ r. ⌜ Checked (now (s .entry)) (now (facts .entry)) (now (env .entry)) (exprAt (now (s .entry)) n) t r ⌝ }
     ensures { λ r. ⌜ now (env .exit) ≡ now (env .entry) ⌝ }
 {

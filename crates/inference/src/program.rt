@@ -15,7 +15,7 @@ ghost use Rattle.script.specs.Section.{countOf};
 ghost use Rattle.script.specs.Reading.{methodAt, classAt, programOf};
 ghost use Rattle.script.specs.Regular.{IsType};
 ghost use Rattle.typing.specs.Typing.{bodiesOf, walk};
-ghost use Rattle.inference.specs.At.{Blank, bodiesIn, bodyAnswer, WalksAs};
+ghost use Rattle.inference.specs.Walk.{EmptyEnv, bodiesIn, bodyAnswer, WalksAs};
 
 // Checks the body of method m of the class against its result type; both variables are unbound again after it.
 fn walk_method(
@@ -26,7 +26,7 @@ fn walk_method(
     class: u16,
     m: usize,
 ) -> Answer
-    requires { ⌜ Blank (now s) (now starts) (now facts) (now env) × IsType (programOf (now s)) class × (m < countOf (now s) methods) ⌝ }
+    requires { ⌜ EmptyEnv (now s) (now starts) (now facts) (now env) × IsType (programOf (now s)) class × (m < countOf (now s) methods) ⌝ }
     ensures { λ r. ⌜ r ≡ bodyAnswer (programOf (now (s .entry))) class (methodAt (now (s .entry)) m) ⌝ }
     ensures { λ r. ⌜ now (env .exit) ≡ now (env .entry) ⌝ }
 {
@@ -43,7 +43,7 @@ fn walk_method(
 
 // Checks the bodies of class c, in order.
 fn walk_class(s: &[u8], starts: &[u16], facts: &[u16], env: &mut [u16], c: usize) -> Answer
-    requires { ⌜ Blank (now s) (now starts) (now facts) (now env) × (c < countOf (now s) classes) ⌝ }
+    requires { ⌜ EmptyEnv (now s) (now starts) (now facts) (now env) × (c < countOf (now s) classes) ⌝ }
     ensures { λ r. ⌜ WalksAs (now (s .entry)) (bodiesIn (countOf (now (s .entry)) interfaces + 1 + c) (classAt (now (s .entry)) c .methods)) r ⌝ }
     ensures { λ r. ⌜ now (env .exit) ≡ now (env .entry) ⌝ }
 {
@@ -63,7 +63,7 @@ fn walk_class(s: &[u8], starts: &[u16], facts: &[u16], env: &mut [u16], c: usize
 
 // Every body in method order, then the start, with no variable.
 pub fn walk_script(s: &[u8], starts: &[u16], facts: &[u16], env: &mut [u16]) -> Answer
-    requires { ⌜ Blank (now s) (now starts) (now facts) (now env) ⌝ }
+    requires { ⌜ EmptyEnv (now s) (now starts) (now facts) (now env) ⌝ }
     ensures { λ r. ⌜ r ≡ walk (programOf (now (s .entry))) (bodiesOf (programOf (now (s .entry)))) ⌝ }
 {
     let count = count_of(s, Section::Classes);

@@ -1,7 +1,7 @@
 -- What the code of question 9 answers: a law for each return, with the callees' results as variables.
 use mathlib.Core.Path.{_≡_, refl, sym, ap, _∙_}
 use mathlib.Core.Bool.{Bool, true, false, cond}
-use mathlib.Core.List.{List, _∷_, map, List·Memᴰ·head, List·Memᴰ·tail, List·Memᴰ·not-nil, List·Memᴰ·append-cases, Memᴰ·of-map}
+use mathlib.Core.List.{List, _∷_, map, List·Memᴰ·not-nil, List·Memᴰ·append-cases, Memᴰ·of-map}
 use mathlib.Core.Logic.{⊎-elim}
 use mathlib.Core.Option.{Option, none, some}
 use Prim.Native.Nat.{ℕ, zero, suc, _+_, _-_, _<_, _≤_}
@@ -23,7 +23,7 @@ use Rattle.script.specs.Asking.{Decides, firstOut, placeOr, lowestIn}
 use Rattle.script.specs.Questions.{allOf}
 use Rattle.script.specs.Statements.{WithinLayout}
 use Rattle.sections.specs.Laid.{foundOf}
-use Rattle.script.proofs.Lists.{in-run, owner-of}
+use Rattle.script.proofs.Lists.{in-run, run-has, owner-of}
 use Rattle.script.proofs.Tests.{true-false, decides, yes-said, no-said, decides-all}
 use Rattle.script.proofs.Declarations.{length-interfaces, interface-at}
 use Rattle.script.proofs.Regular.{regular}
@@ -178,16 +178,6 @@ lists-run s i gs e = go (eqb (recordWord s interfaces i 0) 1) e
 own-form : (s : List ℕ) (i : ℕ) → 0 < ownSignatures s i → recordWord s interfaces i 0 ≡ 1 → ⊥
 unfolding ownSignatures
 own-form s i h e = let z : cond (eqb (recordWord s interfaces i 0) 0) (recordWord s interfaces i 1) 0 ≡ 0 = rw e refl in omega arith
-
--- each record of a run stands in it
-run-has : {A : Type 0} (f : ℕ → A) (i n k : ℕ) → i ≤ k → k < i + n → f k ∈ run f i n
-unfolding run
-run-has f i zero k a b = absurd (omega arith)
-run-has f i (suc n) k a b =
-    ⊎-elim
-    (λ (q : i ≡ k). List·Memᴰ·head (ap f (sym q)))
-    (λ (q : i < k). List·Memᴰ·tail (run-has f (i + 1) n k (omega arith) (omega arith)))
-    (eq-or-lt-of-le a)
 
 -- the names that interfaces list are those of the signature records
 record NameAt (s : List ℕ) (m : ℕ) : Type 0 where

@@ -1,18 +1,17 @@
 -- What the code of question 10 answers: a law for each return, with the callees' results as variables.
 use mathlib.Core.Path.{_≡_, refl, sym, ap, _∙_}
 use mathlib.Core.Bool.{Bool, true, false}
-use mathlib.Core.List.{List, List·Memᴰ·head, List·Memᴰ·tail}
+use mathlib.Core.List.{List}
 use mathlib.Core.Logic.{⊎-elim}
 use mathlib.Core.Option.{Option·map}
-use Prim.Native.Nat.{ℕ, zero, suc, _+_, _-_, _<_, _≤_}
-use native.Mathlib.Nat.{eq-or-lt-of-le}
+use Prim.Native.Nat.{ℕ, suc, _+_, _-_, _<_, _≤_}
 use native.Mathlib.Omega.{arith}
 use lib.ListN.{getD, set, replicate, length-set, length-replicate}
 use Rattle.limits.specs.Limits.{INTERFACES}
 use Rattle.script.specs.declared.Found.{Found}
 use Rattle.script.specs.declared.Found.the-variants.{At, Nothing}
 use Rattle.script.specs.declared.Section.the-variants.{Interfaces as interfaces, Signatures as signatures, Classes as classes, Methods as methods}
-use Rattle.script.specs.Lists.{_∈_, run, sumBelow}
+use Rattle.script.specs.Lists.{run, sumBelow}
 use Rattle.script.specs.Section.{countOf, recordWord}
 use Rattle.script.specs.Syntax.{lists, extends, an-interface, a-class, declarationAt}
 use Rattle.script.specs.Reading.{ownSignatures, signatureAt, methodAt, classAt, programOf}
@@ -20,7 +19,7 @@ use Rattle.script.specs.Asking.{Decides, holds, fails}
 use Rattle.script.specs.Statements.{WithinLayout, InterfaceWord}
 use Rattle.sections.specs.Laid.{foundOf}
 use Rattle.script.proofs.Tests.{true-false, says-yes, yes-said, no-said, decides-as, decides-and, decides-eq}
-use Rattle.script.proofs.Lists.{in-run}
+use Rattle.script.proofs.Lists.{in-run, run-has}
 use Rattle.script.proofs.Declarations.{interface-at, class-at}
 use Rattle.script.proofs.Regular.{regular}
 use Rattle.typing.specs.Check.{classTest}
@@ -42,16 +41,6 @@ says-no (fails n) e q = n q
 decided-same : {P : Type 0} {a b : Bool} → Decides P a → Decides P b → a ≡ b
 decided-same (holds p) d = sym (yes-said d p)
 decided-same (fails n) d = sym (no-said d n)
-
--- Each record of a run stands in it.
-run-has : {A : Type 0} (f : ℕ → A) (i k j : ℕ) → i ≤ j → j < i + k → f j ∈ run f i k
-unfolding run
-run-has f i zero j a b = absurd (omega arith)
-run-has f i (suc k) j a b =
-    ⊎-elim
-    (λ (e : i ≡ j). List·Memᴰ·head (ap f (sym e)))
-    (λ (l : i < j). List·Memᴰ·tail (run-has f (i + 1) k j (omega arith) (omega arith)))
-    (eq-or-lt-of-le a)
 
 -- The method of signature i's name that was found among those of class c, or none.
 module _ {s : List ℕ} (w : WithinLayout s) (c i name : ℕ) (h : c < countOf s classes) (p : name ≡ recordWord s signatures i 0)

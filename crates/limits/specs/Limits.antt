@@ -1,4 +1,5 @@
--- Every limit of document 01, once. `Limits` of the source has the same names, and `agreed` there proves that the numbers are the same.
+-- Every limit of document 01, and the length of the block, which is document 02's (request 2), once. `Limits` of the source has the same names, and `agreed`
+-- there proves that the numbers are the same.
 use Prim.Native.Nat.{ℕ, _*_, _-_}
 
 -- The script file: "Most records" of each section.

@@ -1,4 +1,4 @@
-// Every limit of document 01, named in one place.
+// Every limit of document 01, and the length of the block, which is document 02's (request 2), named in one place.
 ghost use mathlib.Core.Path.{_≡_};
 ghost use Rattle.limits.specs.Limits.{INTERFACES, SIGNATURES, CLASSES, FIELDS, METHODS, NODES, CONTENTS, FILE, CLASS-FIELDS, BLOCK, OBJECTS, BINDINGS};
 ghost use Rattle.limits.specs.Limits.{FRAMES, THREADS, POSITIONS, CHOICES, FLAGS, SILENT};

@@ -1,7 +1,7 @@
 -- The locks of the configuration that is read from a block, by the marks.
 use mathlib.Core.Path.{_≡_, refl, sym, ap, _∙_}
 use mathlib.Core.Bool.{Bool, true, false, not, _&&_}
-use mathlib.Core.List.{List, [], _∷_, _++_, append-nil, map, map-append, flatMap, reverse, reverse-append}
+use mathlib.Core.List.{List, [], _∷_, _++_, append-nil, map, map-append, flatMap, reverse}
 use mathlib.Core.Option.{none}
 use Prim.Native.Nat.{ℕ, zero, suc, _+_, _<_, _≤_}
 use native.Mathlib.Omega.{arith}
@@ -12,15 +12,14 @@ use lib.ListN.{length, getD}
 use Rattle.script.specs.Lists.{_∈_, run, sumBelow}
 use Rattle.script.specs.Asking.{Decides}
 use Rattle.script.specs.Questions.{allOf}
-use Rattle.script.proofs.Lists.{length-run}
-use Rattle.script.proofs.Tests.{true-false, yes-said, no-said, decides-le, decides-all}
-use Rattle.members.proofs.LookupLaws.{sum-next}
+use Rattle.script.proofs.Lists.{length-run, sum-next}
+use Rattle.script.proofs.Tests.{true-false, yes-said, no-said, decides-le, decides-all, all-append}
 use Rattle.machine.specs.declared.Frame.{Frame}
 use Rattle.machine.specs.Config.{Object, Tree, running, returning, failed, join, Config}
 use Rattle.machine.specs.Machine.{object, oneIf, lockFrames}
 use Rattle.machine.specs.WellFormed.{lockCount, failures, shutAt}
 use Rattle.machine.specs.Decide.{lockList, distinctTest, numbersBelow}
-use Rattle.soundness.proofs.Ends.{frames-append}
+use Rattle.soundness.proofs.Ends.{frames-append, locks-turned}
 use Rattle.machine.proofs.Locks.{lock-listed}
 use Rattle.soundness.proofs.Stores.{shutAt-object}
 use Rattle.block.specs.declared.Area.{Area}
@@ -39,12 +38,6 @@ use Rattle.values.proofs.ReadLaws.{map-run, object-run, object-past, objects-re
 use Rattle.locks.proofs.MarkLaws.{shut-there, shut-absent, isMarked, marking-yes}
 
 -- the lock frames of a tree stand among its frames
-locks-turned : (o : ℕ) (fs : List Frame) → lockFrames o (reverse fs) ≡ lockFrames o fs
-locks-turned o [] = refl
-locks-turned o (f ∷ fs) =
-    ap (lockFrames o) (reverse-append (f ∷ []) fs)
-    ∙ omega (arith, frames-append o (reverse fs) (f ∷ []), frames-append o (f ∷ []) fs, locks-turned o fs)
-
 locks-among : (o : ℕ) (t : Tree) → lockCount o t ≡ lockFrames o (framesOf t)
 unfolding framesOf preorder flatMap
 locks-among o (running a e fs) = sym (ap (lockFrames o) (append-nil (reverse fs)) ∙ locks-turned o fs)
@@ -65,15 +58,6 @@ locks-sum o g h i (suc n) e =
     rw z (omega (arith, e i (omega arith) (run g (i + 1) n), sum-next h i (sumBelow h i) (h i) refl refl, locks-sum o g h (i + 1) n (λ j l. e j (omega arith))))
 
 -- the failed threads stand among the positions
-all-append : {A : Type 0} (test : A → Bool) (l m : List A) → allOf test (l ++ m) ≡ allOf test l && allOf test m
-unfolding allOf
-all-append test [] m = refl
-all-append test (x ∷ l) m = ap (λ (t : Bool). test x && t) (all-append test l m) ∙ regroup (test x) (allOf test l) (allOf test m)
-  where
-    regroup : (p q r : Bool) → p && (q && r) ≡ (p && q) && r
-    regroup true q r = refl
-    regroup false q r = refl
-
 kinds : Tree → List ℕ
 kinds t = map (λ (r : List ℕ). getD r 0 0) (map positionWords (preorder t))
 

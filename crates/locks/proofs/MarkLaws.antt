@@ -12,8 +12,8 @@ use lib.Seq.{getD-set-same, getD-set-other}
 use Rattle.limits.specs.Limits.{OBJECTS}
 use Rattle.script.specs.Lists.{run, sumBelow}
 use Rattle.script.specs.Questions.{allOf}
+use Rattle.script.proofs.Lists.{zeros, sum-next}
 use Rattle.script.proofs.Tests.{true-false}
-use Rattle.members.proofs.LookupLaws.{sum-next}
 use Rattle.machine.specs.Machine.{oneIf}
 use Rattle.machine.specs.Decide.{numbersBelow}
 use Rattle.block.specs.declared.Area.the-variants.{Objects, Positions, Frames}
@@ -37,11 +37,6 @@ locks-more b o i = sum-next (lockAt b o) i (locksIn b o i) (lockAt b o i) refl r
 pub no-marks : (b : List ℕ) → Marks b 0 (replicate OBJECTS 0)
 unfolding sumBelow
 no-marks b = record { size = length-replicate {A = ℕ} OBJECTS 0; counts = λ o. zeros OBJECTS o; distinct = λ o. omega arith }
-  where
-    zeros : (n k : ℕ) → getD {A = ℕ} (replicate n 0) k 0 ≡ 0
-    zeros zero k = refl
-    zeros (suc n) zero = refl
-    zeros (suc n) (suc k) = zeros n k
 
 module _ {b : List ℕ} {i : ℕ} {marks : List ℕ} (m : Marks b i marks) (kind : ℕ) (ek : kind ≡ wordIn b Frames i 0) where
   -- a frame that is no lock frame

@@ -3,4 +3,5 @@ pub mod Stops
 pub mod Accepted
 pub mod Types
 pub mod Locks
+pub mod Positions
 pub mod Decide

@@ -6,9 +6,10 @@ use mathlib.Core.Logic.{_↔_}
 use mathlib.Core.Option.{some}
 use native.Mathlib.Omega.{arith}
 use Rattle.script.specs.Lists.{_∈_}
-use Rattle.script.specs.Syntax.{Point, Expr, null, bind, fork, lock, Node, n-null, n-var, n-select, n-update, n-call, n-bind, n-new, n-cast, n-fork, n-lock, n-constant, n-add, build, pointOf, Slot, Signature, Method, Class, Program, declarationAt, a-class, an-int}
+use Rattle.script.specs.Syntax.{Point, Expr, null, bind, fork, lock, pointOf, Slot, Signature, Method, Class, Program, declarationAt, a-class, an-int}
 use Rattle.script.specs.Regular.{IsType, IsClass}
 use Rattle.script.proofs.Lists.{named-unique}
+use Rattle.script.proofs.Reading.{build-point}
 use Rattle.script.proofs.Declarations.{is-class, a-class-at}
 use Rattle.typing.specs.declared.Answer.the-variants.{Typed}
 use Rattle.typing.specs.Members.{typeIn, fieldIn, fieldsOf, definedIn}
@@ -86,20 +87,6 @@ class-method (WF-CLASS f g h) i = h _ i
 
 method-checks : {p : Program} {t : ℕ} {m : Method} → WfMethod p t m → Check p (bodyEnv t (m .signature)) (m .body) (m .signature .result)
 method-checks (WF-METHOD c) = c
-
-build-point : (n : Point) (f : Point → Expr) (v : Node) → pointOf (build n f v) ≡ n
-build-point n f n-null = refl
-build-point n f (n-var x) = refl
-build-point n f (n-select x y) = refl
-build-point n f (n-update x y p) = refl
-build-point n f (n-call x m p) = refl
-build-point n f (n-bind x p q) = refl
-build-point n f (n-new c) = refl
-build-point n f (n-cast t p) = refl
-build-point n f (n-fork p q r) = refl
-build-point n f (n-lock x p) = refl
-build-point n f (n-constant z) = refl
-build-point n f (n-add x y) = refl
 
 -- The method that a class defines for a signature, with its body at a node.
 pub record Defined (s : Code) (c : ℕ) (g : Signature) : Type 0 where

@@ -451,6 +451,32 @@ exampleHolders =
     record { tree = joinAt (locks 0 ∷ []) failed (running 16 2 []); holders = 0 ∷ 0 ∷ 0 ∷ [] } ∷
     []
 
+-- A configuration, and whether it is well formed, where the start's type is 2.
+pub record ExampleForm : Type 0 where
+  pub config : Config
+  pub well : Bool
+
+abbrev pub formIs : Bool → List Object → List Binding → Tree → ExampleForm
+formIs b os bs t = record { config = holding os bs t; well = b }
+
+unfoldable pub exampleForms : List ExampleForm
+exampleForms =
+    -- "value types fit": x : C is a number, and null
+    formIs false [] (boundTo 2 2 (int (pos 7)) 0 ∷ []) failed ∷
+    formIs true [] (boundTo 2 2 nil 0 ∷ []) failed ∷
+    -- "links run to earlier bindings": the first to itself
+    formIs false [] (boundTo 2 2 nil 1 ∷ []) failed ∷
+    -- "frames are typed up to the start's type or below at the root and to any type at an async": y : I, and null at an async
+    formIs false [] (xy nil nil) (running 17 2 []) ∷
+    formIs true [] (xy nil nil) (joinAt [] (running 30 2 []) (running 17 2 [])) ∷
+    -- a let that gives C, under one that waits for a number
+    formIs false (aCounter (pos 0) ∷ []) (boundTo 3 1 nil 4 ∷ boundTo 2 2 nil 0 ∷ mn (pos 0) (pos 0)) (returning nil (awaits 5 5 ∷ awaits 24 2 ∷ [])) ∷
+    -- "all lock frames name distinct objects, each of them shut", and no other is
+    formIs false (aShut nil nil ∷ []) (xy (ref 0) nil) (running 19 2 (locks 0 ∷ locks 0 ∷ [])) ∷
+    formIs false (anOpen nil nil ∷ []) (xy (ref 0) nil) (running 19 2 (locks 0 ∷ [])) ∷
+    formIs false (aShut nil nil ∷ []) (xy (ref 0) nil) (running 19 2 []) ∷
+    []
+
 abbrev pub quietAt : Tree → Option Path → Bool
 quietAt t none = false
 quietAt t (some p) = quietIn exampleCode (part t p)
@@ -460,7 +486,7 @@ heldAt t none = 0
 heldAt t (some p) = heldBy 0 0 t p
 
 -- What the tables say: each choice comes to what its row says, from a well-formed configuration (the start's type is 2); each position can move as its row
--- says; each Run reports what its row says; each position holds object 0 as its row says.
+-- says; each Run reports what its row says; each position holds object 0 as its row says; each configuration is well formed if its row says so.
 pub record ExampleHolds (x : Example) : Type 0 where
   pub formed : wellFormedTest exampleCode (x .room) 2 (x .config) ≡ true
   pub isSilent : quietAt (x .config .tree) (locate (x .config .tree) (x .position)) ≡ x .isSilent
@@ -474,3 +500,6 @@ RunHolds x = report exampleCode (x .room) (x .config) (x .choices) ≡ x .report
 
 abbrev pub HoldersHold : ExampleHolders → Type 0
 HoldersHold x = run (λ n. heldAt (x .tree) (locate (x .tree) n)) 0 (length (x .holders)) ≡ x .holders
+
+abbrev pub FormHolds : ExampleForm → Type 0
+FormHolds x = wellFormedTest exampleCode ample 2 (x .config) ≡ x .well

@@ -32,10 +32,21 @@ pub record Promised (s : Code) (lim : Places) (c : Config) : Type 0 where
   -- if no position can move, it is one of the three ends
   pub ended : ((n : ℕ) → choice s lim c n ≡ still) → (k : Ending) × End s c k
 
--- A binding once there keeps its name, type, value and link: the older bindings stand behind.
+-- Object o is still there, and has the class that it had.
+pub record SameClass (ys : List Object) (o : ℕ) (x : Object) : Type 0 where
+  pub later : Object
+  pub there : object ys o ≡ some later
+  pub class : later .class ≡ x .class
+
+abbrev pub KeepsObjects : List Object → List Object → Type 0
+KeepsObjects xs ys = (o : ℕ) (x : Object) → object xs o ≡ some x → SameClass ys o x
+
+-- "Objects and bindings are never freed": a binding once there keeps its name, type, value and link, the older bindings standing behind; an object once there
+-- keeps its number and its class.
 pub record Kept (c d : Config) : Type 0 where
   pub added : List Binding
   pub there : d .stores .bindings ≡ added ++ c .stores .bindings
+  pub objects : KeepsObjects (c .stores .objects) (d .stores .objects)
 
 -- The choice names this place of the tree. A Start is no choice and names none.
 abbrev pub NamesPlace : Tree → Option ℕ → Path → Type 0

@@ -63,18 +63,18 @@ module _ {s : List ℕ} (w : WithinLayout s) (t : ℕ) where
 
 -- A record that a search through the n from i on finds, if it finds one, and its number among them.
 data Numbered (i n : ℕ) : Option ℕ → Option ℕ → Type 0 where
-  no-number : Numbered i n none none
+  no-record : Numbered i n none none
   number-at : {j k : ℕ} → j ≡ i + k → k < n → Numbered i n (some j) (some k)
 
 module _ (s : List ℕ) (f : ℕ) where
   run-numbered : (i n : ℕ) → Numbered i n (firstOut (otherName s fields f) i n) (fieldNumber (run (fieldAt s) i n) f)
   unfolding run firstOut fieldAt
-  run-numbered i zero = no-number
+  run-numbered i zero = no-record
   run-numbered i (suc n) = go (eqb (recordWord s fields i 0) f) (run-numbered (i + 1) n)
     where
       go : (b : Bool) {x y : Option ℕ} → Numbered (i + 1) n x y → Numbered i (suc n) (cond (not b) x (some i)) (cond b (some 0) (Option·map suc y))
       go true r = number-at {j = i} {k = 0} (omega arith) (omega arith)
-      go false no-number = no-number
+      go false no-record = no-record
       go false (number-at {j = j} {k = k} e l) = number-at {j = j} {k = suc k} (omega arith) (omega arith)
 
 -- The place of a field: in a class the number of the first record of its run with the name, and no other type has any.
@@ -88,7 +88,7 @@ module _ {s : List ℕ} {t : ℕ} {d : Declared} (h : DeclaredAs s t d) (f : ℕ
     place-miss q = go (class-numbered (found-nothing (ownNamed s fields c f) found o q))
       where
         go : {y : Option ℕ} → Numbered (sumBelow (ownFields s) c) (ownFields s c) none y → Nothing ≡ foundOf y
-        go no-number = refl
+        go no-record = refl
 
     module _ (i from : ℕ) (q : found ≡ At i) (b : from ≡ sumBelow (ownFields s) c) where
       pub place-past : from ≤ i

@@ -67,14 +67,6 @@ module _ {s : List ℕ} (w : WithinLayout s) where
 pub owners-are : (s : List ℕ) (k owner : Section) (n : ℕ) → owner ≡ ownerOf k → n ≡ countOf s owner → n ≡ countOf s (ownerOf k)
 owners-are s k owner n e h = rw e at h
 
-pub sum-start : (f : ℕ → ℕ) → 0 ≡ sumBelow f 0
-unfolding sumBelow
-sum-start f = refl
-
-pub sum-next : (f : ℕ → ℕ) (o sum own : ℕ) → sum ≡ sumBelow f o → own ≡ f o → sum + own ≡ sumBelow f (o + 1)
-unfolding sumBelow
-sum-next f o sum own p q = let n : o + 1 ≡ suc o = omega arith in rw n (omega arith)
-
 module _ (s : List ℕ) (k : Section) (base : ℕ) (old : List ℕ) where
   pub no-runs : RunsTo s k base 0 old old
   no-runs = record { starts = λ o h. absurd (omega arith); before = λ i h. refl; after = λ i h. refl }

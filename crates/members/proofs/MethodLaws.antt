@@ -9,11 +9,11 @@ use Rattle.script.specs.declared.Found.the-variants.{At, Nothing}
 use Rattle.script.specs.declared.Section.the-variants.{Methods as methods, Nodes as nodes}
 use Rattle.script.specs.Lists.{sumBelow}
 use Rattle.script.specs.Section.{countOf, recordWord}
-use Rattle.script.specs.Syntax.{Point, Expr, Node, n-null, n-var, n-select, n-update, n-call, n-bind, n-new, n-cast, n-fork, n-lock, n-constant, n-add, build, pointOf, Method, Declaration, a-unit, an-interface, a-class, an-int, no-type, declarationAt}
+use Rattle.script.specs.Syntax.{Point, pointOf, Method, Declaration, a-unit, an-interface, a-class, an-int, no-type, declarationAt}
 use Rattle.script.specs.Reading.{viewAt, exprAt, ownMethods, methodAt, classAt, programOf}
 use Rattle.script.specs.Statements.{WithinLayout}
 use Rattle.sections.specs.Laid.{foundOf}
-use Rattle.script.proofs.Reading.{expr-at, in-order}
+use Rattle.script.proofs.Reading.{build-point, expr-at, in-order}
 use Rattle.members.specs.declared.Declared.{Declared}
 use Rattle.members.specs.declared.Declared.the-variants.{Interface as is-interface, Class as is-class, Neither as is-neither}
 use Rattle.members.specs.Lookup.{Memberless, DeclaredAs, ownNamed}
@@ -56,21 +56,6 @@ defined-none (method-at l e) q = absurd (let z : _≡_ {A = ℕ} 0 1 = cc in ome
 pub defined-at : {s : List ℕ} {t m : ℕ} {r : Found} {j : ℕ} → MethodIs s t m r → r ≡ At j → (j < countOf s methods) × (definedIn (programOf s) t m ≡ some (methodAt s j))
 defined-at (no-method e) q = absurd (let z : _≡_ {A = ℕ} 0 1 = cc in omega arith)
 defined-at {j = j} (method-at {j = i} l e) q = let z : i ≡ j = cc in rw (← z) (l, e)
-
--- what is built of the node at n is the expression at n
-build-point : (n : Point) (f : Point → Expr) (v : Node) → pointOf (build n f v) ≡ n
-build-point n f n-null = refl
-build-point n f (n-var x) = refl
-build-point n f (n-select x g) = refl
-build-point n f (n-update x g p) = refl
-build-point n f (n-call x m p) = refl
-build-point n f (n-bind x p q) = refl
-build-point n f (n-new c) = refl
-build-point n f (n-cast t p) = refl
-build-point n f (n-fork p q r) = refl
-build-point n f (n-lock x p) = refl
-build-point n f (n-constant z) = refl
-build-point n f (n-add x y) = refl
 
 pub expr-point : {s : List ℕ} → WithinLayout s → (n : Point) → n < countOf s nodes → pointOf (exprAt s n) ≡ n
 expr-point {s} w n l = ap pointOf (expr-at s n l (in-order s w n l)) ∙ build-point n (exprAt s) (viewAt s n)

@@ -15,12 +15,12 @@ use Rattle.machine.specs.declared.Value.{Value}
 use Rattle.machine.specs.declared.Frame.{Frame}
 use Rattle.machine.specs.Config as machine
 use Rattle.machine.specs.Config.{Object, Stores, running}
-use Rattle.machine.specs.Machine.{object, setShut, lockFrames, still, moved, withShut as shutIn, enter, shutAndEnter, lockObject}
+use Rattle.machine.specs.Machine.{object, setShut, lockFrames, still, moved, withShut, enter, shutAndEnter, lockObject}
 use Rattle.block.specs.declared.Area.the-variants.{Objects, Frames}
 use Rattle.block.specs.Layout.{counted, wordIn}
 use Rattle.block.specs.Values.{Storable}
 use Rattle.block.specs.Block.{shutWord, Parts, laid}
-use Rattle.representation.specs.Changed.{withObjects, withShut}
+use Rattle.representation.specs.Changed.{withObjects, markedShut}
 use Rattle.environments.proofs.LaidLaws.{shut-set}
 use Rattle.state.specs.Represents.{Rest, StateAt}
 use Rattle.state.proofs.Seeing.{objects-counted, frames-counted, seen-few}
@@ -41,7 +41,7 @@ shut-storable : (q : Bool) (xs : List Object) (o : ℕ) → ((y : Object) → y 
 shut-storable q [] o h y m v n = h y m v n
 shut-storable q (x ∷ xs) zero h y m v n =
     ⊎-elim
-    (λ (e : y ≡ withShut x q). h x (List·Memᴰ·head refl) v (subst (λ (z : Object). v ∈ z .fields) e n))
+    (λ (e : y ≡ markedShut x q). h x (List·Memᴰ·head refl) v (subst (λ (z : Object). v ∈ z .fields) e n))
     (λ (l : y ∈ xs). h y (List·Memᴰ·tail l) v n)
     (List·Memᴰ·cases-cons m)
 shut-storable q (x ∷ xs) (suc o) h y m v n =
@@ -55,11 +55,11 @@ pub shut-changes :
     {b after : List ℕ} {i : ℕ} {x : Rest} {st : Stores} {u : machine.Tree} (o : ℕ) (q : Bool)
     → StateAt b i x st u
     → o < counted b Objects
-    → ((p : Parts) (d : Object) → b ≡ bytes (laid p) → o < length (p .objects) → after ≡ bytes (laid (withObjects p (set (p .objects) o (withShut (getD (p .objects) o d) q)))))
-    → StateAt after i x (shutIn q st o) u
+    → ((p : Parts) (d : Object) → b ≡ bytes (laid p) → o < length (p .objects) → after ≡ bytes (laid (withObjects p (set (p .objects) o (markedShut (getD (p .objects) o d) q)))))
+    → StateAt after i x (withShut q st o) u
 shut-changes {x = x} {st = st} {u = u} o q seen l put =
     let e = shut-set q (st .objects) o blank-object in
-    let m : length (setShut q (st .objects) o) ≡ length (st .objects) = ap length e ∙ length-set (st .objects) o (withShut (getD (st .objects) o blank-object) q) in
+    let m : length (setShut q (st .objects) o) ≡ length (st .objects) = ap length e ∙ length-set (st .objects) o (markedShut (getD (st .objects) o blank-object) q) in
     seen-objects seen (setShut q (st .objects) o)
     (omega (arith, m, objects-counted seen, seen-few seen Objects))
     (shut-storable q (st .objects) o (seen .storable Objects))

@@ -21,7 +21,7 @@ use Rattle.typing.specs.Published.{WfEnv}
 use Rattle.members.specs.Tables.{Starts}
 use Rattle.names.specs.Ranks.{RANKS}
 use Rattle.names.specs.Facts.{Facts}
-use Rattle.inference.specs.At.{Blank}
+use Rattle.inference.specs.Walk.{EmptyEnv}
 use Rattle.machine.specs.declared.Value.{Value}
 use Rattle.machine.specs.declared.Want.{Want}
 use Rattle.machine.specs.declared.Want.the-variants.{Upto as upto}
@@ -41,7 +41,7 @@ use Rattle.moves.specs.Performs.{OwnFields, WordBound}
 use Rattle.moves.proofs.Laws.{scope-read, bound, looked}
 
 -- the script's tables, with no variable bound
-pub blank-tables : {s starts facts table : List ℕ} → WithinLayout s → Starts s starts → Facts s facts → length table ≡ RANKS → AllZero table → Blank s starts facts table
+pub blank-tables : {s starts facts table : List ℕ} → WithinLayout s → Starts s starts → Facts s facts → length table ≡ RANKS → AllZero table → EmptyEnv s starts facts table
 blank-tables w r f n z = record { within = w; runs = r; known = f; size = n; zeros = z }
 
 -- the first part of a let is a node

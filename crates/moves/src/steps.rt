@@ -25,7 +25,7 @@ pub fn gives(block: &mut [u8], i: usize, v: Value) -> Effect
     Effect::Moved
 }
 
-// The part at i becomes failed: "null fails the thread".
+// The part at i becomes failed: "null fails the thread", so does a sum outside the range, and a join does so with a failed side.
 pub fn fails(block: &mut [u8], i: usize) -> Effect
     requires { ⌜ SomeState (now block) i ⌝ }
     ensures { λ r. ⌜

@@ -17,7 +17,7 @@ use Rattle.script.specs.Section.{countOf, nodeWord}
 use Rattle.script.specs.Reading.{kindOf, viewAt}
 use Rattle.script.specs.Statements.{WithinLayout}
 use Rattle.slices.specs.Zero.{AllZero}
-use Rattle.names.specs.Ranks.{slotOf, SLOTS, BUCKETS, FACTS, nameIn, nameAt, slotWord, SlotNames, Ranked, hashOf, headOf, Search, here, onward, Indexed}
+use Rattle.names.specs.Ranks.{slotOf, SLOTS, BUCKETS, FACTS, nameIn, nameAt, slotWord, SlotNames, Ranked, hashOf, headOf, Search, at-slot, onward, Indexed}
 use Rattle.names.specs.Filling.{namesKind, Nameless, RankTo, to-this, to-parameter, to-slot, FilledTo}
 use Rattle.names.proofs.KindLaws.{few-names, no-name, name-word, place-small, one-name, not-none, slot-node, slot-place, first-node, first-place, stands}
 use Rattle.names.proofs.SearchLaws.{at-most, bucketOf, found-is, found-names, unranked, ranked-to, search-moved}
@@ -140,7 +140,7 @@ module _ (s facts : List ℕ) (n count : ℕ) (h : FilledTo s facts n count) (fe
         (λ (e : bucketOf y ≡ bucketOf x).
         rw (e, head)
         (⊎-elim
-        (λ (p : slotWord s n ≡ y). (n, here p))
+        (λ (p : slotWord s n ≡ y). (n, at-slot p))
         (λ (p : slotWord s n ≡ y → ⊥). (m, onward p (rw link (moved′ y (headOf facts x) (suc m) (head-most x) (rw e at t)))))
         (same-or-not (slotWord s n) y)))
         (λ (e : bucketOf y ≡ bucketOf x → ⊥). (m, rw (other (bucketOf y) (λ z. omega arith) (λ z. omega arith) e) (moved′ y (headOf facts y) (suc m) (head-most y) t)))
@@ -149,7 +149,7 @@ module _ (s facts : List ℕ) (n count : ℕ) (h : FilledTo s facts n count) (fe
     finds-slot : (i y : ℕ) → i < n + 1 → SlotNames s i y → 2 ≤ y → (m : ℕ) × Search s facts′ y (headOf facts′ y) (suc m)
     finds-slot i y l p b =
         ⊎-elim
-        (λ (e : i ≡ n). rw (one-name (rw e at p) q) (n, rw head (here (name-word s (n / 2) (n % 2) x (q .name)))))
+        (λ (e : i ≡ n). rw (one-name (rw e at p) q) (n, rw head (at-slot (name-word s (n / 2) (n % 2) x (q .name)))))
         (λ (d : i < n). let u = h .found d p b in finds y (u .0) (u .1))
         (eq-or-lt-of-le (omega arith))
 

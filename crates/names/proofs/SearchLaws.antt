@@ -6,7 +6,7 @@ use native.Mathlib.Omega.{arith}
 use lib.ListN.{getD}
 use Rattle.script.specs.declared.Section.the-variants.{Nodes as nodes}
 use Rattle.script.specs.Section.{countOf}
-use Rattle.names.specs.Ranks.{slotOf, SLOTS, Names, slotWord, SlotNames, RankOf, of-this, of-parameter, of-node, hashOf, headOf, Search, nowhere, here, onward}
+use Rattle.names.specs.Ranks.{slotOf, SLOTS, Names, slotWord, SlotNames, RankOf, of-this, of-parameter, of-node, hashOf, headOf, Search, nowhere, at-slot, onward}
 use Rattle.names.specs.Facts.{Facts}
 use Rattle.names.specs.Filling.{Linked, RankTo, to-this, to-parameter, to-slot}
 use Rattle.names.proofs.KindLaws.{place-small, first-slot, stands}
@@ -24,16 +24,16 @@ module _ (s facts : List ℕ) (x : ℕ) where
   -- A search comes to one answer.
   search-once : {h r q : ℕ} → Search s facts x h r → Search s facts x h q → r ≡ q
   search-once nowhere nowhere = refl
-  search-once (here e) (here d) = refl
-  search-once (here e) (onward d t) = absurd (d e)
-  search-once (onward d t) (here e) = absurd (d e)
+  search-once (at-slot e) (at-slot d) = refl
+  search-once (at-slot e) (onward d t) = absurd (d e)
+  search-once (onward d t) (at-slot e) = absurd (d e)
   search-once (onward d t) (onward c u) = search-once t u
 
   -- The slot that is found has the name, and what each slot in a bucket has.
   module _ (P : ℕ → Type 0) (all : (k i : ℕ) → SLOTS ≤ k → getD facts k 0 ≡ suc i → P i) where
     ends : {h r : ℕ} → ((i : ℕ) → h ≡ suc i → P i) → Search s facts x h r → (m : ℕ) → r ≡ suc m → P m × (slotWord s m ≡ x)
     ends f nowhere m e = absurd (omega arith)
-    ends f (here {k = n} d) m e = let q : n ≡ m = omega arith in (f m (ap suc q), rw (← q) d)
+    ends f (at-slot {k = n} d) m e = let q : n ≡ m = omega arith in (f m (ap suc q), rw (← q) d)
     ends f (onward {k = n} d t) m e = ends (λ i. all (SLOTS + n) i (omega arith)) t m e
 
     pub found-is : {r : ℕ} → Search s facts x (headOf facts x) r → (m : ℕ) → r ≡ suc m → P m × (slotWord s m ≡ x)
@@ -66,7 +66,7 @@ module _ (s facts facts′ : List ℕ) (n : ℕ) (w : Linked s facts) (few : n �
     (kept : (i : ℕ) → i < n → getD facts′ (SLOTS + i) 0 ≡ getD facts (SLOTS + i) 0) where
   pub search-moved : {x h r : ℕ} → h ≤ n → Search s facts x h r → Search s facts′ x h r
   search-moved l nowhere = nowhere
-  search-moved l (here e) = here e
+  search-moved l (at-slot e) = at-slot e
   search-moved {r = r} l (onward {k = i} d t) = onward {r = r} d (rw (kept i (omega arith)) (search-moved (omega (arith, w .links i (omega arith))) t))
 
 -- What the loop of the search keeps: the rest of the search leads to the answer.
@@ -84,7 +84,7 @@ module _ (s facts : List ℕ) (x : ℕ) where
 
   pub look-hit : (at : ℕ) → Looking s facts x at → 0 < at → slotWord s (at - 1) ≡ x → Search s facts x (headOf facts x) at
   look-hit zero l h e = absurd (omega arith)
-  look-hit (suc n) l h e = let q : suc n - 1 ≡ n = omega arith in l .leads (here (rw q at e))
+  look-hit (suc n) l h e = let q : suc n - 1 ≡ n = omega arith in l .leads (at-slot (rw q at e))
 
   pub look-on : (at v : ℕ) → Linked s facts → Looking s facts x at → 0 < at → (slotWord s (at - 1) ≡ x → ⊥) → v ≡ getD facts (SLOTS + (at - 1)) 0 → Looking s facts x v
   look-on zero v w l h d e = absurd (omega arith)

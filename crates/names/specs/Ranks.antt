@@ -93,7 +93,7 @@ headOf facts x = getD facts (SLOTS + SLOTS + hashOf x) 0
 -- The search for the variable x along the links of a bucket comes to the answer: a slot where it stands, and 1 more, or 0.
 pub data Search (s facts : List ℕ) (x : ℕ) : ℕ → ℕ → Type 0 where
   nowhere : Search s facts x 0 0
-  here : {k : ℕ} → slotWord s k ≡ x → Search s facts x (suc k) (suc k)
+  at-slot : {k : ℕ} → slotWord s k ≡ x → Search s facts x (suc k) (suc k)
   onward : {k r : ℕ} → (slotWord s k ≡ x → ⊥) → Search s facts x (getD facts (SLOTS + k) 0) r → Search s facts x (suc k) r
 
 -- The buckets: links run to earlier slots, at every slot in a bucket stands a variable, and the search finds each variable that a node names, from 2 on.

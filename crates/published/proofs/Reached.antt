@@ -11,7 +11,7 @@ use Rattle.script.specs.Lists.{_∈_}
 use Rattle.machine.specs.declared.Store.{Store}
 use Rattle.machine.specs.declared.Stop.the-variants.{Full}
 use Rattle.machine.specs.Config.{Code, Stores, Tree, Config}
-use Rattle.machine.specs.Machine.{Places, Outcome, still, full, moved, Path, here, left, right, spare, move, size, locate, chosen, choice, part}
+use Rattle.machine.specs.Machine.{Places, Outcome, still, full, moved, Path, spare, move, size, locate, chosen, choice, part}
 use Rattle.machine.specs.WellFormed.{WellFormed}
 use Rattle.machine.specs.Accepted.{AcceptedCode}
 use Rattle.published.specs.ReadAs.{Reading, reading, Steps}
@@ -24,7 +24,7 @@ use Rattle.soundness.proofs.Positions.{positions, move-located}
 use Rattle.published.proofs.Steps.{moves-published}
 use Rattle.soundness.proofs.Within.{within}
 use Rattle.soundness.proofs.Run.{able-look, run-runs, runs-report}
-use Rattle.soundness.proofs.Silent.{due-told, on-node, move-counts, others-due}
+use Rattle.soundness.proofs.Silent.{due-told, on-node, move-counts, others-due, same-place}
 use Rattle.published.proofs.Reach.{Silently, at-once, after, Landed, Reached, reach}
 
 moved-still : {st : Stores} {t : Tree} → moved st t ≡ still → ⊥
@@ -55,17 +55,6 @@ by-moves (suc n) r = omega (arith, by-moves n r)
 
 means-nothing : {s : Code} {c d : Config} → Means s c d true → reading s d ≡ reading s c
 means-nothing (silently e h) = h
-
-same-place : (p q : Path) → samePlace p q ≡ true → p ≡ q
-same-place here here h = refl
-same-place here (left q) h = cc
-same-place here (right q) h = cc
-same-place (left p) here h = cc
-same-place (left p) (left q) h = ap left (same-place p q h)
-same-place (left p) (right q) h = cc
-same-place (right p) here h = cc
-same-place (right p) (left q) h = cc
-same-place (right p) (right q) h = ap right (same-place p q h)
 
 -- the position of a place that can move, and the choice of it
 record Chosen (s : Code) (lim : Places) (c : Config) (p : Path) : Type 0 where

@@ -1,21 +1,26 @@
 -- A Run's moves are published steps or silent ones; the initial configuration is the paper's.
-use Prim.Native.Nat.{ℕ, suc}
+use Prim.Native.Nat.{ℕ, suc, _+_, _≤_}
 use native.Mathlib.Omega.{arith}
-use mathlib.Core.Path.{_≡_, refl}
+use mathlib.Core.Path.{_≡_, refl, ap}
+use mathlib.Core.Bool.{Bool, true, false}
 use mathlib.Core.List.{List, [], _∷_}
 use mathlib.Core.Option.{Option, none, some}
 use lib.ListN.{take}
+use Rattle.limits.specs.Limits.{SILENT}
 use Rattle.machine.specs.declared.Store.{Store}
+use Rattle.machine.specs.declared.Want.{Want}
 use Rattle.machine.specs.Config.{Code, Stores, Tree, Config}
-use Rattle.machine.specs.Machine.{Places, full, moved, Path, locate, chosen, choice, initial}
-use Rattle.machine.specs.WellFormed.{WellFormed}
+use Rattle.machine.specs.Machine.{oneIf, Places, full, moved, Path, locate, chosen, choice, initial, part}
+use Rattle.machine.specs.WellFormed.{WellFormed, WfConfig}
 use Rattle.machine.specs.Accepted.{AcceptedCode}
 use Rattle.machine.specs.Runs.{Report, report, Runs, ends, spends, passes, makes, fills}
 use Rattle.soundness.proofs.Run.{run-runs, moved-choice}
+use Rattle.machine.specs.Silent.{SilentAt, due, samePlace}
+use Rattle.soundness.proofs.Silent.{OnNode, on-node, place-counts, others-stay, same-place, due-told}
 use Rattle.soundness.proofs.CannotMove.{still-exactly}
 use Rattle.soundness.proofs.FullStore.{full-exactly}
 use Rattle.published.specs.ReadAs.{reading, initialReading}
-use Rattle.published.specs.Traces.{Trace, trace-none, trace-passes, trace-moves, trace-full}
+use Rattle.published.specs.Traces.{published-step, silent-move, Trace, trace-none, trace-passes, trace-moves, trace-full, OnlySilent, silentMoves}
 use Rattle.published.proofs.Steps.{moves-transitions}
 
 module _ {s : Code} {start : ℕ} (acc : AcceptedCode s start) (lim : Places) where
@@ -47,6 +52,35 @@ module _ {s : Code} {start : ℕ} (acc : AcceptedCode s start) (lim : Places) wh
   -- From every well-formed configuration, with any list of choices: the choices read lead, by as many transitions as the run says it made moves, to the configuration that it leaves.
   pub run-trace : (ns : List ℕ) (c : Config) → WellFormed s lim start c → Trace s lim c (take (report s lim c ns .read) ns) (report s lim c ns .moves) (report s lim c ns .config)
   run-trace ns c h = runs-trace (run-runs s lim ns c) h
+
+-- "A thread makes at most 1,024 silent moves in a row": each takes one off what it has before it, and no other's move does.
+module _ {s : Code} {start : ℕ} (acc : AcceptedCode s start) (lim : Places) (p : Path) where
+  one-silent : {q : Path} {t u : Tree} → SilentAt s q t u → OnNode s (part t p)
+      → OnNode s (part u p) × (oneIf (samePlace p q) + due s (part u p) ≡ due s (part t p))
+  one-silent {q} {t} {u} x h = go (samePlace p q) refl
+    where
+      go : (b : Bool) → samePlace p q ≡ b → OnNode s (part u p) × (oneIf b + due s (part u p) ≡ due s (part t p))
+      go true e =
+          let y : SilentAt s p t u = rw (same-place p q e) x in
+          let k = place-counts acc y h in
+          (k .0, omega (arith, k .1))
+      go false e = let k = others-stay x p e in (k .0 h, omega (arith, k .1))
+
+  silent-due : {c d : Config} {ns : List ℕ} {n : ℕ} (r : Trace s lim c ns n d) → OnlySilent p r → OnNode s (part (c .tree) p)
+      → silentMoves p r ≤ due s (part (c .tree) p)
+  silent-due trace-none o h = omega arith
+  silent-due (trace-passes k r) o h = silent-due r o h
+  silent-due (trace-moves l (published-step k e) r) o h = let j = silent-due r (o .1) (rw (o .0) h) in omega (arith, j, ap (due s) (o .0))
+  silent-due (trace-moves l (silent-move x e f) r) o h =
+      let k = one-silent x h in
+      let j = silent-due r o (k .0) in
+      omega (arith, k .1, j)
+  silent-due (trace-full l k) o h = omega arith
+
+  pub silent-bound : {w : Want} {c d : Config} {ns : List ℕ} {n : ℕ} → WfConfig s w c → (r : Trace s lim c ns n d) → OnlySilent p r → silentMoves p r ≤ SILENT
+  silent-bound {c = c} h r o =
+      let k = on-node (h .tree) p in
+      omega (arith, silent-due r o k, due-told acc (part (c .tree) p) k .0, acc .most)
 
 -- The configuration that Start writes is the paper's initial one.
 pub initial-reads : {s : Code} {start : ℕ} → AcceptedCode s start → reading s initial ≡ initialReading (s .program)

@@ -1,15 +1,15 @@
 -- What the choices of a Run do in the published semantics: each is passed over, or names the place of one published step or of one silent move, or meets a full
 -- store.
-use Prim.Native.Nat.{ℕ, suc}
+use Prim.Native.Nat.{ℕ, suc, _+_}
 use mathlib.Core.Path.{_≡_}
 use mathlib.Core.List.{List, [], _∷_}
 use mathlib.Core.Option.{some}
 use Rattle.machine.specs.declared.Store.{Store}
 use Rattle.machine.specs.Config.{Code, Config}
-use Rattle.machine.specs.Machine.{Places, spare, Path, locate}
+use Rattle.machine.specs.Machine.{oneIf, Places, spare, Path, locate, part}
 use Rattle.machine.specs.CannotMove.{Stays}
 use Rattle.machine.specs.FullStore.{ShortAt}
-use Rattle.machine.specs.Silent.{SilentAt}
+use Rattle.machine.specs.Silent.{SilentAt, samePlace}
 use Rattle.published.specs.ReadAs.{reading, Steps}
 use Rattle.published.specs.Reach.{site}
 
@@ -31,3 +31,20 @@ pub data Trace (s : Code) (lim : Places) : Config → List ℕ → ℕ → Confi
   -- "when the chosen move needs more places than that store has left .., that move not made": no choice is read after it
   trace-full : {c : Config} {k : ℕ} {p : Path} {j : Store} → locate (c .tree) k ≡ some p
       → ShortAt s (spare lim (c .stores) (c .tree)) (c .stores) (c .tree) p j → Trace s lim c (k ∷ []) 0 c
+
+-- "A thread makes at most 1,024 silent moves in a row": in this trace the thread at p makes no move but silent ones. Each published step is
+-- another's and leaves what is at p as it was.
+abbrev pub OnlySilent : {s : Code} {lim : Places} {c d : Config} {ns : List ℕ} {n : ℕ} → Path → Trace s lim c ns n d → Type 0
+OnlySilent p trace-none = Unit {0}
+OnlySilent p (trace-passes h r) = OnlySilent p r
+OnlySilent p (trace-moves {c = c} {d = d} l (published-step k e) r) = (part (d .tree) p ≡ part (c .tree) p) × OnlySilent p r
+OnlySilent p (trace-moves l (silent-move h e f) r) = OnlySilent p r
+OnlySilent p (trace-full l h) = Unit {0}
+
+-- How many silent moves the thread at p makes.
+abbrev pub silentMoves : {s : Code} {lim : Places} {c d : Config} {ns : List ℕ} {n : ℕ} → Path → Trace s lim c ns n d → ℕ
+silentMoves p trace-none = 0
+silentMoves p (trace-passes h r) = silentMoves p r
+silentMoves p (trace-moves l (published-step k e) r) = silentMoves p r
+silentMoves p (trace-moves {p = q} l (silent-move h e f) r) = oneIf (samePlace p q) + silentMoves p r
+silentMoves p (trace-full l h) = 0

@@ -12,8 +12,7 @@ use Rattle.script.specs.Section.{countOf}
 use Rattle.script.specs.Asking.{firstOut}
 use Rattle.script.specs.Questions.{freshTest}
 use Rattle.sections.specs.Laid.{ownerOf, ownOf, nameOf, newIn, freshIn, foundOf}
-use Rattle.script.proofs.Lists.{sum-more}
-use Rattle.sections.proofs.CodeLaws.{sum-next}
+use Rattle.script.proofs.Lists.{sum-next, sum-more}
 use Rattle.script.proofs.LayoutLaws.{run-start}
 use Rattle.sections.proofs.Search.{nothing-is, at-is, out-none, out-some, out-same, out-below}
 
@@ -35,7 +34,7 @@ module _ {s : List ℕ} {k : Section} {start o size : ℕ} (run : OwnRun s k sta
   run-within = omega (arith, sum-more (ownOf s k) o (countOf s (ownerOf k)) (run .among), run .total, run .starts, run .sized)
 
   pub run-next : start + size ≡ sumBelow (ownOf s k) (o + 1)
-  run-next = sum-next s k o start size (run .starts) (run .sized)
+  run-next = sum-next (ownOf s k) o start size (run .starts) (run .sized)
 
   in-run : firstOut (freshIn s k) start size ≡ firstOut (newIn (nameOf s k) start) start (start + size - start)
   in-run =

@@ -24,14 +24,12 @@ use Rattle.script.specs.Reading.{Kind, null-kind, var-kind, select-kind, update
 use Rattle.script.specs.Reading.{add-kind, unknown-kind, kindOf, shapeOf}
 use Rattle.script.specs.Asking.{firstOut, lowestIn}
 use Rattle.script.specs.Questions.{earlierTest, interfaceTest, typeTest, interfaceTypeTest, classTypeTest, wordsTest, wordTest, usesIn, dueUses, nodeTest}
+use Rattle.script.proofs.Tests.{and-no}
 use Rattle.sections.specs.Laid.{foundOf}
 use Rattle.records.specs.Uses.{Counted, sectionOf, testOf, asksOf, Ready}
 use Rattle.sections.proofs.Search.{search-pass, found-end, found-fail, lowest-here, lowest-none}
 
 -- Tests one after the other: `if !r { return false; }`, and then t.
-and-no : (a b r : Bool) → r ≡ a → not r ≡ true → false ≡ a && b
-and-no a b r p q = let e : a ≡ false = sym p ∙ not-true r q in rw e
-
 and-yes : (a b r t : Bool) → r ≡ a → not r ≡ false → t ≡ b → t ≡ a && b
 and-yes a b r t p q h = let e : a ≡ true = sym p ∙ not-false r q in rw e h
 

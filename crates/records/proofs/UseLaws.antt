@@ -19,7 +19,7 @@ use Rattle.script.specs.Syntax.{Point, parts}
 use Rattle.script.specs.Reading.{Kind, null-kind, var-kind, select-kind, update-kind, call-kind, bind-kind, new-kind, cast-kind, fork-kind, lock-kind, constant-kind}
 use Rattle.script.specs.Reading.{add-kind, unknown-kind, kindOf, shapeOf, nodeOf, viewAt}
 use Rattle.script.specs.Questions.{partsFrom, usesIn}
-use Rattle.records.specs.Uses.{partIn, Counted, Adds, bodiesIn}
+use Rattle.records.specs.Uses.{partIn, Counted, Adds, bodyWords}
 
 -- How often a number stands in a list with one more at its end.
 module _ (m p : ℕ) where
@@ -115,8 +115,8 @@ parts-end s i (suc k) =
     rw (e, append-assoc) (ap (λ (l : List ℕ). parts (viewAt s i) ++ l) (parts-end s (i + 1) k))
 
 module _ (s a : List ℕ) where
-  pub bodies-start : Adds a a (bodiesIn s 0)
-  unfolding bodiesIn run
+  pub bodies-start : Adds a a (bodyWords s 0)
+  unfolding bodyWords run
   bodies-start = adds-none a
 
   pub parts-start : Adds a a (partsFrom s 0 0)
@@ -124,15 +124,15 @@ module _ (s a : List ℕ) where
   parts-start = adds-none a
 
   module _ (b c : List ℕ) (i : ℕ) where
-    pub bodies-next : (w : ℕ) → w ≡ recordWord s methods i 3 → Adds a b (bodiesIn s i) → Adds b c (w ∷ []) → Adds a c (bodiesIn s (i + 1))
-    unfolding bodiesIn
+    pub bodies-next : (w : ℕ) → w ≡ recordWord s methods i 3 → Adds a b (bodyWords s i) → Adds b c (w ∷ []) → Adds a c (bodyWords s (i + 1))
+    unfolding bodyWords
     bodies-next w e f g = let z : 0 + i ≡ i = omega arith in rw (add-one i, run-end, z, ← e) (adds-more a b c _ _ f g)
 
     pub parts-next : Adds a b (partsFrom s 0 i) → Adds b c (parts (viewAt s i)) → Adds a c (partsFrom s 0 (i + 1))
     parts-next f g = let z : 0 + i ≡ i = omega arith in rw (add-one i, parts-end, z) (adds-more a b c _ _ f g)
 
   module _ (b : List ℕ) (i n : ℕ) (upto : i ≤ n) (all : n ≤ i) where
-    pub bodies-all : n ≡ countOf s methods → Adds a b (bodiesIn s i) → Adds a b (bodiesIn s (countOf s methods))
+    pub bodies-all : n ≡ countOf s methods → Adds a b (bodyWords s i) → Adds a b (bodyWords s (countOf s methods))
     bodies-all e f = let z : i ≡ countOf s methods = omega arith in rw z at f
 
     pub parts-all : n ≡ countOf s nodes → Adds a b (partsFrom s 0 i) → Adds a b (partsFrom s 0 (countOf s nodes))
@@ -145,7 +145,7 @@ table-empty = record { room = length-replicate {A = ℕ} NODES 0; right = λ m i
 
 pub table-full :
     (s a b : List ℕ)
-    → Adds (replicate NODES 0) a (bodiesIn s (countOf s methods)) → Adds a b (partsFrom s 0 (countOf s nodes))
+    → Adds (replicate NODES 0) a (bodyWords s (countOf s methods)) → Adds a b (partsFrom s 0 (countOf s nodes))
     → Counted b (usesIn s)
-unfolding usesIn bodiesIn
+unfolding usesIn bodyWords
 table-full s a b f g = adds-more _ a b _ _ f g [] table-empty

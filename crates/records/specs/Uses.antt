@@ -42,8 +42,8 @@ abbrev pub Adds : List ℕ → List ℕ → List Point → Type 0
 Adds uses after more = (l : List Point) → Counted uses l → Counted after (l ++ more)
 
 -- The body words of the first n methods.
-unfoldable pub bodiesIn : List ℕ → ℕ → List Point
-bodiesIn s n = run (λ i. recordWord s methods i 3) 0 n
+unfoldable pub bodyWords : List ℕ → ℕ → List Point
+bodyWords s n = run (λ i. recordWord s methods i 3) 0 n
 
 -- The section whose records a test is for, and what it asks of them.
 abbrev pub sectionOf : Test → Section

@@ -20,7 +20,7 @@ ghost use Rattle.script.specs.Asking.{lowestIn};
 ghost use Rattle.script.specs.Questions.{earlierTest, interfaceTest, interfacesTest, typeTest, interfaceTypeTest, classTypeTest, typeWordTest, wordsTest};
 ghost use Rattle.script.specs.Questions.{twoTypesTest, typesTest, wordTest, partsFrom, usesIn, dueUses, nodeTest, nodesTest};
 ghost use Rattle.sections.specs.Laid.{Laid, foundOf};
-ghost use Rattle.records.specs.Uses.{partIn, bodiesIn, Counted, Adds, sectionOf, testOf, asksOf, Ready};
+ghost use Rattle.records.specs.Uses.{partIn, bodyWords, Counted, Adds, sectionOf, testOf, asksOf, Ready};
 
 // What questions 4, 6, 7 and 8 ask of the records of one section, each by itself.
 pub enum Test {
@@ -339,7 +339,7 @@ fn count_parts(s: &[u8], uses: &mut [u8; Limits::NODES], n: usize)
 // The uses as bodies of methods.
 fn count_bodies(s: &[u8], uses: &mut [u8; Limits::NODES])
     requires { ⌜ Laid (now s) ⌝ }
-    ensures { λ r. ⌜ Adds (now (uses .entry)) (now (uses .exit)) (bodiesIn (now (s .entry)) (countOf (now (s .entry)) Section.Methods)) ⌝ }
+    ensures { λ r. ⌜ Adds (now (uses .entry)) (now (uses .exit)) (bodyWords (now (s .entry)) (countOf (now (s .entry)) Section.Methods)) ⌝ }
 {
     let n = count_of(s, Section::Methods);
     let mut i: usize = 0;

@@ -1,10 +1,11 @@
 -- The run of a block that holds a configuration.
-use mathlib.Core.Path.{_≡_, refl, sym, ap, _∙_}
+use mathlib.Core.Path.{_≡_, refl, ap, _∙_}
 use mathlib.Core.Bool.{Bool, true, false, not}
 use mathlib.Core.List.{List}
 use mathlib.Core.Option.{some}
 use Prim.Native.Nat.{ℕ, _<_}
 use lib.ListN.{getD}
+use borrow.Author.Tests.{not-true}
 use Rattle.script.specs.Statements.{WithinLayout}
 use Rattle.typing.specs.declared.Verdict.the-variants.{Accepted}
 use Rattle.typing.specs.Check.{checkOf}
@@ -22,14 +23,7 @@ use Rattle.calls.proofs.Fits.{well-fits}
 use Rattle.calls.proofs.Answers.{accepts, config-holds}
 use Rattle.replies.specs.declared.RunResult.{RunResult}
 use Rattle.replies.specs.RunResults.{Reported, ResultOfRun, Runnable}
-
-is-false : (q : Bool) → not q ≡ true → q ≡ false
-is-false true e = sym e
-is-false false e = refl
-
-is-true : (q : Bool) → not q ≡ false → q ≡ true
-is-true true e = refl
-is-true false e = sym e
+use Rattle.replies.proofs.Standing.{formed}
 
 module _ {s b : List ℕ} (x : Runnable s b) where
   abbrev pub run-block-standing : Standing s b
@@ -52,16 +46,13 @@ module _ {s b : List ℕ} (x : Runnable s b) where
 -- question 21 got a no, or a yes
 module _ (s b : List ℕ) (t : ℕ) (r : Bool) (e : configOf s t b ≡ only r (some (configIn (fieldCount s) b))) where
   pub result-not : (ns : List ℕ) → not r ≡ true → ResultOfRun s b ns (configOf s t b) b (record { formed = false; stop = 0; read = 0; moves = 0 })
-  result-not ns h = rw (e, is-false r h) (refl, refl)
-
-  found : not r ≡ false → configOf s t b ≡ some (configIn (fieldCount s) b)
-  found h = e ∙ ap (λ (q : Bool). only q (some (configIn (fieldCount s) b))) (is-true r h)
+  result-not ns h = rw (e, not-true r h) (refl, refl)
 
   pub playable : WithinLayout s → ((i : ℕ) → getD s i 0 < 256) → checkOf s ≡ Accepted t → not r ≡ false → Runnable s b
   playable w bytes acc h =
-      record { within = w; type = t; accepted = accepts s bytes t acc; config = configIn (fieldCount s) b; holds = config-holds s bytes t acc b (configIn (fieldCount s) b) (found h) }
+      record { within = w; type = t; accepted = accepts s bytes t acc; config = configIn (fieldCount s) b; holds = config-holds s bytes t acc b (configIn (fieldCount s) b) (formed s t b r e h) }
 
   pub plays : {after : List ℕ} {p : RunResult} (ns : List ℕ) → WithinLayout s → ((i : ℕ) → getD s i 0 < 256) → checkOf s ≡ Accepted t → not r ≡ false
       → ((x : Runnable s b) → Reported (report (codeOf s) limits (x .config) ns) after p) → ResultOfRun s b ns (configOf s t b) after p
   unfolding playable
-  plays ns w bytes acc h rep = rw (found h) (rep (playable w bytes acc h))
+  plays ns w bytes acc h rep = rw (formed s t b r e h) (rep (playable w bytes acc h))

@@ -10,7 +10,7 @@ ghost use Rattle.typing.specs.declared.Verdict.the-variants.{Accepted};
 ghost use Rattle.typing.specs.Check.{checkOf};
 ghost use Rattle.members.specs.Tables.{Starts};
 ghost use Rattle.names.specs.Facts.{Facts};
-ghost use Rattle.inference.specs.At.{Blank};
+ghost use Rattle.inference.specs.Walk.{EmptyEnv};
 ghost use Rattle.machine.specs.Config.{codeOf};
 ghost use Rattle.machine.specs.Machine.{limits};
 ghost use Rattle.machine.specs.Runs.{report};
@@ -26,7 +26,7 @@ fn run_formed(
     block: &mut [u8],
     choices: &[u8],
 ) -> RunResult
-    requires { ⌜ Blank (now s) (now starts) (now facts) (now table) × Runnable (now s) (now block) × (length (now choices) ≤ CHOICES) ⌝ }
+    requires { ⌜ EmptyEnv (now s) (now starts) (now facts) (now table) × Runnable (now s) (now block) × (length (now choices) ≤ CHOICES) ⌝ }
     ensures { λ r. ⌜
         ((x : Runnable (now (s .entry)) (now (block .entry))) →
         Reported (report (codeOf (now (s .entry))) limits (x .config) (now (choices .entry))) (now (block .exit)) r)

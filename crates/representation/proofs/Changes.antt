@@ -16,7 +16,7 @@ use Rattle.machine.specs.declared.Value.the-variants.{Null as nil}
 use Rattle.machine.specs.declared.Frame.{Frame}
 use Rattle.machine.specs.Config.{Object, Binding}
 use Rattle.block.specs.Rows.{filled}
-use Rattle.representation.specs.Changed.{putWords, withObjects, withBindings, withFrames, withShut, withField}
+use Rattle.representation.specs.Changed.{putWords, withObjects, withBindings, withFrames, markedShut, withField}
 use Rattle.block.specs.declared.Area.{Area}
 use Rattle.block.specs.declared.Area.the-variants.{Objects, Bindings, Positions, Frames}
 use Rattle.block.specs.Layout.{WORDS, HEADER, VALUE, countWord, width, most, begins, countByte, wordByte, SHUT, fieldWord}
@@ -26,7 +26,7 @@ use Rattle.block.proofs.Rows.{Wide, wide-end, set-filled, sets-filled, filled-z
 use Rattle.block.proofs.Values.{value-width, values-wide}
 use Rattle.block.proofs.Words.{rows-wide, binding-width, frame-width, length-area, area-zeros, ahead, behind, apart, ahead-length}
 
-put-words-bytes : (ws : List ℕ) (i : ℕ) (vs : List ℕ) → putWords (bytes ws) (2 * i) vs ≡ bytes (sets ws i vs)
+pub put-words-bytes : (ws : List ℕ) (i : ℕ) (vs : List ℕ) → putWords (bytes ws) (2 * i) vs ≡ bytes (sets ws i vs)
 put-words-bytes ws i [] = refl
 put-words-bytes ws i (v ∷ vs) = let e : 2 * i + 2 ≡ 2 * suc i = omega arith in rw (put-bytes ws i v, e) (put-words-bytes (set ws i v) (suc i) vs)
 
@@ -35,13 +35,13 @@ put-append b at [] ys = let e : at + 2 * 0 ≡ at = omega arith in rw e
 put-append b at (x ∷ xs) ys =
     let e : at + 2 * suc (length xs) ≡ at + 2 + 2 * length xs = omega arith in rw e (put-append (putWord b at x) (at + 2) xs ys)
 
-map-set : {A B : Type 0} (f : A → B) (xs : List A) (i : ℕ) (x : A) → set (map f xs) i (f x) ≡ map f (set xs i x)
+pub map-set : {A B : Type 0} (f : A → B) (xs : List A) (i : ℕ) (x : A) → set (map f xs) i (f x) ≡ map f (set xs i x)
 map-set f [] i x = refl
 map-set f (y ∷ ys) zero x = refl
 map-set f (y ∷ ys) (suc i) x = ap (λ (l : List _). f y ∷ l) (map-set f ys i x)
 
 -- all words set
-sets-all : (l vs : List ℕ) → length l ≡ length vs → sets l 0 vs ≡ vs
+pub sets-all : (l vs : List ℕ) → length l ≡ length vs → sets l 0 vs ≡ vs
 sets-all l vs e =
     let z : 0 + length vs ≡ length vs = omega arith in
     sets-eq vs l 0 (omega arith) ∙ rw (z, drop-of-length-le l {i = length vs} (omega arith)) (append-nil vs)
@@ -232,8 +232,8 @@ module _ (p : Parts) where
 
     -- object i opened or shut
     pub put-shut :
-        (b : Bool) → putWord (bytes (laid p)) (wordByte Objects i SHUT) (shutWord b) ≡ bytes (laid (withObjects p (set (p .objects) i (withShut (getD (p .objects) i d) b))))
-    put-shut b = put-object SHUT (shutWord b ∷ []) (withShut (getD (p .objects) i d) b) (omega arith) refl
+        (b : Bool) → putWord (bytes (laid p)) (wordByte Objects i SHUT) (shutWord b) ≡ bytes (laid (withObjects p (set (p .objects) i (markedShut (getD (p .objects) i d) b))))
+    put-shut b = put-object SHUT (shutWord b ∷ []) (markedShut (getD (p .objects) i d) b) (omega arith) refl
 
     -- field k of object i written
     pub put-field :

@@ -17,7 +17,7 @@ use Rattle.machine.specs.Config.{Object, Binding, Tree, running, returning, fai
 use Rattle.block.specs.Rows.{wordOf, cell}
 use Rattle.block.specs.declared.Area.{Area}
 use Rattle.block.specs.declared.Area.the-variants.{Objects, Bindings, Positions, Frames}
-use Rattle.block.specs.Layout.{VALUE, width, counted, wordIn, FIELDS, fieldWord, BOUND, KIND, RESULT, WAITING, RUNNING, RETURNING, FAILED}
+use Rattle.block.specs.Layout.{VALUE, width, counted, wordIn, FIRST-FIELD, fieldWord, BOUND, KIND, RESULT, WAITING, RUNNING, RETURNING, FAILED}
 use Rattle.block.specs.Values.{valueWords, ValueOk, Storable}
 use Rattle.block.specs.Block.{returned}
 use Rattle.block.specs.Block.{shutWord, objectWords, bindingWords, frameWords, positionWords, waiting, preorder, framesOf, Parts, partsOf, rows, encode}
@@ -51,8 +51,8 @@ object-ok fieldCount o e h s =
       };
       unused = record {
         zero = λ j l m.
-            let k = (j - FIELDS) / VALUE in
-            let n = (j - FIELDS) % VALUE in
+            let k = (j - FIRST-FIELD) / VALUE in
+            let n = (j - FIRST-FIELD) % VALUE in
             let at : fieldWord k + n ≡ j = omega arith in
             rw (← at)
             (field-cell o k n (omega arith) (omega arith)

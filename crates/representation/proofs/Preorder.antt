@@ -3,7 +3,7 @@ use mathlib.Core.Path.{_≡_, refl, sym, ap, subst, _∙_}
 use mathlib.Core.Logic.{_↔_}
 use mathlib.Core.Bool.{Bool, true, false, cond}
 use mathlib.Core.List.{List, [], _∷_, _++_, append-assoc, append-nil, map, map-append, flatMap, reverse, reverse-cons, reverse-append}
-use mathlib.Core.Option.{none, some, Option·none-ne-some}
+use mathlib.Core.Option.{some, Option·none-ne-some}
 use Prim.Native.Nat.{ℕ, zero, suc, _+_, _-_, _<_, _≤_}
 use native.Mathlib.Omega.{arith}
 use native.Mathlib.Decide.{decLt}
@@ -15,6 +15,7 @@ use Rattle.script.specs.Lists.{sumBelow}
 use Rattle.machine.specs.declared.Frame.{Frame}
 use Rattle.machine.specs.Config.{Code, Stores, Tree, running, returning, failed, join}
 use Rattle.machine.specs.Machine.{Places, Outcome, still, full, moved, Path, here, left, right, inLeft, inRight, moveAt, size, locate, part}
+use Rattle.machine.proofs.Positions.{size-some, outside}
 use Rattle.block.specs.Block.{preorder, waiting, framesOf}
 use Rattle.representation.specs.Changed.{frameStart}
 use Rattle.representation.specs.Preorder.{splice, Named, replaced, framesAbove, inTree, isJoin, joinsFrom}
@@ -61,24 +62,8 @@ placed (join fs a e l r) (suc n) h =
           }
     ]
 
-outside : (t : Tree) (n : ℕ) → size t ≤ n → locate t n ≡ none
-outside (running a e fs) zero h = absurd (omega arith)
-outside (running a e fs) (suc n) h = refl
-outside (returning v fs) zero h = absurd (omega arith)
-outside (returning v fs) (suc n) h = refl
-outside failed zero h = absurd (omega arith)
-outside failed (suc n) h = refl
-outside (join fs a e l r) zero h = absurd (omega arith)
-outside (join fs a e l r) (suc n) h = rw (le-ltb n (size l) (omega arith), outside r (n - size l) (omega arith))
-
-root-inside : (t : Tree) → 0 < size t
-root-inside (running a e fs) = omega arith
-root-inside (returning v fs) = omega arith
-root-inside failed = omega arith
-root-inside (join fs a e l r) = omega arith
-
 inside : {t u : Tree} {n : ℕ} {p : Path} → Stands t n p u → n < size t
-inside {t} at-root = root-inside t
+inside {t} at-root = size-some t
 inside (at-left x) = omega (arith, inside x)
 inside (at-right x) = omega (arith, inside x)
 

@@ -25,8 +25,8 @@ abbrev pub withFrames : Parts → List Frame → Parts
 withFrames p fs = record { objects = p .objects; bindings = p .bindings; positions = p .positions; frames = fs }
 
 -- An object opened or shut, and one with another value in field k.
-abbrev pub withShut : Object → Bool → Object
-withShut o b = record { class = o .class; shut = b; fields = o .fields }
+abbrev pub markedShut : Object → Bool → Object
+markedShut o b = record { class = o .class; shut = b; fields = o .fields }
 
 abbrev pub withField : Object → ℕ → Value → Object
 withField o k v = record { class = o .class; shut = o .shut; fields = set (o .fields) k v }

@@ -12,7 +12,7 @@ ghost use mathlib.Core.Option.{none};
 ghost use Prim.Native.Nat.{_≤_};
 ghost use lib.ListN.{length};
 ghost use Rattle.limits.specs.Limits.{CHOICES};
-ghost use Rattle.inference.specs.At.{Blank};
+ghost use Rattle.inference.specs.Walk.{EmptyEnv};
 ghost use Rattle.machine.specs.Config.{codeOf};
 ghost use Rattle.machine.specs.Machine.{limits};
 ghost use Rattle.machine.specs.Runs.{look as seen, report};
@@ -45,7 +45,7 @@ fn take_choice(
     block: &mut [u8],
     n: usize,
 ) -> Taken
-    requires { ⌜ Blank (now s) (now starts) (now facts) (now table) × Standing (now s) (now block) ⌝ }
+    requires { ⌜ EmptyEnv (now s) (now starts) (now facts) (now table) × Standing (now s) (now block) ⌝ }
     ensures { λ r. ⌜
         ((x : Standing (now (s .entry)) (now (block .entry))) →
         seen (codeOf (now (s .entry))) limits (x .config) ≡ none →
@@ -87,7 +87,7 @@ fn follow(
     block: &mut [u8],
     choices: &[u8],
 ) -> Ran
-    requires { ⌜ Blank (now s) (now starts) (now facts) (now table) × Standing (now s) (now block) ⌝ }
+    requires { ⌜ EmptyEnv (now s) (now starts) (now facts) (now table) × Standing (now s) (now block) ⌝ }
     requires { ⌜ length (now choices) ≤ CHOICES ⌝ }
     requires { ⌜ ((x : Standing (now s) (now block)) → seen (codeOf (now s)) limits (x .config) ≡ none) ⌝ }
     ensures { λ r. ⌜
@@ -120,7 +120,7 @@ pub fn run_choices(
     block: &mut [u8],
     choices: &[u8],
 ) -> Ran
-    requires { ⌜ Blank (now s) (now starts) (now facts) (now table) × Standing (now s) (now block) ⌝ }
+    requires { ⌜ EmptyEnv (now s) (now starts) (now facts) (now table) × Standing (now s) (now block) ⌝ }
     requires { ⌜ length (now choices) ≤ CHOICES ⌝ }
     ensures { λ r. ⌜
         ((x : Standing (now (s .entry)) (now (block .entry))) →

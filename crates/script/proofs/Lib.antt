@@ -1,7 +1,10 @@
 pub mod Lists
+pub mod AllFiles
 pub mod Tests
 pub mod Lowest
 pub mod LayoutLaws
 pub mod Declarations
 pub mod Reading
 pub mod Regular
+pub mod KindTable
+pub mod BoundTable

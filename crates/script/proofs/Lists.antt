@@ -7,8 +7,9 @@ use mathlib.Core.Option.{none, some}
 use Prim.Native.Nat.{ℕ, zero, suc, _+_, _<_, _≤_}
 use native.Mathlib.Omega.{arith}
 use native.Mathlib.Nat.{eq-or-lt-of-le, le-of-suc-le-suc}
+use native.Mathlib.Numerals.{add-one}
 use lib.Dec.{eqb, ltb}
-use lib.ListN.{length, getD}
+use lib.ListN.{length, getD, replicate}
 use borrow.Author.Tests.{eqb-true, eqb-false, eq-eqb, ne-eqb, ltb-true, ltb-false}
 use Rattle.script.specs.Lists.{_∈_, Every, run, sumBelow, named}
 use Rattle.script.specs.Regular.{Unique, no-more, one-more}
@@ -17,6 +18,16 @@ use Rattle.script.specs.Regular.{Unique, no-more, one-more}
 pub every-map : {A : Type 0} (P Q : A → Type 0) → ((a : A) → P a → Q a) → (l : List A) → Every P l → Every Q l
 every-map P Q f [] e = tt
 every-map P Q f (a ∷ l) e = (f a (e .0), every-map P Q f l (e .1))
+
+pub every-in : {A : Type 0} (P : A → Type 0) (l : List A) → Every P l → (x : A) → x ∈ l → P x
+every-in P [] e x m = absurd (List·Memᴰ·not-nil m)
+every-in P (y ∷ l) e x m = ⊎-elim (λ (h : x ≡ y). rw h (e .0)) (every-in P l (e .1) x) (List·Memᴰ·cases-cons m)
+
+-- zeros read as 0, past their end too
+pub zeros : (n i : ℕ) → _≡_ {A = ℕ} (getD (replicate n 0) i 0) 0
+zeros zero i = refl
+zeros (suc n) zero = refl
+zeros (suc n) (suc i) = zeros n i
 
 pub length-run : {A : Type 0} (f : ℕ → A) (i k : ℕ) → length (run f i k) ≡ k
 unfolding run
@@ -49,6 +60,16 @@ in-run f i (suc k) a m =
     (λ (t : a ∈ run f (i + 1) k). next-index f i k a (in-run f (i + 1) k a t))
     (List·Memᴰ·cases-cons m)
 
+-- and each record of a run stands in it
+pub run-has : {A : Type 0} (f : ℕ → A) (i k j : ℕ) → i ≤ j → j < i + k → f j ∈ run f i k
+unfolding run
+run-has f i zero j a b = absurd (omega arith)
+run-has f i (suc k) j a b =
+    ⊎-elim
+    (λ (e : i ≡ j). List·Memᴰ·head (ap f (sym e)))
+    (λ (l : i < j). List·Memᴰ·tail (run-has f (i + 1) k j (omega arith) (omega arith)))
+    (eq-or-lt-of-le a)
+
 -- a run whose records have no name twice
 pub run-unique :
     {A : Type 0} (f : ℕ → A) (name : A → ℕ) (i k : ℕ)
@@ -60,6 +81,15 @@ run-unique f name i (suc k) u =
     one-more
     (λ b m e. let x = in-run f (i + 1) k b m in u i (x .index) (omega arith) (omega (arith, x .from)) (omega (arith, x .upto)) (e ∙ ap name (x .is)))
     (run-unique f name (i + 1) k (λ j h p q r e. u j h (omega arith) q (omega arith) e))
+
+-- numbers added one after the other: before the first, and one more
+pub sum-start : (f : ℕ → ℕ) → 0 ≡ sumBelow f 0
+unfolding sumBelow
+sum-start f = refl
+
+pub sum-next : (f : ℕ → ℕ) (i sum r : ℕ) → sum ≡ sumBelow f i → r ≡ f i → sum + r ≡ sumBelow f (i + 1)
+unfolding sumBelow
+sum-next f i sum r p q = rw (add-one i, p, q)
 
 -- a run begins where the one before it ends, so those of the first n owners stand below where the run of owner n begins
 pub sum-more : (f : ℕ → ℕ) (i n : ℕ) → i < n → sumBelow f i + f i ≤ sumBelow f n

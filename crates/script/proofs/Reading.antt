@@ -7,7 +7,7 @@ use native.Mathlib.Omega.{arith}
 use lib.ListN.{getD}
 use Rattle.script.specs.Lists.{_∈_}
 use Rattle.script.specs.Section.{nodes, countOf, nodeWord}
-use Rattle.script.specs.Syntax.{Point, Expr, null, update, call, bind, cast, fork, lock, Node, n-null, n-var, n-select, n-update, n-call, n-bind, n-new, n-cast, n-fork, n-lock, n-constant, n-add, parts, build}
+use Rattle.script.specs.Syntax.{Point, Expr, null, update, call, bind, cast, fork, lock, Node, n-null, n-var, n-select, n-update, n-call, n-bind, n-new, n-cast, n-fork, n-lock, n-constant, n-add, parts, build, pointOf}
 use Rattle.script.specs.Reading.{Kind, null-kind, var-kind, select-kind, update-kind, call-kind, bind-kind, new-kind, cast-kind, fork-kind, lock-kind, constant-kind, add-kind, unknown-kind, kindOf, shapeOf, nodeOf, viewAt, lastExprs, exprAt}
 use Rattle.script.specs.Statements.{Part, WordIs, WithinLayout}
 
@@ -35,6 +35,39 @@ build-same n f g (n-fork p q r) h = λ i. fork n (h p first i) (h q second i) (h
 build-same n f g (n-lock x p) h = ap (lock n x) (h p first)
 build-same n f g (n-constant z) h = refl
 build-same n f g (n-add x y) h = refl
+
+-- What is built of the node at n is the expression at n.
+pub build-point : (n : Point) (f : Point → Expr) (v : Node) → pointOf (build n f v) ≡ n
+build-point n f n-null = refl
+build-point n f (n-var x) = refl
+build-point n f (n-select x g) = refl
+build-point n f (n-update x g p) = refl
+build-point n f (n-call x m p) = refl
+build-point n f (n-bind x p q) = refl
+build-point n f (n-new c) = refl
+build-point n f (n-cast t p) = refl
+build-point n f (n-fork p q r) = refl
+build-point n f (n-lock x p) = refl
+build-point n f (n-constant z) = refl
+build-point n f (n-add x y) = refl
+
+-- Kinds 1 to 11 are not null, and every other one is read as null.
+pub only-null : (k a b c : ℕ) → (k ≡ 1 → ⊥) → (k ≡ 2 → ⊥) → (k ≡ 3 → ⊥) → (k ≡ 4 → ⊥) → (k ≡ 5 → ⊥) → (k ≡ 6 → ⊥) → (k ≡ 7 → ⊥) → (k ≡ 8 → ⊥)
+    → (k ≡ 9 → ⊥) → (k ≡ 10 → ⊥) → (k ≡ 11 → ⊥) → nodeOf (kindOf k) a b c ≡ n-null
+unfolding kindOf
+only-null zero a b c h1 h2 h3 h4 h5 h6 h7 h8 h9 h10 h11 = refl
+only-null (suc zero) a b c h1 h2 h3 h4 h5 h6 h7 h8 h9 h10 h11 = absurd (h1 refl)
+only-null (suc (suc zero)) a b c h1 h2 h3 h4 h5 h6 h7 h8 h9 h10 h11 = absurd (h2 refl)
+only-null (suc (suc (suc zero))) a b c h1 h2 h3 h4 h5 h6 h7 h8 h9 h10 h11 = absurd (h3 refl)
+only-null (suc (suc (suc (suc zero)))) a b c h1 h2 h3 h4 h5 h6 h7 h8 h9 h10 h11 = absurd (h4 refl)
+only-null (suc (suc (suc (suc (suc zero))))) a b c h1 h2 h3 h4 h5 h6 h7 h8 h9 h10 h11 = absurd (h5 refl)
+only-null (suc (suc (suc (suc (suc (suc zero)))))) a b c h1 h2 h3 h4 h5 h6 h7 h8 h9 h10 h11 = absurd (h6 refl)
+only-null (suc (suc (suc (suc (suc (suc (suc zero))))))) a b c h1 h2 h3 h4 h5 h6 h7 h8 h9 h10 h11 = absurd (h7 refl)
+only-null (suc (suc (suc (suc (suc (suc (suc (suc zero)))))))) a b c h1 h2 h3 h4 h5 h6 h7 h8 h9 h10 h11 = absurd (h8 refl)
+only-null (suc (suc (suc (suc (suc (suc (suc (suc (suc zero))))))))) a b c h1 h2 h3 h4 h5 h6 h7 h8 h9 h10 h11 = absurd (h9 refl)
+only-null (suc (suc (suc (suc (suc (suc (suc (suc (suc (suc zero)))))))))) a b c h1 h2 h3 h4 h5 h6 h7 h8 h9 h10 h11 = absurd (h10 refl)
+only-null (suc (suc (suc (suc (suc (suc (suc (suc (suc (suc (suc zero))))))))))) a b c h1 h2 h3 h4 h5 h6 h7 h8 h9 h10 h11 = absurd (h11 refl)
+only-null (suc (suc (suc (suc (suc (suc (suc (suc (suc (suc (suc (suc k)))))))))))) a b c h1 h2 h3 h4 h5 h6 h7 h8 h9 h10 h11 = refl
 
 module _ (s : List ℕ) where
   -- The table of the last j + k nodes ends in that of the last k.

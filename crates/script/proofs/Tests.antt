@@ -1,18 +1,22 @@
 -- Tests that say whether a statement holds, put together.
-use mathlib.Core.Path.{_≡_, refl, sym}
-use mathlib.Core.Bool.{Bool, true, false, not, _&&_, _||_}
-use mathlib.Core.List.{List, [], _∷_, List·Memᴰ·head, List·Memᴰ·tail, List·Memᴰ·cases-cons, List·Memᴰ·not-nil}
+use mathlib.Core.Path.{_≡_, refl, sym, ap, _∙_}
+use mathlib.Core.Bool.{Bool, true, false, not, _&&_, _||_, and-assoc}
+use mathlib.Core.List.{List, [], _∷_, _++_, List·Memᴰ·head, List·Memᴰ·tail, List·Memᴰ·cases-cons, List·Memᴰ·not-nil}
 use mathlib.Core.Logic.{_⊎_, ⊎-elim, inl, inr}
 use Prim.Native.Nat.{ℕ, _<_, _≤_}
 use native.Mathlib.Omega.{arith}
 use lib.Dec.{eqb, leb, ltb}
-use borrow.Author.Tests.{eqb-true, eqb-false, leb-true, leb-false, ltb-true, ltb-false}
+use borrow.Author.Tests.{eqb-true, eqb-false, leb-true, leb-false, ltb-true, ltb-false, not-true}
 use Rattle.script.specs.Lists.{_∈_}
 use Rattle.script.specs.Asking.{Decides, holds, fails}
 use Rattle.script.specs.Questions.{allOf}
 
 pub true-false : true ≡ false → ⊥
 true-false e = let z : _≡_ {A = ℕ} 0 1 = cc in omega arith
+
+-- tests one after the other: `if !r { return false; }`
+pub and-no : (a b r : Bool) → r ≡ a → not r ≡ true → false ≡ a && b
+and-no a b r p q = let e : a ≡ false = sym p ∙ not-true r q in rw e
 
 -- a test decides a statement if each answer settles it
 pub decides : {P : Type 0} (b : Bool) → (b ≡ true → P) → (b ≡ false → P → ⊥) → Decides P b
@@ -70,3 +74,9 @@ decides-all P test (y ∷ l) d = decides-as both each (decides-and (d y) (decide
 
     each : ((x : _) → x ∈ y ∷ l → P x) → P y × ((x : _) → x ∈ l → P x)
     each h = (h y (List·Memᴰ·head refl), λ x k. h x (List·Memᴰ·tail k))
+
+-- a test of two lists, one after the other
+pub all-append : {A : Type 0} (test : A → Bool) (l m : List A) → allOf test (l ++ m) ≡ allOf test l && allOf test m
+unfolding allOf
+all-append test [] m = refl
+all-append test (x ∷ l) m = ap (λ (b : Bool). test x && b) (all-append test l m) ∙ sym (and-assoc (test x) (allOf test l) (allOf test m))

@@ -6,3 +6,6 @@ pub mod Asking
 pub mod Questions
 pub mod Statements
 pub mod Regular
+pub mod AllFiles
+pub mod KindTable
+pub mod BoundTable

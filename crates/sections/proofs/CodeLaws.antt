@@ -4,7 +4,6 @@ use mathlib.Core.Bool.{Bool, true, false, not, _&&_}
 use mathlib.Core.List.{List, [], _∷_}
 use Prim.Native.Nat.{ℕ, _+_, _*_, _<_, _≤_}
 use native.Mathlib.Nat.{mul-le-mul-left}
-use native.Mathlib.Numerals.{add-one}
 use native.Mathlib.Omega.{arith}
 use lib.Dec.{eqb, leb, ltb}
 use lib.ListN.{length}
@@ -64,16 +63,6 @@ module _ (s : List ℕ) (k : Section) (o : ℕ) where
   pub own-method : (r : ℕ) → k ≡ methods → r ≡ recordWord s classes o 2 → r ≡ ownOf s k o
   unfolding ownMethods
   own-method r e q = rw e q
-
-  -- One owner more.
-  pub sum-next : (sum r : ℕ) → sum ≡ sumBelow (ownOf s k) o → r ≡ ownOf s k o → sum + r ≡ sumBelow (ownOf s k) (o + 1)
-  unfolding sumBelow
-  sum-next sum r p q = rw (add-one o, p, q)
-
--- Before the first owner.
-pub sum-none : (f : ℕ → ℕ) → 0 ≡ sumBelow f 0
-unfolding sumBelow
-sum-none f = refl
 
 -- The records of the owner's section are the owners.
 pub owner-is : (s : List ℕ) (k owner : Section) (n o : ℕ) → owner ≡ ownerOf k → n ≡ countOf s owner → o < n → o < countOf s (ownerOf k)

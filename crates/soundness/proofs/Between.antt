@@ -76,7 +76,7 @@ module _ (s : Code) where
   start-fails d (left q) k = let z : _≡_ {A = ℕ} 0 1 = cc in absurd (omega arith)
   start-fails d (right q) k = let z : _≡_ {A = ℕ} 0 1 = cc in absurd (omega arith)
 
--- A Run with more choices keeps the bindings that it had with fewer.
+-- A Run with more choices keeps the objects and bindings that it had with fewer.
 pub more-keeps : {s : Code} {start : ℕ} (acc : AcceptedCode s start) (m n : ℕ) (ns : List ℕ) (c : Config) → m ≤ n → WellFormed s limits start c
     → Kept (report s limits c (take m ns) .config) (report s limits c (take n ns) .config)
 more-keeps {s} acc m n ns c l h =

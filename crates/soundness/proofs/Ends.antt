@@ -2,11 +2,11 @@
 use Prim.Native.Nat.{ℕ, _+_, _≤_}
 use native.Mathlib.Omega.{arith}
 use native.Mathlib.Decide.{decLe}
-use mathlib.Core.Path.{_≡_, refl, ap}
+use mathlib.Core.Path.{_≡_, refl, ap, _∙_}
 use mathlib.Core.Bool.{false}
 use mathlib.Core.Option.{Option, some}
 use mathlib.Core.Logic.{_⊎_, inl, inr, ⊎-elim}
-use mathlib.Core.List.{List, [], _∷_, _++_}
+use mathlib.Core.List.{List, [], _∷_, _++_, reverse, reverse-append}
 use Rattle.script.specs.Syntax.{Point}
 use Rattle.machine.specs.declared.Ending.{Ending}
 use Rattle.machine.specs.declared.Frame.{Frame}
@@ -82,6 +82,12 @@ frames-append o [] gs = omega arith
 frames-append o (awaits n e ∷ fs) gs = frames-append o fs gs
 frames-append o (casts n ∷ fs) gs = frames-append o fs gs
 frames-append o (locks p ∷ fs) gs = omega (arith, frames-append o fs gs)
+
+pub locks-turned : (o : ℕ) (fs : List Frame) → lockFrames o (reverse fs) ≡ lockFrames o fs
+locks-turned o [] = refl
+locks-turned o (f ∷ fs) =
+    ap (lockFrames o) (reverse-append (f ∷ []) fs)
+    ∙ omega (arith, frames-append o (reverse fs) (f ∷ []), frames-append o (f ∷ []) fs, locks-turned o fs)
 
 waits-without : {s : Code} {st : Stores} {o : ℕ} {above handed : List Frame} {t u : Tree} {p : Path} → At above t p handed u → Waits s st handed o u → (n : ℕ) → n ≡ lockFrames o above → heldBy o n t p ≡ 0
 waits-without at-root (waits i k z q) n c = omega (arith, q)

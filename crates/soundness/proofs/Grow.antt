@@ -14,24 +14,25 @@ use Rattle.typing.specs.Members.{fieldsOf}
 use Rattle.machine.specs.Machine.{scope, slot, context, object, setShut, setFields}
 use Rattle.machine.specs.declared.Want.{Want}
 use Rattle.machine.specs.WellFormed.{ValueFits, fits-nil, fits-ref, fits-int, Gives, NodeGives, BindingsOk, no-bindings, a-binding, FieldsOk, no-fields, a-field, TypedObject, FramesOk, no-frames, a-node, a-cast, a-lock, TreeOk, running-ok, returning-ok, failed-ok, join-ok}
-use Rattle.soundness.proofs.Stores.{Keeps, keeps-same, scope-older}
+use Rattle.machine.specs.Promise.{KeepsObjects}
+use Rattle.soundness.proofs.Stores.{keeps-same, scope-older}
 
 -- Objects keep their classes, and environments their bindings.
 pub record Grows (st su : Stores) : Type 0 where
-  pub objects : Keeps (st .objects) (su .objects)
+  pub objects : KeepsObjects (st .objects) (su .objects)
   pub added : List Binding
   pub grown : su .bindings ≡ added ++ st .bindings
   pub more : length (st .bindings) ≤ length (su .bindings)
   pub same : (e : ℕ) → e ≤ length (st .bindings) → scope (su .bindings) e ≡ scope (st .bindings) e
 
-pub fits-grows : {s : Code} {xs ys : List Object} {v : Value} {w : Want} → Keeps xs ys → ValueFits s xs v w → ValueFits s ys v w
+pub fits-grows : {s : Code} {xs ys : List Object} {v : Value} {w : Want} → KeepsObjects xs ys → ValueFits s xs v w → ValueFits s ys v w
 fits-grows g (fits-nil m) = fits-nil m
 fits-grows {s} g (fits-ref {o = o} {x = x} {w = w} h m) =
     let k = g o x h in
     fits-ref {w = w} (k .there) (rw (k .class) m)
 fits-grows g (fits-int r m) = fits-int r m
 
-pub bindings-grow : {s : Code} {xs ys : List Object} {bs : List Binding} → Keeps xs ys → BindingsOk s xs bs → BindingsOk s ys bs
+pub bindings-grow : {s : Code} {xs ys : List Object} {bs : List Binding} → KeepsObjects xs ys → BindingsOk s xs bs → BindingsOk s ys bs
 bindings-grow g no-bindings = no-bindings
 bindings-grow g (a-binding h ok) =
     a-binding (record { name = h .name; type = h .type; link = h .link; value = fits-grows g (h .value) }) (bindings-grow g ok)
@@ -63,7 +64,7 @@ module _ {s : Code} {st su : Stores} (g : Grows st su) where
 pub grows-same : (st : Stores) → Grows st st
 grows-same st = record { objects = keeps-same (st .objects); added = []; grown = refl; more = omega arith; same = λ e h. refl }
 
-pub grows-objects : (st : Stores) (ys : List Object) → Keeps (st .objects) ys → Grows st (record { objects = ys; bindings = st .bindings })
+pub grows-objects : (st : Stores) (ys : List Object) → KeepsObjects (st .objects) ys → Grows st (record { objects = ys; bindings = st .bindings })
 grows-objects st ys k = record { objects = k; added = []; grown = refl; more = omega arith; same = λ e h. refl }
 
 pub grows-binding : (st : Stores) (b : Binding) → Grows st (record { objects = st .objects; bindings = b ∷ st .bindings })
@@ -80,14 +81,14 @@ grows-call st b c =
     }
 
 -- the heap after a change
-pub fields-grow : {s : Code} {xs ys : List Object} {ds : List Slot} {l : List Value} → Keeps xs ys → FieldsOk s xs ds l → FieldsOk s ys ds l
+pub fields-grow : {s : Code} {xs ys : List Object} {ds : List Slot} {l : List Value} → KeepsObjects xs ys → FieldsOk s xs ds l → FieldsOk s ys ds l
 fields-grow g no-fields = no-fields
 fields-grow g (a-field f fs) = a-field (fits-grows g f) (fields-grow g fs)
 
 abbrev pub HeapOk : Code → List Object → List Object → Type 0
 HeapOk s xs ys = (o : ℕ) (x : Object) → object ys o ≡ some x → TypedObject s xs x
 
-pub heap-grows : {s : Code} {xs ys : List Object} (zs : List Object) → Keeps xs ys → HeapOk s xs zs → HeapOk s ys zs
+pub heap-grows : {s : Code} {xs ys : List Object} (zs : List Object) → KeepsObjects xs ys → HeapOk s xs zs → HeapOk s ys zs
 heap-grows zs g h o x e = let k = h o x e in record { class = k .class; fields = fields-grow g (k .fields) }
 
 pub heap-append : {s : Code} {zs : List Object} (xs : List Object) (y : Object) → HeapOk s zs xs → TypedObject s zs y → HeapOk s zs (xs ++ (y ∷ []))

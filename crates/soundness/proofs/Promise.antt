@@ -1,4 +1,4 @@
--- Every well-formed configuration keeps the promises of demand 3, and a run keeps every binding; Offer's flags.
+-- Every well-formed configuration keeps the promises of demand 3, and a run keeps every object and binding; Offer's flags.
 use Prim.Native.Nat.{ℕ}
 use native.Mathlib.Omega.{arith}
 use mathlib.Core.Path.{_≡_, refl, sym, _∙_, ap}
@@ -19,7 +19,7 @@ use Rattle.machine.specs.Runs.{look, Report, report, Runs, ends, spends, passes
 use Rattle.machine.specs.Promise.{Promised, Kept}
 use Rattle.machine.proofs.Types.{field-declared}
 use Rattle.soundness.proofs.Places.{part-ok}
-use Rattle.soundness.proofs.Stores.{fit-field}
+use Rattle.soundness.proofs.Stores.{fit-field, keeps-same}
 use Rattle.soundness.proofs.Ends.{some-end}
 use Rattle.soundness.proofs.Positions.{ended, exclusive}
 use Rattle.soundness.proofs.Asks.{field-there, method-there}
@@ -30,10 +30,19 @@ binding-fits no-bindings b m = absurd (List·Memᴰ·not-nil m)
 binding-fits (a-binding {b = c} h ok) b m = ⊎-elim (λ (e : b ≡ c). rw e (h .value)) (λ k. binding-fits ok b k) (List·Memᴰ·cases-cons m)
 
 pub kept-same : (c : Config) → Kept c c
-kept-same c = record { added = []; there = refl }
+kept-same c = record { added = []; there = refl; objects = keeps-same (c .stores .objects) }
 
 pub kept-then : {c d e : Config} → Kept c d → Kept d e → Kept c e
-kept-then {c} x y = record { added = y .added ++ x .added; there = y .there ∙ ap (λ (l : List Binding). y .added ++ l) (x .there) ∙ sym (append-assoc (y .added) (x .added) (c .stores .bindings)) }
+kept-then {c} x y =
+    record {
+      added = y .added ++ x .added;
+      there = y .there ∙ ap (λ (l : List Binding). y .added ++ l) (x .there) ∙ sym (append-assoc (y .added) (x .added) (c .stores .bindings));
+      objects =
+          λ o z h.
+          let k = x .objects o z h in
+          let j = y .objects o (k .later) (k .there) in
+          record { later = j .later; there = j .there; class = j .class ∙ k .class };
+    }
 
 module _ {s : Code} {start : ℕ} (acc : AcceptedCode s start) (lim : Places) where
   -- What demand 3 promises holds of every well-formed configuration.
@@ -52,7 +61,7 @@ module _ {s : Code} {start : ℕ} (acc : AcceptedCode s start) (lim : Places) wh
         ended = λ n. some-end (ended acc lim (h .formed) (λ i l. n i));
       }
 
-  -- A run keeps every binding.
+  -- A run keeps every object and binding.
   runs-keep : {ns : List ℕ} {c : Config} {r : Report} → Runs s lim c ns r → WellFormed s lim start c → Kept c (r .config)
   runs-keep (ends {c = c} e) h = kept-same c
   runs-keep (spends {c = c} e) h = kept-same c

@@ -1,5 +1,5 @@
 -- A run makes the moves that its choices name, keeps the configuration well formed, and has ended exactly where nothing can move.
-use Prim.Native.Nat.{ℕ, zero, suc, _+_, _-_, _≤_, _<_}
+use Prim.Native.Nat.{ℕ, zero, suc, _+_, _≤_, _<_}
 use native.Mathlib.Omega.{arith}
 use native.Mathlib.Decide.{ℕ-discrete, decLt}
 use mathlib.Core.Path.{_≡_, refl, _∙_, ap}
@@ -8,7 +8,6 @@ use mathlib.Core.List.{List, [], _∷_, _++_}
 use mathlib.Core.Option.{Option, none, some}
 use mathlib.Core.Logic.{_⊎_, inl, inr, ⊎-elim}
 use lib.ListN.{length}
-use borrow.Author.Tests.{le-ltb}
 use Rattle.machine.specs.declared.Store.{Store}
 use Rattle.machine.specs.declared.Ending.{Ending}
 use Rattle.machine.specs.declared.Stop.{Stop}
@@ -20,18 +19,13 @@ use Rattle.machine.specs.Accepted.{AcceptedCode}
 use Rattle.machine.specs.Ends.{ending, End}
 use Rattle.machine.specs.Runs.{anyAble, look, Report, stopped, passed, made, unless, follow, spentUnless, report, Runs, ends, spends, passes, makes, fills, CanMove, StopMeans, spent, at-end, no-places, Leaves, LastFull, onto}
 use Rattle.machine.specs.Promise.{Kept}
+use Rattle.machine.proofs.Positions.{size-some, outside}
 use Rattle.soundness.proofs.Trees.{preservation, growth}
 use Rattle.soundness.proofs.Ends.{seen-end}
 use Rattle.soundness.proofs.Positions.{ended}
 use Rattle.soundness.proofs.Within.{within}
 
-some-size : (t : Tree) → 1 ≤ size t
-some-size (running a e fs) = omega arith
-some-size (returning v fs) = omega arith
-some-size failed = omega arith
-some-size (join fs a e l r) = omega arith
-
--- a tree with one position, and positions beyond the tree
+-- a tree with one position
 one-position : (t : Tree) (n : ℕ) → size t ≡ 1 → (locate t n ≡ some here) ⊎ (locate t n ≡ none)
 one-position (running a e fs) zero h = inl refl
 one-position (running a e fs) (suc n) h = inr refl
@@ -39,17 +33,7 @@ one-position (returning v fs) zero h = inl refl
 one-position (returning v fs) (suc n) h = inr refl
 one-position failed zero h = inl refl
 one-position failed (suc n) h = inr refl
-one-position (join fs a e l r) n h = absurd (omega (arith, some-size l))
-
-far : (t : Tree) (n : ℕ) → size t ≤ n → locate t n ≡ none
-far (running a e fs) zero h = absurd (omega arith)
-far (running a e fs) (suc n) h = refl
-far (returning v fs) zero h = absurd (omega arith)
-far (returning v fs) (suc n) h = refl
-far failed zero h = absurd (omega arith)
-far failed (suc n) h = refl
-far (join fs a e l r) zero h = absurd (omega arith)
-far (join fs a e l r) (suc n) h = rw (le-ltb n (size l) (omega arith), far r (n - size l) (omega arith))
+one-position (join fs a e l r) n h = absurd (omega (arith, size-some l))
 
 -- a report with other counts
 same-report : (j : Stop) (c : Config) (k l m n : ℕ) → k ≡ l → m ≡ n → _≡_ {A = Report} (record { stop = j; read = k; moves = m; config = c }) (record { stop = j; read = l; moves = n; config = c })
@@ -104,7 +88,7 @@ module _ (s : Code) (lim : Places) where
   -- a choice beyond the positions is no move
   absent : (c : Config) (n : ℕ) → size (c .tree) ≤ n → choice s lim c n ≡ still
   unfolding choice
-  absent c n h = ap (chosen s lim c) (far (c .tree) n h)
+  absent c n h = ap (chosen s lim c) (outside (c .tree) n h)
 
   pub beyond : (c : Config) → ((n : ℕ) → n < size (c .tree) → choice s lim c n ≡ still) → (n : ℕ) → choice s lim c n ≡ still
   beyond c h n = go (decLt n (size (c .tree)))
@@ -254,14 +238,14 @@ module _ {s : Code} {start : ℕ} (acc : AcceptedCode s start) (lim : Places) wh
       go none i = absurd (let z : _≡_ {A = ℕ} 0 1 = cc in omega arith)
       go (some p) i = record { formed = preservation acc lim (h .formed) p i; within = within lim s c p (h .within) i }
 
-  -- and keeps every binding.
+  -- and keeps every object and binding.
   pub moved-keeps : {c : Config} (n : ℕ) {st : Stores} {t : Tree} → WellFormed s lim start c → choice s lim c n ≡ moved st t → Kept c (record { stores = st; tree = t })
   unfolding choice
   moved-keeps {c} n {st} {t} h e = go (locate (c .tree) n) e
     where
       go : (q : Option Path) → chosen s lim c q ≡ moved st t → Kept c (record { stores = st; tree = t })
       go none i = absurd (let z : _≡_ {A = ℕ} 0 1 = cc in omega arith)
-      go (some p) i = let g = growth acc lim (h .formed) p i in record { added = g .added; there = g .grown }
+      go (some p) i = let g = growth acc lim (h .formed) p i in record { added = g .added; there = g .grown; objects = g .objects }
 
   ending-holds : {c : Config} → WellFormed s lim start c → (p : Phase) → phase (c .tree) ≡ p → (q : Bool) → anyAble s lim c (size (c .tree)) ≡ q → StopMeans s lim c (spentUnless (ending p q))
   ending-holds {c} h finished e q k =

@@ -90,7 +90,7 @@ module _ {s : Code} {start : ℕ} (acc : AcceptedCode s start) where
   silent-counts (into-let i) h = into _ h i first refl
   silent-counts (into-cast i) h = into _ h i first refl
 
-  place-counts : {p : Path} {t u : Tree} → SilentAt s p t u → OnNode s (part t p) → OnNode s (part u p) × (suc (due s (part u p)) ≡ due s (part t p))
+  pub place-counts : {p : Path} {t u : Tree} → SilentAt s p t u → OnNode s (part t p) → OnNode s (part u p) × (suc (due s (part u p)) ≡ due s (part t p))
   place-counts (changed-here x) h = silent-counts x h
   place-counts (changed-left x) h = place-counts x h
   place-counts (changed-right x) h = place-counts x h
@@ -108,20 +108,32 @@ leaf-below (into-call i) q = (refl, refl)
 leaf-below (into-let i) q = (refl, refl)
 leaf-below (into-cast i) q = (refl, refl)
 
-others-stay : {s : Code} {p : Path} {t u : Tree} → SilentAt s p t u → (q : Path) → samePlace q p ≡ false → due s (part u q) ≡ due s (part t q)
+pub others-stay : {s : Code} {p : Path} {t u : Tree} → SilentAt s p t u → (q : Path) → samePlace q p ≡ false
+    → (OnNode s (part t q) → OnNode s (part u q)) × (due s (part u q) ≡ due s (part t q))
 others-stay (changed-here x) here k = absurd (let z : _≡_ {A = ℕ} 0 1 = cc in omega arith)
-others-stay {s} (changed-here x) (left q) k = ap (due s) (leaf-below x q .0)
-others-stay {s} (changed-here x) (right q) k = ap (due s) (leaf-below x q .1)
-others-stay (changed-left x) here k = refl
+others-stay {s} (changed-here x) (left q) k = (λ h. rw (leaf-below x q .0) h, ap (due s) (leaf-below x q .0))
+others-stay {s} (changed-here x) (right q) k = (λ h. rw (leaf-below x q .1) h, ap (due s) (leaf-below x q .1))
+others-stay (changed-left x) here k = (λ h a e fs i. absurd (let z : _≡_ {A = ℕ} 0 1 = cc in omega arith), refl)
 others-stay (changed-left x) (left q) k = others-stay x q k
-others-stay (changed-left x) (right q) k = refl
-others-stay (changed-right x) here k = refl
-others-stay (changed-right x) (left q) k = refl
+others-stay (changed-left x) (right q) k = (λ h. h, refl)
+others-stay (changed-right x) here k = (λ h a e fs i. absurd (let z : _≡_ {A = ℕ} 0 1 = cc in omega arith), refl)
+others-stay (changed-right x) (left q) k = (λ h. h, refl)
 others-stay (changed-right x) (right q) k = others-stay x q k
+
+pub same-place : (p q : Path) → samePlace p q ≡ true → p ≡ q
+same-place here here h = refl
+same-place here (left q) h = cc
+same-place here (right q) h = cc
+same-place (left p) here h = cc
+same-place (left p) (left q) h = ap left (same-place p q h)
+same-place (left p) (right q) h = cc
+same-place (right p) here h = cc
+same-place (right p) (left q) h = cc
+same-place (right p) (right q) h = ap right (same-place p q h)
 
 pub others-due : (s : Code) (room : Places) (st : Stores) (above : List Frame) (t : Tree) (p : Path) (su : Stores) (u : Tree) → quietIn s (part t p) ≡ true
     → moveAt s room st above t p ≡ moved su u → (q : Path) → samePlace q p ≡ false → due s (part u q) ≡ due s (part t q)
-others-due s room st above t p su u h m = others-stay (silent-at s room st above t p su u h m)
+others-due s room st above t p su u h m q k = others-stay (silent-at s room st above t p su u h m) q k .1
 
 -- The chain at a node is no longer than there are nodes from there on, and it is there exactly if the node is silent.
 abbrev pub Counted : Bool → ℕ → Type 0

@@ -16,6 +16,7 @@ use Rattle.machine.specs.Config.{Code, Object, Binding}
 use Rattle.machine.specs.Machine.{scope, slot, context, find, object, setShut, setFields, fieldValue, setField, initials, oneIf}
 use Rattle.machine.specs.declared.Want.the-variants.{Upto as upto}
 use Rattle.machine.specs.WellFormed.{ValueFits, BindingsOk, no-bindings, a-binding, FieldsOk, no-fields, a-field, shutAt}
+use Rattle.machine.specs.Promise.{KeepsObjects}
 use Rattle.soundness.proofs.Values.{initial-fits}
 
 -- either branch of a test
@@ -68,44 +69,36 @@ module _ {s : Code} {xs : List Object} where
   pub fit-binding : {bs : List Binding} (e x t : ℕ) → BindingsOk s xs bs → typeIn (context bs e) x ≡ some t → FitBinding s xs (scope bs e) x t
   fit-binding e x t ok h = fit-in (scope-fits ok e) x t h
 
--- an object keeps its class
-pub record SameClass (ys : List Object) (o : ℕ) (x : Object) : Type 0 where
-  pub now : Object
-  pub there : object ys o ≡ some now
-  pub class : now .class ≡ x .class
+-- Objects stay there and keep their classes, whatever is made, shut, opened or written.
+pub keeps-same : (xs : List Object) → KeepsObjects xs xs
+keeps-same xs o x h = record { later = x; there = h; class = refl }
 
-abbrev pub Keeps : List Object → List Object → Type 0
-Keeps xs ys = (o : ℕ) (x : Object) → object xs o ≡ some x → SameClass ys o x
-
-pub keeps-same : (xs : List Object) → Keeps xs xs
-keeps-same xs o x h = record { now = x; there = h; class = refl }
-
-pub keeps-append : (xs l : List Object) → Keeps xs (xs ++ l)
+pub keeps-append : (xs l : List Object) → KeepsObjects xs (xs ++ l)
 keeps-append [] l o x h = absurd (Option·none-ne-some _ h)
-keeps-append (y ∷ xs) l zero x h = record { now = x; there = h; class = refl }
-keeps-append (y ∷ xs) l (suc o) x h = let k = keeps-append xs l o x h in record { now = k .now; there = k .there; class = k .class }
+keeps-append (y ∷ xs) l zero x h = record { later = x; there = h; class = refl }
+keeps-append (y ∷ xs) l (suc o) x h = let k = keeps-append xs l o x h in record { later = k .later; there = k .there; class = k .class }
 
-pub keeps-shut : (b : Bool) (xs : List Object) (p : ℕ) → Keeps xs (setShut b xs p)
+pub keeps-shut : (b : Bool) (xs : List Object) (p : ℕ) → KeepsObjects xs (setShut b xs p)
 keeps-shut b [] p o x h = absurd (Option·none-ne-some _ h)
 keeps-shut b (y ∷ xs) zero zero x h =
     let e : y ≡ x = cc in
-    record { now = record { class = y .class; shut = b; fields = y .fields }; there = refl; class = ap (λ (z : Object). z .class) e }
-keeps-shut b (y ∷ xs) zero (suc o) x h = record { now = x; there = h; class = refl }
-keeps-shut b (y ∷ xs) (suc p) zero x h = record { now = x; there = h; class = refl }
+    record { later = record { class = y .class; shut = b; fields = y .fields }; there = refl; class = ap (λ (z : Object). z .class) e }
+keeps-shut b (y ∷ xs) zero (suc o) x h = record { later = x; there = h; class = refl }
+keeps-shut b (y ∷ xs) (suc p) zero x h = record { later = x; there = h; class = refl }
 keeps-shut b (y ∷ xs) (suc p) (suc o) x h =
     let k = keeps-shut b xs p o x h in
-    record { now = k .now; there = k .there; class = k .class }
+    record { later = k .later; there = k .there; class = k .class }
 
-pub keeps-fields : (l : List Value) (xs : List Object) (p : ℕ) → Keeps xs (setFields l xs p)
+pub keeps-fields : (l : List Value) (xs : List Object) (p : ℕ) → KeepsObjects xs (setFields l xs p)
 keeps-fields l [] p o x h = absurd (Option·none-ne-some _ h)
 keeps-fields l (y ∷ xs) zero zero x h =
     let e : y ≡ x = cc in
-    record { now = record { class = y .class; shut = y .shut; fields = l }; there = refl; class = ap (λ (z : Object). z .class) e }
-keeps-fields l (y ∷ xs) zero (suc o) x h = record { now = x; there = h; class = refl }
-keeps-fields l (y ∷ xs) (suc p) zero x h = record { now = x; there = h; class = refl }
+    record { later = record { class = y .class; shut = y .shut; fields = l }; there = refl; class = ap (λ (z : Object). z .class) e }
+keeps-fields l (y ∷ xs) zero (suc o) x h = record { later = x; there = h; class = refl }
+keeps-fields l (y ∷ xs) (suc p) zero x h = record { later = x; there = h; class = refl }
 keeps-fields l (y ∷ xs) (suc p) (suc o) x h =
     let k = keeps-fields l xs p o x h in
-    record { now = k .now; there = k .there; class = k .class }
+    record { later = k .later; there = k .there; class = k .class }
 
 pub object-last : (xs : List Object) (x : Object) → object (xs ++ (x ∷ [])) (length xs) ≡ some x
 object-last [] x = refl

@@ -21,7 +21,7 @@ use Rattle.representation.specs.Preorder.{splice, replaced}
 use Rattle.block.proofs.Words.{count-is}
 use Rattle.representation.proofs.Preorder.{alone, preorder-length, named-below, records-replaced, frames-replaced}
 use Rattle.tree.specs.declared.Entry.{Entry}
-use Rattle.tree.specs.Entries.{entryOf, entries, frameSum}
+use Rattle.tree.specs.Entries.{rootEntry, treeEntries, frameSum}
 use Rattle.tree.proofs.Trees.{entries-length, size-threads, sum-append, sum-start}
 use Rattle.tree.proofs.EntryWords.{entryWords, words-entry}
 use Rattle.state.specs.Represents.{partsIn, Represents, Rest, StateAt}
@@ -41,51 +41,51 @@ replaced-same (join fs a e l r) (left p) u h = rw (replaced-same l p u h)
 replaced-same (join fs a e l r) (right p) u h = rw (replaced-same r p u h)
 
 -- the entry of a position says nothing of the trees beneath it
-entry-alone : (t : machine.Tree) → entryOf (alone t) ≡ entryOf t
+entry-alone : (t : machine.Tree) → rootEntry (alone t) ≡ rootEntry t
 entry-alone (running a e fs) = refl
 entry-alone (returning v fs) = refl
 entry-alone failed = refl
 entry-alone (join fs a e l r) = refl
 
-alone-entries : (ts : List machine.Tree) → map entryOf (map alone ts) ≡ map entryOf ts
+alone-entries : (ts : List machine.Tree) → map rootEntry (map alone ts) ≡ map rootEntry ts
 alone-entries [] = refl
 alone-entries (t ∷ ts) = rw (entry-alone t, alone-entries ts)
 
 module _ (t : machine.Tree) (n : ℕ) (p : Path) (u : machine.Tree) (h : locate t n ≡ some p) (k : part t p ≡ some u) where
   -- A part replaced: its entries are exchanged for those of the new part, and all others stay.
-  pub entries-replaced : (w : machine.Tree) → entries (replaced t p w) ≡ splice (entries t) n (size u) (entries w)
+  pub entries-replaced : (w : machine.Tree) → treeEntries (replaced t p w) ≡ splice (treeEntries t) n (size u) (treeEntries w)
   entries-replaced w =
       let rs : List machine.Tree = map alone (preorder t) in
       let new : List machine.Tree = map alone (preorder w) in
       let e = alone-entries (preorder t) in
       sym (alone-entries (preorder (replaced t p w)))
-      ∙ ap (map entryOf) (records-replaced t n p u h k w)
-      ∙ map-append entryOf (take n rs) (new ++ drop (n + size u) rs)
-      ∙ rw (map-append entryOf new (drop (n + size u) rs), map-take entryOf n rs, map-drop entryOf (n + size u) rs, e, alone-entries (preorder w))
+      ∙ ap (map rootEntry) (records-replaced t n p u h k w)
+      ∙ map-append rootEntry (take n rs) (new ++ drop (n + size u) rs)
+      ∙ rw (map-append rootEntry new (drop (n + size u) rs), map-take rootEntry n rs, map-drop rootEntry (n + size u) rs, e, alone-entries (preorder w))
 
 -- the frames of a tree are as many as its entries say, and the part at a position begins within them
-listed : (ss : List machine.Tree) → length (flatMap (λ s. reverse (waiting s)) ss) ≡ frameSum (map entryOf ss)
+listed : (ss : List machine.Tree) → length (flatMap (λ s. reverse (waiting s)) ss) ≡ frameSum (map rootEntry ss)
 unfolding flatMap
 listed [] = refl
 listed (s ∷ ss) = length-append (reverse (waiting s)) (flatMap (λ s. reverse (waiting s)) ss) ∙ omega (arith, length-reverse (waiting s), listed ss)
 
-pub frames-sum : (t : machine.Tree) → length (framesOf t) ≡ frameSum (entries t)
+pub frames-sum : (t : machine.Tree) → length (framesOf t) ≡ frameSum (treeEntries t)
 unfolding framesOf
 frames-sum t = listed (preorder t)
 
 pub sum-take : (es : List Entry) (n : ℕ) → frameSum (take n es) ≤ frameSum es
 sum-take es n = omega (arith, sum-append (take n es) (drop n es), ap frameSum (take-append-drop n es))
 
-starts : (t : machine.Tree) (n : ℕ) → n < size t → length (take (frameStart t n) (framesOf t)) ≡ frameSum (take n (entries t))
+starts : (t : machine.Tree) (n : ℕ) → n < size t → length (take (frameStart t n) (framesOf t)) ≡ frameSum (take n (treeEntries t))
 starts t n h =
     let e = sum-start t n (omega arith) in
-    length-take-le (frameStart t n) (framesOf t) (omega (arith, e, frames-sum t, sum-take (entries t) n)) ∙ sym e
+    length-take-le (frameStart t n) (framesOf t) (omega (arith, e, frames-sum t, sum-take (treeEntries t) n)) ∙ sym e
 
 below : (t : machine.Tree) (n : ℕ) (p : Path) → locate t n ≡ some p → n < size t
 below t n p h = named-below t n .0 (p, h)
 
 -- What lies in a block depends on the positions only by their entries.
-pub laid-entries : (st : Stores) (ps qs : List machine.Tree) (fs : List Frame) → map entryOf ps ≡ map entryOf qs → laid (partsIn st ps fs) ≡ laid (partsIn st qs fs)
+pub laid-entries : (st : Stores) (ps qs : List machine.Tree) (fs : List Frame) → map rootEntry ps ≡ map rootEntry qs → laid (partsIn st ps fs) ≡ laid (partsIn st qs fs)
 unfolding laid
 laid-entries st ps qs fs e =
     let same : map positionWords ps ≡ map positionWords qs = sym (words-entries ps) ∙ ap (map entryWords) e ∙ words-entries qs in
@@ -95,15 +95,15 @@ laid-entries st ps qs fs e =
     ((length (rows p Objects) ∷ length (rows p Bindings) ∷ length (rows p Frames) ∷ length rs ∷ [])
     ++ (area Objects (rows p Objects) ++ (area Bindings (rows p Bindings) ++ (area Positions rs ++ area Frames (rows p Frames)))))) same
   where
-    words-entries : (ts : List machine.Tree) → map entryWords (map entryOf ts) ≡ map positionWords ts
+    words-entries : (ts : List machine.Tree) → map entryWords (map rootEntry ts) ≡ map positionWords ts
     words-entries [] = refl
     words-entries (t ∷ ts) = rw (words-entry t, words-entries ts)
 
-few-entries : (st : Stores) (ps qs : List machine.Tree) (fs : List Frame) → map entryOf ps ≡ map entryOf qs → Few (partsIn st ps fs) → Few (partsIn st qs fs)
+few-entries : (st : Stores) (ps qs : List machine.Tree) (fs : List Frame) → map rootEntry ps ≡ map rootEntry qs → Few (partsIn st ps fs) → Few (partsIn st qs fs)
 few-entries st ps qs fs e few Objects = few Objects
 few-entries st ps qs fs e few Bindings = few Bindings
 few-entries st ps qs fs e few Positions =
-    let many : length qs ≡ length ps = sym (length-map qs entryOf) ∙ ap length (sym e) ∙ length-map ps entryOf in
+    let many : length qs ≡ length ps = sym (length-map qs rootEntry) ∙ ap length (sym e) ∙ length-map ps rootEntry in
     rw (length-map qs positionWords, many, ← length-map ps positionWords) (few Positions)
 few-entries st ps qs fs e few Frames = few Frames
 
@@ -111,14 +111,14 @@ few-entries st ps qs fs e few Frames = few Frames
 abbrev pub around : Config → ℕ → machine.Tree → Rest
 around c n u =
     record {
-      before = take n (entries (c .tree));
-      after = drop (n + size u) (entries (c .tree));
+      before = take n (treeEntries (c .tree));
+      after = drop (n + size u) (treeEntries (c .tree));
       outer = take (frameStart (c .tree) n) (framesOf (c .tree));
       later = drop (frameStart (c .tree) n + length (framesOf u)) (framesOf (c .tree));
     }
 
 module _ (c : Config) (n : ℕ) (p : Path) (u : machine.Tree) (at : locate (c .tree) n ≡ some p) (there : part (c .tree) p ≡ some u) where
-  entries-there : (w : machine.Tree) → entries (replaced (c .tree) p w) ≡ around c n u .before ++ (entries w ++ around c n u .after)
+  entries-there : (w : machine.Tree) → treeEntries (replaced (c .tree) p w) ≡ around c n u .before ++ (treeEntries w ++ around c n u .after)
   entries-there w = entries-replaced (c .tree) n p u at there w
 
   frames-there : (w : machine.Tree) → framesOf (replaced (c .tree) p w) ≡ around c n u .outer ++ (framesOf w ++ around c n u .later)
@@ -133,8 +133,8 @@ module _ (c : Config) (n : ℕ) (p : Path) (u : machine.Tree) (at : locate (c .t
       record {
         positions = preorder (c .tree);
         there = record {
-          is = ap entries (sym same) ∙ entries-there u;
-          place = length-take-le n (entries (c .tree)) (omega (arith, entries-length (c .tree)));
+          is = ap treeEntries (sym same) ∙ entries-there u;
+          place = length-take-le n (treeEntries (c .tree)) (omega (arith, entries-length (c .tree)));
         };
         start = starts (c .tree) n l;
         block = h .block ∙ ap (λ (fs : List Frame). bytes (laid (partsIn (c .stores) (preorder (c .tree)) fs))) parts;
@@ -146,7 +146,7 @@ module _ (c : Config) (n : ℕ) (p : Path) (u : machine.Tree) (at : locate (c .t
   pub seen-whole : {now : List ℕ} {st : Stores} {w : machine.Tree} → StateAt now n (around c n u) st w → Represents now (record { stores = st; tree = replaced (c .tree) p w })
   seen-whole {st = st} {w = w} s =
       let t = replaced (c .tree) p w in
-      let same : map entryOf (s .positions) ≡ entries t = s .there .is ∙ sym (entries-there w) in
+      let same : map rootEntry (s .positions) ≡ treeEntries t = s .there .is ∙ sym (entries-there w) in
       record {
         block =
             s .block

@@ -1,7 +1,7 @@
 -- Which objects a thread holds: the lock frames of a run of the frame area, and the run that the thread at a position will resume.
 use mathlib.Core.Path.{_≡_, refl, sym, ap, _∙_}
 use mathlib.Core.Bool.{Bool, true, false, cond}
-use mathlib.Core.List.{List, [], _∷_, _++_, map, reverse, reverse-cons}
+use mathlib.Core.List.{List, [], _∷_, _++_, map}
 use mathlib.Core.Logic.{⊎-elim}
 use Prim.Native.Nat.{ℕ, zero, suc, _+_, _<_, _≤_}
 use native.Mathlib.Omega.{arith}
@@ -17,7 +17,7 @@ use Rattle.machine.specs.declared.Frame.the-variants.{Awaits as awaits, Casts a
 use Rattle.machine.specs.Config as machine
 use Rattle.machine.specs.Config.{running, returning, failed, join}
 use Rattle.machine.specs.Machine.{oneIf, lockFrames, size}
-use Rattle.soundness.proofs.Ends.{frames-append}
+use Rattle.soundness.proofs.Ends.{frames-append, locks-turned}
 use Rattle.block.specs.declared.Area.the-variants.{Positions, Frames}
 use Rattle.block.specs.Layout.{counted}
 use Rattle.block.specs.Block.{preorder, waiting, framesOf, Parts, partsOf, laid}
@@ -26,7 +26,7 @@ use Rattle.representation.specs.Preorder.{framesAbove, isJoin, joinsFrom}
 use Rattle.block.proofs.Words.{count-is}
 use Rattle.representation.proofs.Preorder.{named-below, resumed-run}
 use Rattle.tree.specs.declared.Entry.{Entry}
-use Rattle.tree.specs.Entries.{entryOf, entries, beneathCell, frameSum, blank}
+use Rattle.tree.specs.Entries.{rootEntry, treeEntries, beneathCell, frameSum, blank}
 use Rattle.tree.specs.Parts.{Leftmost}
 use Rattle.tree.proofs.Trees.{sum-append, sum-start}
 use Rattle.state.specs.Represents.{SomeState}
@@ -41,11 +41,6 @@ lock-cons : (o : ℕ) (f : Frame) (fs : List Frame) → lockFrames o (f ∷ fs) 
 lock-cons o (awaits n e) fs = omega arith
 lock-cons o (casts n) fs = omega arith
 lock-cons o (locks p) fs = refl
-
-lock-reverse : (o : ℕ) (fs : List Frame) → lockFrames o (reverse fs) ≡ lockFrames o fs
-lock-reverse o [] = refl
-lock-reverse o (f ∷ fs) =
-    rw (reverse-cons f fs) (frames-append o (reverse fs) (f ∷ []) ∙ omega (arith, lock-cons o f [], lock-cons o f fs, lock-reverse o fs))
 
 -- lock_within: no lock frame from number `from` up to i
 pub record Passed (b : List ℕ) (from to o i : ℕ) : Type 0 where
@@ -79,16 +74,16 @@ locks-said o p f e = rw e
 -- the joins just before a position are those that the code finds
 module _ (ss : List machine.Tree) where
   abbrev beneathAt : ℕ → ℕ
-  beneathAt k = beneathCell (getD (map entryOf ss) k blank .cell)
+  beneathAt k = beneathCell (getD (map rootEntry ss) k blank .cell)
 
-  beneath-join : (k : ℕ) (u : machine.Tree) → getD ss k failed ≡ u → beneathAt k ≡ beneathCell (entryOf u .cell)
-  beneath-join k u e = ap (λ (x : Entry). beneathCell (x .cell)) (List·getD-map entryOf ss k failed ∙ ap entryOf e)
+  beneath-join : (k : ℕ) (u : machine.Tree) → getD ss k failed ≡ u → beneathAt k ≡ beneathCell (rootEntry u .cell)
+  beneath-join k u e = ap (λ (x : Entry). beneathCell (x .cell)) (List·getD-map rootEntry ss k failed ∙ ap rootEntry e)
 
-  module _ (n r : ℕ) (run : Leftmost (map entryOf ss) (suc n) r) where
+  module _ (n r : ℕ) (run : Leftmost (map rootEntry ss) (suc n) r) where
     found-thread : beneathAt n ≡ 0 → r ≡ suc n
     found-thread z = ⊎-elim (λ h. absurd (omega (arith, run .joins n (omega arith) (omega arith)))) (λ h. omega (arith, run .inside)) (lt-or-le r (suc n))
 
-    found-join : beneathAt n ≡ 2 → Leftmost (map entryOf ss) n r
+    found-join : beneathAt n ≡ 2 → Leftmost (map rootEntry ss) n r
     found-join z =
         record {
           inside = ⊎-elim (λ h. omega arith) (λ h. absurd (omega (arith, run .first n (omega (arith, run .inside))))) (lt-or-le r (suc n));
@@ -96,13 +91,13 @@ module _ (ss : List machine.Tree) where
           first = run .first;
         }
 
-    found-step : (u : machine.Tree) → getD ss n failed ≡ u → (Leftmost (map entryOf ss) n r → r ≡ joinsFrom ss n) → r ≡ cond (isJoin u) (joinsFrom ss n) (suc n)
+    found-step : (u : machine.Tree) → getD ss n failed ≡ u → (Leftmost (map rootEntry ss) n r → r ≡ joinsFrom ss n) → r ≡ cond (isJoin u) (joinsFrom ss n) (suc n)
     found-step (running a e fs) g k = found-thread (beneath-join n _ g)
     found-step (returning v fs) g k = found-thread (beneath-join n _ g)
     found-step failed g k = found-thread (beneath-join n _ g)
     found-step (join fs a e x y) g k = k (found-join (beneath-join n _ g))
 
-  found : (n r : ℕ) → Leftmost (map entryOf ss) n r → r ≡ joinsFrom ss n
+  found : (n r : ℕ) → Leftmost (map rootEntry ss) n r → r ≡ joinsFrom ss n
   found zero r run = omega (arith, run .inside)
   found (suc n) r run = found-step n r run (getD ss n failed) refl (found n r)
 
@@ -124,13 +119,13 @@ pub held : (b : List ℕ) (i o first from to : ℕ) (r : Bool)
 held b i o first from to r run f g within c p u h at there =
     let t = c .tree in
     let few : counted b Positions ≤ POSITIONS = rw (h .block) (rw (count-is (partsOf c) Positions) (h .few Positions)) in
-    let same : entriesIn b ≡ entries t = entries-said b (partsOf c) (h .block) few (h .storable Positions) in
+    let same : entriesIn b ≡ treeEntries t = entries-said b (partsOf c) (h .block) few (h .storable Positions) in
     let l : i < size t = named-below t i .0 (p, at) in
     let e : i + 1 ≡ suc i = omega arith in
     let k : first ≡ joinsFrom (preorder t) i = found (preorder t) i first (rw same at run) in
     let from-is : from ≡ frameStart t (joinsFrom (preorder t) i) = f ∙ rw (same, ← k) (sum-start t first (omega (arith, run .inside))) in
     let to-is : to ≡ frameStart t (suc i) = g ∙ rw (same, e) (sum-start t (suc i) (omega arith)) in
-    let room : to ≤ length (framesOf t) = omega (arith, frames-sum t, sum-take (entries t) (suc i), sum-start t (suc i) (omega arith)) in
+    let room : to ≤ length (framesOf t) = omega (arith, frames-sum t, sum-take (treeEntries t) (suc i), sum-start t (suc i) (omega arith)) in
     let own : List Frame = waiting u in
     let above : List Frame = framesAbove [] t p in
     within (partsOf c) (h .block) room
@@ -138,5 +133,5 @@ held b i o first from to r run f g within c p u h at there =
     (ap (λ (m : ℕ). lockFrames o (slice m to (framesOf t))) from-is
     ∙ ap (λ (m : ℕ). lockFrames o (slice (frameStart t (joinsFrom (preorder t) i)) m (framesOf t))) to-is
     ∙ ap (lockFrames o) (resumed-run t i p u at there)
-    ∙ lock-reverse o (own ++ above)
+    ∙ locks-turned o (own ++ above)
     ∙ frames-append o own above)

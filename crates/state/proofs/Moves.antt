@@ -9,12 +9,14 @@ use lib.Seq.{take-at, drop-at, getD-at, append-snoc}
 use Rattle.words.specs.Word.{bytes}
 use Rattle.limits.specs.Limits.{OBJECTS, BINDINGS, POSITIONS, FRAMES}
 use Rattle.script.specs.Lists.{_∈_, Every}
+use Rattle.script.proofs.Lists.{every-in}
 use Rattle.machine.specs.declared.Value.{Value}
 use Rattle.machine.specs.declared.Frame.{Frame}
 use Rattle.machine.specs.declared.Frame.the-variants.{Awaits as awaits}
 use Rattle.machine.specs.Config as machine
 use Rattle.machine.specs.Config.{Object, Binding, Stores, running, returning, failed, join}
 use Rattle.machine.specs.Machine.{size, frameCount}
+use Rattle.machine.proofs.Positions.{size-some}
 use Rattle.block.specs.declared.Area.the-variants.{Objects, Bindings, Positions, Frames}
 use Rattle.block.specs.Layout.{counted}
 use Rattle.block.specs.Values.{Storable}
@@ -23,19 +25,18 @@ use Rattle.representation.specs.Changed.{withObjects, withBindings, withFrames}
 use Rattle.block.specs.Fits.{Few, StorableIn}
 use Rattle.block.proofs.Trees.{frames-join}
 use Rattle.block.proofs.Words.{count-is}
+use Rattle.representation.proofs.Changes.{map-set}
 use Rattle.areas.proofs.Laws.{Reads}
 use Rattle.tree.specs.declared.Cell.{Cell}
 use Rattle.tree.specs.declared.Cell.the-variants.{Running}
 use Rattle.tree.specs.declared.Entry.{Entry}
 use Rattle.tree.specs.declared.Tree.{Tree}
-use Rattle.tree.specs.Entries.{cellOf, entryOf, entries, frameSum, used, Bounded, resultOf}
+use Rattle.tree.specs.Entries.{cellOf, rootEntry, treeEntries, frameSum, used, Bounded, resultOf}
 use Rattle.tree.specs.Parts.{PartAt, Forked, Failing, Joined, FramesWithin}
-use Rattle.tree.proofs.Trees.{size-some, entries-thread}
-use Rattle.tree.proofs.Worded.{every-in}
+use Rattle.tree.proofs.Trees.{entries-thread}
 use Rattle.tree.proofs.Parts.{used-length, part-before, part-after, part-inside, part-set}
 use Rattle.state.specs.Represents.{Rest, StateAt}
 use Rattle.state.specs.Positions.{entryAt, entriesIn, withPositions}
-use Rattle.state.proofs.Putting.{map-set}
 use Rattle.state.proofs.Storing.{storable-frames, storable-positions, storable-objects, storable-bindings, set-in, exchanged-in, returned-entry}
 use Rattle.state.proofs.Seeing.{around, lying, beneath, frames-first, frames-thread, frames-many, seen-few, bindings-counted, frames-counted, seen-part, seen-waiting, frames-begin, map-take, map-drop}
 
@@ -135,7 +136,7 @@ module _ {b : List ℕ} {i : ℕ} {x : Rest} {st : Stores} {u : machine.Tree} (s
 
 -- The part: another, with other positions and frames.
 module _ {b : List ℕ} {i : ℕ} {x : Rest} {st : Stores} {u : machine.Tree} (s : StateAt b i x st u) (w : machine.Tree) (ts : List machine.Tree) where
-  changed : {c : List ℕ} → PartAt (map entryOf ts) i (x .before) w (x .after) → length ts ≤ POSITIONS
+  changed : {c : List ℕ} → PartAt (map rootEntry ts) i (x .before) w (x .after) → length ts ≤ POSITIONS
       → ((t : machine.Tree) → t ∈ ts → Storable (returned t)) → (fs : List Frame) → fs ≡ around x (framesOf w)
       → frameCount w + length (x .outer) + length (x .later) ≤ FRAMES → c ≡ bytes (laid (withPositions (withFrames (lies s) fs) ts)) → StateAt c i x st w
   changed p room k fs e l is =
@@ -149,7 +150,7 @@ module _ {b : List ℕ} {i : ℕ} {x : Rest} {st : Stores} {u : machine.Tree} (s
         storable = storable-positions (withFrames (lies s) (around x (framesOf w))) (storable-frames (lies s) (s .storable) (around x (framesOf w))) ts k;
       }
 
-entry-of : (w : machine.Tree) (cell : Cell) (n : ℕ) → cellOf w ≡ cell → length (waiting w) ≡ n → record { cell = cell; frames = n } ≡ entryOf w
+entry-of : (w : machine.Tree) (cell : Cell) (n : ℕ) → cellOf w ≡ cell → length (waiting w) ≡ n → record { cell = cell; frames = n } ≡ rootEntry w
 entry-of w cell n e f = rw (← e, ← f)
 
 -- the value of a thread, by its cell
@@ -158,25 +159,25 @@ cell-storable w cell e v = rw (returned-entry w, e) v
 
 -- what put_entry and put_tree ensure, of the bytes b before and c after
 abbrev pub Puts : List ℕ → List ℕ → ℕ → Entry → Type 0
-Puts b c i y = (p : Parts) (t : machine.Tree) → b ≡ bytes (laid p) → i < length (p .positions) → y ≡ entryOf t → c ≡ bytes (laid (withPositions p (set (p .positions) i t)))
+Puts b c i y = (p : Parts) (t : machine.Tree) → b ≡ bytes (laid p) → i < length (p .positions) → y ≡ rootEntry t → c ≡ bytes (laid (withPositions p (set (p .positions) i t)))
 
 abbrev pub Writes : List ℕ → List ℕ → Tree → Type 0
-Writes b c self = (p : Parts) (ts : List machine.Tree) → b ≡ bytes (laid p) → map entryOf ts ≡ used self → c ≡ bytes (laid (withPositions p ts))
+Writes b c self = (p : Parts) (ts : List machine.Tree) → b ≡ bytes (laid p) → map rootEntry ts ≡ used self → c ≡ bytes (laid (withPositions p ts))
 
 -- one position put: the part, which is a thread, is another thread
 module _ {b : List ℕ} {i : ℕ} {x : Rest} {st : Stores} {u : machine.Tree} (s : StateAt b i x st u) (one : size u ≡ 1) (w : machine.Tree) (too : size w ≡ 1) where
   abbrev one-put : List machine.Tree
   one-put = set (s .positions) i w
 
-  put-part : PartAt (map entryOf one-put) i (x .before) w (x .after)
+  put-part : PartAt (map rootEntry one-put) i (x .before) w (x .after)
   put-part =
       record {
-        is = map-set entryOf (s .positions) i w ∙ part-set (s .there) one (entryOf w) ∙ ap (λ (l : List Entry). x .before ++ (l ++ x .after)) (sym (entries-thread w too));
+        is = sym (map-set rootEntry (s .positions) i w) ∙ part-set (s .there) one (rootEntry w) ∙ ap (λ (l : List Entry). x .before ++ (l ++ x .after)) (sym (entries-thread w too));
         place = s .there .place;
       }
 
   position-inside : i < length (s .positions)
-  position-inside = omega (arith, part-inside (s .there), size-some u, length-map (s .positions) entryOf)
+  position-inside = omega (arith, part-inside (s .there), size-some u, length-map (s .positions) rootEntry)
 
   put-storable : Storable (returned w) → (t : machine.Tree) → t ∈ one-put → Storable (returned t)
   put-storable v t m = ⊎-elim (λ (e : t ≡ w). rw e v) (s .storable Positions t) (set-in (s .positions) i w t m)
@@ -189,22 +190,22 @@ module _ {b : List ℕ} {i : ℕ} {x : Rest} {st : Stores} {u : machine.Tree} (s
   abbrev part-put : List machine.Tree
   part-put = take i (s .positions) ++ (preorder w ++ drop (i + size u) (s .positions))
 
-  put-same : map entryOf part-put ≡ x .before ++ (entries w ++ x .after)
+  put-same : map rootEntry part-put ≡ x .before ++ (treeEntries w ++ x .after)
   put-same =
       let ps = s .positions in
-      map-append entryOf (take i ps) (preorder w ++ drop (i + size u) ps)
+      map-append rootEntry (take i ps) (preorder w ++ drop (i + size u) ps)
       ∙ rw (
-        map-append entryOf (preorder w) (drop (i + size u) ps),
-        map-take entryOf i ps,
-        map-drop entryOf (i + size u) ps,
+        map-append rootEntry (preorder w) (drop (i + size u) ps),
+        map-take rootEntry i ps,
+        map-drop rootEntry (i + size u) ps,
         part-before (s .there),
         part-after (s .there),
       )
 
-  put-used : map entryOf part-put ≡ used r
+  put-used : map rootEntry part-put ≡ used r
   put-used = put-same ∙ sym (now .is)
 
-  put-there : PartAt (map entryOf part-put) i (x .before) w (x .after)
+  put-there : PartAt (map rootEntry part-put) i (x .before) w (x .after)
   put-there = record { is = put-same; place = now .place }
 
   part-storable : Every (λ (t : machine.Tree). Storable (returned t)) (preorder w) → (t : machine.Tree) → t ∈ part-put → Storable (returned t)
@@ -213,7 +214,7 @@ module _ {b : List ℕ} {i : ℕ} {x : Rest} {st : Stores} {u : machine.Tree} (s
       (s .storable Positions t) (exchanged-in (s .positions) i (i + size u) (preorder w) t m)
 
   put-room : length part-put ≤ POSITIONS
-  put-room = omega (arith, ap length put-used, length-map part-put entryOf, used-length r bounded, bounded .small)
+  put-room = omega (arith, ap length put-used, length-map part-put rootEntry, used-length r bounded, bounded .small)
 
 -- frames as they are, of a part with as many
 module _ {b : List ℕ} {i : ℕ} {x : Rest} {st : Stores} {u : machine.Tree} (s : StateAt b i x st u) (w : machine.Tree) (e : framesOf u ≡ framesOf w) where
@@ -226,7 +227,7 @@ module _ {b c : List ℕ} {i : ℕ} {x : Rest} {st : Stores} where
       → waiting w ≡ waiting u → StateAt b i x st u → StateAt c i x st w
   settled {u} {w} cell n m put v one too e f s =
       let same : framesOf u ≡ framesOf w = frames-thread u one ∙ ap reverse (sym f) ∙ sym (frames-thread w too) in
-      let entry : record { cell = cell; frames = n } ≡ entryOf w = entry-of w cell n e (ap length f ∙ sym (m ∙ seen-waiting s)) in
+      let entry : record { cell = cell; frames = n } ≡ rootEntry w = entry-of w cell n e (ap length f ∙ sym (m ∙ seen-waiting s)) in
       changed s w (one-put s one w too) (put-part s one w too) (put-few s one w too) (put-storable s one w too (cell-storable w cell e v)) (around x (framesOf u)) (ap (around x) same) (same-room s w same)
       (put (lies s) w (s .block) (position-inside s one w too) entry)
 
@@ -264,7 +265,7 @@ module _ {b c d : List ℕ} {i : ℕ} {x : Rest} {st : Stores} where
   pushed {a₀} {e₀} {fs} at n a e f room m h ins put s =
       let u = running a₀ e₀ fs in
       let w = running a e (f ∷ fs) in
-      let entry : record { cell = Running a e; frames = n + 1 } ≡ entryOf w = entry-of w (Running a e) (n + 1) refl (omega (arith, m, seen-waiting s)) in
+      let entry : record { cell = Running a e; frames = n + 1 } ≡ rootEntry w = entry-of w (Running a e) (n + 1) refl (omega (arith, m, seen-waiting s)) in
       let here : at ≡ length (x .outer) + length (reverse fs) = omega (arith, h, m, seen-waiting s, frames-begin s, length-reverse fs) in
       let now : take at (around x (framesOf u)) ++ f ∷ drop at (around x (framesOf u)) ≡ around x (framesOf w) =
       rw (frames-thread u refl, frames-thread w refl, reverse-cons f fs) (put-in (x .outer) (reverse fs) (x .later) at here f)
@@ -278,7 +279,7 @@ module _ {b c d : List ℕ} {i : ℕ} {x : Rest} {st : Stores} where
       → StateAt b i x st (returning v (f ∷ fs)) → StateAt d i x st w
   popped {w} {v} {f} {fs} at n cell m h rem put value one e k s =
       let u = returning v (f ∷ fs) in
-      let entry : record { cell = cell; frames = n } ≡ entryOf w = entry-of w cell n e (ap length k ∙ omega (arith, m, seen-waiting s)) in
+      let entry : record { cell = cell; frames = n } ≡ rootEntry w = entry-of w cell n e (ap length k ∙ omega (arith, m, seen-waiting s)) in
       let here : at ≡ length (x .outer) + length (reverse fs) = omega (arith, h, m, seen-waiting s, frames-begin s, length-reverse fs) in
       let now : take at (around x (framesOf u)) ++ drop (at + 1) (around x (framesOf u)) ≡ around x (framesOf w) =
       rw (frames-thread u refl, frames-thread w one, k, reverse-cons f fs) (taken-out (x .outer) (reverse fs) (x .later) at here (f ∷ []) 1 refl)

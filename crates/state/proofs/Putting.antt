@@ -3,7 +3,7 @@ use mathlib.Core.Path.{_≡_, refl, sym, ap, _∙_}
 use mathlib.Core.List.{List, [], _∷_, _++_, append-assoc, append-nil, map, flatten}
 use Prim.Native.Nat.{ℕ, zero, suc, _+_, _*_, _-_, _<_, _≤_}
 use native.Mathlib.Omega.{arith}
-use lib.ListN.{length, getD, set, take, replicate, length-append, length-map, replicate-append-replicate, drop-of-length-le, List·getD-map, List·getD-eq-default}
+use lib.ListN.{length, getD, set, take, replicate, length-append, length-map, replicate-append-replicate, List·getD-map, List·getD-eq-default}
 use lib.Seq.{sets, sets-eq, take-suc, length-take-le, getD-take, drop-at}
 use Rattle.words.specs.Word.{bytes}
 use Rattle.slices.specs.Put.{putWord}
@@ -17,8 +17,7 @@ use Rattle.block.specs.Rows.{filled}
 use Rattle.block.specs.Layout.{WORDS, width, begins, counted, countWord, countByte, wordByte}
 use Rattle.block.specs.Values.{valueWords}
 use Rattle.block.specs.Block.{positionWords, Parts, rows, area, headerWords, laid}
-use Rattle.representation.specs.Changed.{putWords}
-use Rattle.representation.proofs.Changes.{put-words}
+use Rattle.representation.proofs.Changes.{put-words-bytes, map-set, sets-all, put-words}
 use Rattle.block.proofs.Rows.{Wide, row-at, filled-nil, set-filled, sets-inside}
 use Rattle.block.proofs.Values.{value-width, value-listed}
 use Rattle.block.proofs.Words.{position-width, count-is, rows-wide, length-area, ahead, behind, apart, before-length}
@@ -26,7 +25,7 @@ use Rattle.tree.specs.declared.Cell.{Cell}
 use Rattle.tree.specs.declared.Cell.the-variants.{Failed, Running, Returning, Join}
 use Rattle.tree.specs.declared.Entry.{Entry}
 use Rattle.tree.specs.declared.Tree.{Tree}
-use Rattle.tree.specs.Entries.{entryOf, blank, used, Bounded}
+use Rattle.tree.specs.Entries.{rootEntry, blank, used, Bounded}
 use Rattle.tree.proofs.Parts.{used-length}
 use Rattle.tree.proofs.EntryWords.{cellWords, entryWords, words-entry}
 use Rattle.state.specs.Positions.{rowAt, withPositions}
@@ -41,7 +40,7 @@ row-width (Running a e) n = refl
 row-width (Returning v) n = omega (arith, length-append (valueWords v) (n ∷ []), value-width v)
 row-width (Join a e) n = refl
 
-pub row-said : (x : Entry) (c : Cell) (r : List ℕ) → x .cell ≡ c → r ≡ cellWords c (x .frames) → (length r ≡ width Positions) × ((t : machine.Tree) → x ≡ entryOf t → r ≡ positionWords t)
+pub row-said : (x : Entry) (c : Cell) (r : List ℕ) → x .cell ≡ c → r ≡ cellWords c (x .frames) → (length r ≡ width Positions) × ((t : machine.Tree) → x ≡ rootEntry t → r ≡ positionWords t)
 row-said x c r e is =
     (ap length is ∙ row-width c (x .frames), λ t h. is ∙ ap (λ (k : Cell). cellWords k (x .frames)) (sym e) ∙ ap entryWords h ∙ words-entry t)
 
@@ -51,20 +50,20 @@ row-in f [] i y d h = absurd (omega arith)
 row-in f (x ∷ xs) zero y d h = refl
 row-in f (x ∷ xs) (suc i) y d h = row-in f xs i y d (omega arith)
 
-module _ (self : Tree) (bounded : Bounded self) (ts : List machine.Tree) (is : map entryOf ts ≡ used self) where
+module _ (self : Tree) (bounded : Bounded self) (ts : List machine.Tree) (is : map rootEntry ts ≡ used self) where
   -- the tree has as many records as positions
   records-many : length (map positionWords ts) ≡ self .len
-  records-many = omega (arith, used-length self bounded, ap length is, length-map ts positionWords, length-map ts entryOf)
+  records-many = omega (arith, used-length self bounded, ap length is, length-map ts positionWords, length-map ts rootEntry)
 
   pub row-past : (i : ℕ) → self .len ≤ i → replicate (width Positions) 0 ≡ rowAt ts i
   row-past i h = sym (List·getD-eq-default (map positionWords ts) (replicate (width Positions) 0) {n = i} (omega (arith, records-many)))
 
-  pub row-there : (i : ℕ) (r : List ℕ) → i < self .len → ((u : machine.Tree) → getD (self .entries) i blank ≡ entryOf u → r ≡ positionWords u) → r ≡ rowAt ts i
+  pub row-there : (i : ℕ) (r : List ℕ) → i < self .len → ((u : machine.Tree) → getD (self .entries) i blank ≡ rootEntry u → r ≡ positionWords u) → r ≡ rowAt ts i
   row-there i r h said =
       let u = getD ts i failed in
       let l : i < length ts = omega (arith, records-many, length-map ts positionWords) in
-      let e : getD (self .entries) i blank ≡ entryOf u =
-      sym (getD-take (self .len) (self .entries) i blank h) ∙ ap (λ (es : List Entry). getD es i blank) (sym is) ∙ List·getD-map entryOf ts i failed
+      let e : getD (self .entries) i blank ≡ rootEntry u =
+      sym (getD-take (self .len) (self .entries) i blank h) ∙ ap (λ (es : List Entry). getD es i blank) (sym is) ∙ List·getD-map rootEntry ts i failed
       in
       said u e ∙ sym (row-in positionWords ts i (replicate (width Positions) 0) failed l)
 
@@ -195,13 +194,13 @@ module _ (old : Parts) (qs : List machine.Tree) (m : ℕ) (h : length (old .posi
 -- put_tree: the first i records are those of the tree
 abbrev pub Writing : List ℕ → Tree → List ℕ → ℕ → Type 0
 Writing b self now i =
-    (p : Parts) (ts : List machine.Tree) → b ≡ bytes (laid p) → map entryOf ts ≡ used self → now ≡ bytes (sets (laid p) (begins Positions) (records (map positionWords ts) i))
+    (p : Parts) (ts : List machine.Tree) → b ≡ bytes (laid p) → map rootEntry ts ≡ used self → now ≡ bytes (sets (laid p) (begins Positions) (records (map positionWords ts) i))
 
 pub write-none : (b : List ℕ) (self : Tree) → Writing b self b 0
 write-none b self p ts is same = is
 
 module _ (b : List ℕ) (self : Tree) (now next : List ℕ) where
-  pub write-more : (i : ℕ) (row : List ℕ) → Writing b self now i → ((ts : List machine.Tree) → map entryOf ts ≡ used self → row ≡ rowAt ts i)
+  pub write-more : (i : ℕ) (row : List ℕ) → Writing b self now i → ((ts : List machine.Tree) → map rootEntry ts ≡ used self → row ≡ rowAt ts i)
       → ((ws : List ℕ) → now ≡ bytes ws → next ≡ bytes (sets ws (begins Positions + width Positions * i) row))
       → Writing b self next (i + 1)
   write-more i row was said put p ts is same =
@@ -219,7 +218,7 @@ module _ (b : List ℕ) (self : Tree) (now next : List ℕ) where
       ∙ ap (λ (k : ℕ). sets (laid p) (begins Positions) (records rs k)) (sym s))
 
   pub written : (m : ℕ) → Bounded self → counted b Positions ≤ m → self .len ≤ m → m ≤ POSITIONS → Writing b self now m → next ≡ putWord now (countByte Positions) (self .len)
-      → (p : Parts) (ts : List machine.Tree) → b ≡ bytes (laid p) → map entryOf ts ≡ used self → next ≡ bytes (laid (withPositions p ts))
+      → (p : Parts) (ts : List machine.Tree) → b ≡ bytes (laid p) → map rootEntry ts ≡ used self → next ≡ bytes (laid (withPositions p ts))
   written m bounded h k l all put p ts is same =
       let n = records-many self bounded ts same in
       let old : counted b Positions ≡ length (p .positions) = rw is (count-is p Positions ∙ length-map (p .positions) positionWords) in
@@ -229,18 +228,6 @@ module _ (b : List ℕ) (self : Tree) (now next : List ℕ) where
       ∙ positions-put p ts m (omega arith) (omega (arith, length-map ts positionWords)) l
 
 -- one position put
-pub map-set : {A B : Type 0} (f : A → B) (xs : List A) (i : ℕ) (x : A) → map f (set xs i x) ≡ set (map f xs) i (f x)
-map-set f [] i x = refl
-map-set f (y ∷ ys) zero x = refl
-map-set f (y ∷ ys) (suc i) x = rw (map-set f ys i x)
-
-sets-bytes : (ws : List ℕ) (i : ℕ) (vs : List ℕ) → bytes (sets ws i vs) ≡ putWords (bytes ws) (2 * i) vs
-sets-bytes ws i [] = refl
-sets-bytes ws i (v ∷ vs) = let e : 2 * i + 2 ≡ 2 * suc i = omega arith in rw (put-bytes ws i v, e) (sets-bytes (set ws i v) (suc i) vs)
-
-sets-all : (l vs : List ℕ) → length l ≡ length vs → sets l 0 vs ≡ vs
-sets-all l vs e = sets-eq vs l 0 (omega arith) ∙ ap (λ (z : List ℕ). vs ++ z) (drop-of-length-le l {i = 0 + length vs} (omega arith)) ∙ append-nil vs
-
 pub position-put : (b c row : List ℕ) (i : ℕ) (p : Parts) (t : machine.Tree) → i < POSITIONS → i < length (p .positions) → row ≡ positionWords t → b ≡ bytes (laid p)
     → ((ws : List ℕ) → b ≡ bytes ws → c ≡ bytes (sets ws (begins Positions + width Positions * i) row))
     → c ≡ bytes (laid (withPositions p (set (p .positions) i t)))
@@ -249,11 +236,11 @@ position-put b c row i p t room h e is put =
     let z : begins Positions + width Positions * i ≡ begins Positions + width Positions * i + 0 = omega arith in
     let l : i < length (rows p Positions) = rw (length-map (p .positions) positionWords) h in
     let r : rows (withPositions p (set (p .positions) i t)) Positions ≡ set (rows p Positions) i (sets (getD (rows p Positions) i []) 0 (positionWords t)) =
-    map-set positionWords (p .positions) i t
+    sym (map-set positionWords (p .positions) i t)
     ∙ ap (set (rows p Positions) i) (sym (ap (λ (w : List ℕ). sets w 0 (positionWords t)) (row-at positionWords (p .positions) i failed h) ∙ sets-all (positionWords g) (positionWords t) (position-width g ∙ sym (position-width t))))
     in
     put (laid p) is
     ∙ ap (λ (w : List ℕ). bytes (sets (laid p) (begins Positions + width Positions * i) w)) e
     ∙ ap (λ (n : ℕ). bytes (sets (laid p) n (positionWords t))) z
-    ∙ sets-bytes (laid p) (begins Positions + width Positions * i + 0) (positionWords t)
+    ∙ sym (put-words-bytes (laid p) (begins Positions + width Positions * i + 0) (positionWords t))
     ∙ put-words p (withPositions p (set (p .positions) i t)) Positions refl i 0 (positionWords t) l room (omega (arith, position-width t)) r

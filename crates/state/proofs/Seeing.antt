@@ -9,6 +9,7 @@ use Rattle.machine.specs.declared.Frame.{Frame}
 use Rattle.machine.specs.Config as machine
 use Rattle.machine.specs.Config.{Stores, running, returning, failed, join}
 use Rattle.machine.specs.Machine.{size, frameCount}
+use Rattle.machine.proofs.Positions.{size-some}
 use Rattle.block.specs.declared.Area.{Area}
 use Rattle.block.specs.declared.Area.the-variants.{Objects, Bindings, Positions, Frames}
 use Rattle.block.specs.Layout.{most, counted}
@@ -16,9 +17,8 @@ use Rattle.block.specs.Block.{objectWords, bindingWords, frameWords, preorder, 
 use Rattle.block.proofs.Trees.{frames-join}
 use Rattle.block.proofs.Words.{laid-bytes, count-is}
 use Rattle.tree.specs.declared.Entry.{Entry}
-use Rattle.tree.specs.Entries.{entryOf, frameSum}
-use Rattle.tree.specs.Parts.{PartAt, Stands, FramesWithin}
-use Rattle.tree.proofs.Trees.{size-some}
+use Rattle.tree.specs.Entries.{rootEntry, frameSum}
+use Rattle.tree.specs.Parts.{PartAt, HasPart, FramesWithin}
 use Rattle.tree.proofs.Parts.{part-before, part-inside, part-root}
 use Rattle.state.specs.Represents.{partsIn, Rest, StateAt, SomeState}
 use Rattle.state.specs.Positions.{entryAt, entriesIn}
@@ -102,7 +102,7 @@ module _ {b : List ℕ} {i : ℕ} {x : Rest} {st : Stores} {u : machine.Tree} (s
       ∙ omega (arith, length-append (x .outer) (framesOf u ++ x .later), length-append (framesOf u) (x .later), frames-many u)
 
   -- the position, and the entry there
-  pub seen-entries : entriesIn b ≡ map entryOf (s .positions)
+  pub seen-entries : entriesIn b ≡ map rootEntry (s .positions)
   seen-entries = entries-said b (lying x st (s .positions) (framesOf u)) (s .block) (seen-few Positions) (s .storable Positions)
 
   pub seen-part : PartAt (entriesIn b) i (x .before) u (x .after)
@@ -114,7 +114,7 @@ module _ {b : List ℕ} {i : ℕ} {x : Rest} {st : Stores} {u : machine.Tree} (s
   pub seen-room : i < POSITIONS
   seen-room = omega (arith, seen-inside, seen-few Positions)
 
-  pub seen-entry : entryAt b i ≡ entryOf u
+  pub seen-entry : entryAt b i ≡ rootEntry u
   seen-entry = sym (entry-there b i seen-inside) ∙ part-root seen-part
 
   pub seen-waiting : entryAt b i .frames ≡ length (waiting u)
@@ -132,5 +132,5 @@ module _ {b : List ℕ} {i : ℕ} {x : Rest} {st : Stores} {u : machine.Tree} (s
   frames-inside at k h many = omega (arith, h, frames-begin, many .part seen-part, frames-counted)
 
 -- something is seen, so a part stands there
-pub stands : {b : List ℕ} {i : ℕ} → SomeState b i → Stands (entriesIn b) i
+pub stands : {b : List ℕ} {i : ℕ} → SomeState b i → HasPart (entriesIn b) i
 stands s = record { before = s .rest .before; part = s .part; after = s .rest .after; there = seen-part (s .seen) }

@@ -15,7 +15,7 @@ use Rattle.block.specs.Block.{returned, Parts}
 use Rattle.block.specs.Fits.{StorableIn, AllStorable}
 use Rattle.representation.specs.Changed.{withObjects, withBindings, withFrames}
 use Rattle.tree.specs.declared.Entry.{Entry}
-use Rattle.tree.specs.Entries.{entryOf, resultOf}
+use Rattle.tree.specs.Entries.{rootEntry, resultOf}
 use Rattle.state.specs.Positions.{withPositions}
 
 module _ (p : Parts) (h : AllStorable p) where
@@ -61,7 +61,7 @@ exchanged-in xs i k ys x m =
     (List·Memᴰ·append-cases (take i xs) m)
 
 -- the value of a position is that of its entry
-pub returned-entry : (t : machine.Tree) → returned t ≡ resultOf (entryOf t .cell)
+pub returned-entry : (t : machine.Tree) → returned t ≡ resultOf (rootEntry t .cell)
 returned-entry (running a e fs) = refl
 returned-entry (returning v fs) = refl
 returned-entry failed = refl
@@ -70,10 +70,10 @@ returned-entry (join fs a e l r) = refl
 -- so positions with the same entries are storable alike
 pub storable-entries :
     (ps qs : List machine.Tree)
-    → map entryOf ps ≡ map entryOf qs
+    → map rootEntry ps ≡ map rootEntry qs
     → ((t : machine.Tree) → t ∈ ps → Storable (returned t))
     → (t : machine.Tree) → t ∈ qs → Storable (returned t)
 storable-entries ps qs e h t m =
-    let a = Memᴰ·of-map entryOf ps (subst (λ (es : List Entry). entryOf t ∈ es) (sym e) (Memᴰ·map entryOf m)) in
+    let a = Memᴰ·of-map rootEntry ps (subst (λ (es : List Entry). rootEntry t ∈ es) (sym e) (Memᴰ·map rootEntry m)) in
     let same : returned t ≡ returned (a .0) = returned-entry t ∙ ap (λ (x : Entry). resultOf (x .cell)) (sym (a .2)) ∙ sym (returned-entry (a .0)) in
     rw same (h (a .0) (a .1))

@@ -29,7 +29,7 @@ use Rattle.tree.specs.declared.Cell.{Cell}
 use Rattle.tree.specs.declared.Cell.the-variants.{Failed, Running, Returning, Join}
 use Rattle.tree.specs.declared.Entry.{Entry}
 use Rattle.tree.specs.declared.Tree.{Tree}
-use Rattle.tree.specs.Entries.{entryOf, beneathCell, blank, used, resultOf, Worded}
+use Rattle.tree.specs.Entries.{rootEntry, beneathCell, blank, used, resultOf, Worded}
 use Rattle.tree.proofs.Lists.{over-turn, over-length, over-take}
 use Rattle.tree.proofs.Parts.{used-length}
 use Rattle.tree.proofs.Worded.{every-append}
@@ -50,7 +50,7 @@ module _ (k a e : ℕ) (v : Value) where
   failed-said f g h = rw (ne-eqb k RUNNING f, ne-eqb k RETURNING g, ne-eqb k JOIN h)
 
 -- the words of a tree's root say its entry
-pub entry-back : (t : machine.Tree) → Storable (returned t) → entryFrom (wordOf (positionWords t)) ≡ entryOf t
+pub entry-back : (t : machine.Tree) → Storable (returned t) → entryFrom (wordOf (positionWords t)) ≡ rootEntry t
 entry-back (running a e fs) s = refl
 entry-back (returning v fs) s =
     let row = RETURNING ∷ 0 ∷ 0 ∷ [] in
@@ -100,16 +100,16 @@ module _ (b : List ℕ) where
     word-said : (i : ℕ) → i < POSITIONS → i < length (p .positions) → (j : ℕ) → j < width Positions → wordIn b Positions i j ≡ getD (positionWords (getD (p .positions) i failed)) j 0
     word-said i room l j hj = rw is (word-is p Positions i j room hj ∙ ap (λ (r : List ℕ). getD r j 0) (row-at positionWords (p .positions) i failed l))
 
-    pub entries-said : entriesIn b ≡ map entryOf (p .positions)
+    pub entries-said : entriesIn b ≡ map rootEntry (p .positions)
     entries-said =
         let q = positions-many in
-        ext-getD blank (entriesIn b) (map entryOf (p .positions)) (entries-many ∙ q ∙ sym (length-map (p .positions) entryOf))
+        ext-getD blank (entriesIn b) (map rootEntry (p .positions)) (entries-many ∙ q ∙ sym (length-map (p .positions) rootEntry))
         (λ i l.
         let k : i < counted b Positions = omega (arith, entries-many) in
         entry-there i k
         ∙ same-entry (wordIn b Positions i) (λ j. getD (positionWords (getD (p .positions) i failed)) j 0) (word-said i (omega arith) (omega arith))
         ∙ entry-back (getD (p .positions) i failed) (storable (getD (p .positions) i failed) (at-in (p .positions) i failed (omega arith)))
-        ∙ sym (List·getD-map entryOf (p .positions) i failed))
+        ∙ sym (List·getD-map rootEntry (p .positions) i failed))
 
   -- how far an array is filled with the first n positions
   pub record Filling (n : ℕ) (out : List Entry) (i : ℕ) : Type 0 where

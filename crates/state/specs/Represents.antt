@@ -10,7 +10,7 @@ use Rattle.machine.specs.Config.{Stores, Config}
 use Rattle.block.specs.Block.{framesOf, Parts, partsOf, laid, encode}
 use Rattle.block.specs.Fits.{Few, AllStorable}
 use Rattle.tree.specs.declared.Entry.{Entry}
-use Rattle.tree.specs.Entries.{entryOf, frameSum}
+use Rattle.tree.specs.Entries.{rootEntry, frameSum}
 use Rattle.tree.specs.Parts.{PartAt}
 
 -- What lies in a block with these stores, positions and frames.
@@ -34,7 +34,7 @@ pub record Rest : Type 0 where
 -- has.
 pub record StateAt (b : List ℕ) (i : ℕ) (x : Rest) (st : Stores) (u : machine.Tree) : Type 0 where
   pub positions : List machine.Tree
-  pub there : PartAt (map entryOf positions) i (x .before) u (x .after)
+  pub there : PartAt (map rootEntry positions) i (x .before) u (x .after)
   pub start : length (x .outer) ≡ frameSum (x .before)
   pub block : b ≡ bytes (laid (partsIn st positions (x .outer ++ (framesOf u ++ x .later))))
   pub few : Few (partsIn st positions (x .outer ++ (framesOf u ++ x .later)))

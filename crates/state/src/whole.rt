@@ -19,7 +19,7 @@ ghost use Rattle.block.specs.Layout.{width, begins, counted};
 ghost use Rattle.block.specs.Values.{valueWords, Storable};
 ghost use Rattle.block.specs.Block.{positionWords, Parts, laid};
 ghost use Rattle.tree.specs.declared.Tree as threads;
-ghost use Rattle.tree.specs.Entries.{entryOf, blank, used, Bounded, resultOf, Worded};
+ghost use Rattle.tree.specs.Entries.{rootEntry, blank, used, Bounded, resultOf, Worded};
 ghost use Rattle.state.specs.Positions.{cellFrom, entryAt, Taken, rowAt, withPositions};
 
 // What stands at a position, by its words.
@@ -92,7 +92,7 @@ fn position_row(
 
 // The words of a position.
 fn row_of(x: Entry) -> [u16; Layout::POSITION_WIDTH]
-    ensures { λ r. ⌜ (length r ≡ width Positions) × ((t : machine.Tree) → x ≡ entryOf t → r ≡ positionWords t) ⌝ }
+    ensures { λ r. ⌜ (length r ≡ width Positions) × ((t : machine.Tree) → x ≡ rootEntry t → r ≡ positionWords t) ⌝ }
 {
     let c = x.cell;
     match c {
@@ -124,7 +124,7 @@ pub fn put_entry(block: &mut [u8], i: usize, x: Entry)
         ((p : Parts) (t : machine.Tree) →
         now (block .entry) ≡ bytes (laid p) →
         i < length (p .positions) →
-        x ≡ entryOf t →
+        x ≡ rootEntry t →
         now (block .exit) ≡ bytes (laid (withPositions p (set (p .positions) i t))))
         ⌝ }
 {
@@ -138,7 +138,7 @@ fn row_at(x: Entry, i: usize, len: usize) -> [u16; Layout::POSITION_WIDTH]
         (length r ≡ width Positions) ×
         ((self : threads.Tree) (ts : List machine.Tree) →
         Bounded self →
-        map entryOf ts ≡ used self →
+        map rootEntry ts ≡ used self →
         len ≡ self .len →
         x ≡ getD (self .entries) i blank →
         r ≡ rowAt ts i)
@@ -168,7 +168,7 @@ pub fn put_tree(block: &mut [u8], tree: Tree)
     ensures { λ r. ⌜
         ((p : Parts) (ts : List machine.Tree) →
         now (block .entry) ≡ bytes (laid p) →
-        map entryOf ts ≡ used tree →
+        map rootEntry ts ≡ used tree →
         now (block .exit) ≡ bytes (laid (withPositions p ts)))
         ⌝ }
 {

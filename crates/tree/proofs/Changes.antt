@@ -15,11 +15,12 @@ use Rattle.machine.specs.Config as machine
 use Rattle.machine.specs.Config.{running, failed, join}
 use Rattle.machine.specs.Machine.{size}
 use Rattle.block.specs.Block.{preorder, waiting}
+use Rattle.representation.specs.Preorder.{splice}
 use Rattle.tree.specs.declared.Cell.the-variants.{Running, Join}
 use Rattle.tree.specs.declared.Entry.{Entry}
 use Rattle.tree.specs.declared.Tree.{Tree}
-use Rattle.tree.specs.Entries.{entryOf, entries, blank, used, Bounded}
-use Rattle.tree.specs.Parts.{PartAt, Ends, splice, Spliced, Replaced, Forked, Failing, Joined}
+use Rattle.tree.specs.Entries.{rootEntry, treeEntries, blank, used, Bounded}
+use Rattle.tree.specs.Parts.{PartAt, Ends, Spliced, Replaced, Forked, Failing, Joined}
 use Rattle.tree.proofs.Cell.{the-type}
 use Rattle.tree.proofs.Trees.{entries-thread}
 use Rattle.tree.proofs.Lists.{over-length, over-take, movedDown, movedUp, up-put, set-splice, splice-take}
@@ -33,7 +34,7 @@ threadOf a e n = record { cell = Running a e; frames = n }
 abbrev pub forkOf : ℕ → ℕ → ℕ → ℕ → ℕ → List Entry
 forkOf n a b c e = record { cell = Join c e; frames = n } ∷ threadOf a e 0 ∷ threadOf b e 0 ∷ []
 
-fork-entries : (fs : List Frame) (a b c e : ℕ) → entries (join fs c e (running a e []) (running b e [])) ≡ forkOf (length fs) a b c e
+fork-entries : (fs : List Frame) (a b c e : ℕ) → treeEntries (join fs c e (running a e []) (running b e [])) ≡ forkOf (length fs) a b c e
 unfolding preorder
 fork-entries fs a b c e = refl
 
@@ -93,14 +94,14 @@ module _ (self : Tree) (i : ℕ) (r : Tree) where
       long p = omega (arith, e .part p)
 
   -- a part that becomes a thread
-  thread-there : {before after : List Entry} {u : machine.Tree} (v : machine.Tree) → size v ≡ 1 → PartAt (used self) i before u after → used r ≡ before ++ (entryOf v ∷ after)
+  thread-there : {before after : List Entry} {u : machine.Tree} (v : machine.Tree) → size v ≡ 1 → PartAt (used self) i before u after → used r ≡ before ++ (rootEntry v ∷ after)
       → PartAt (used r) i before v after
   thread-there {before} {after} v one p e = record { is = e ∙ ap (λ (l : List Entry). before ++ (l ++ after)) (sym (entries-thread v one)); place = p .place }
 
-  replaced-by : {before after : List Entry} {u : machine.Tree} (v : machine.Tree) → size v ≡ 1 → Replaced self i (entryOf v) r → PartAt (used self) i before u after → PartAt (used r) i before v after
+  replaced-by : {before after : List Entry} {u : machine.Tree} (v : machine.Tree) → size v ≡ 1 → Replaced self i (rootEntry v) r → PartAt (used self) i before u after → PartAt (used r) i before v after
   replaced-by v one s p = thread-there v one p (s .now p)
 
-  pub failing : Replaced self i (entryOf failed) r → Failing self i r
+  pub failing : Replaced self i (rootEntry failed) r → Failing self i r
   failing s = record { bounded = s .bounded; words = s .words (omega arith); now = λ p. replaced-by failed refl s p }
 
   pub joins : (x : Entry) (a e : ℕ) → Bounded self → x ≡ getD (self .entries) i blank → x .cell ≡ Join a e → Replaced self i (threadOf a e (x .frames)) r → Joined self i r
@@ -115,7 +116,7 @@ module _ (self : Tree) (i : ℕ) (r : Tree) where
   forks x a b c e bounded h s = record { bounded = s .bounded; words = λ w. rw (s .now) (splice-worded (used self) i 1 (forkOf (x .frames) a b c e) (omega arith, (omega arith, (omega arith, _))) w); now = λ one p. record { is = now one p; place = p .place } }
     where
       now : {before after : List Entry} {u : machine.Tree} → size u ≡ 1 → PartAt (used self) i before u after
-          → used r ≡ before ++ (entries (join (waiting u) c e (running a e []) (running b e [])) ++ after)
+          → used r ≡ before ++ (treeEntries (join (waiting u) c e (running a e []) (running b e [])) ++ after)
       now {before} {after} {u} one p =
           s .now
           ∙ ap (λ (n : ℕ). splice (used self) i n (forkOf (x .frames) a b c e)) (sym one)

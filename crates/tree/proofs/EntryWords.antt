@@ -11,7 +11,7 @@ use Rattle.block.specs.Block.{positionWords}
 use Rattle.tree.specs.declared.Cell.{Cell}
 use Rattle.tree.specs.declared.Cell.the-variants.{Failed, Running, Returning, Join}
 use Rattle.tree.specs.declared.Entry.{Entry}
-use Rattle.tree.specs.Entries.{entryOf}
+use Rattle.tree.specs.Entries.{rootEntry}
 
 abbrev pub cellWords : Cell → ℕ → List ℕ
 cellWords Failed n = FAILED ∷ 0 ∷ 0 ∷ (valueWords nil ++ n ∷ [])
@@ -22,7 +22,7 @@ cellWords (Join a e) n = JOIN ∷ a ∷ e ∷ (valueWords nil ++ n ∷ [])
 abbrev pub entryWords : Entry → List ℕ
 entryWords x = cellWords (x .cell) (x .frames)
 
-pub words-entry : (t : machine.Tree) → entryWords (entryOf t) ≡ positionWords t
+pub words-entry : (t : machine.Tree) → entryWords (rootEntry t) ≡ positionWords t
 words-entry (running a e fs) = refl
 words-entry (returning v fs) = refl
 words-entry failed = refl

@@ -9,14 +9,14 @@ use Rattle.machine.specs.declared.Frame.{Frame}
 use Rattle.machine.specs.Config as machine
 use Rattle.machine.specs.Config.{Stores, running, returning, failed, join}
 use Rattle.machine.specs.Machine.{size, phase, fold}
+use Rattle.machine.proofs.Positions.{size-some}
 use Rattle.tree.specs.declared.Entry.{Entry}
 use Rattle.tree.specs.declared.Phase.{Phase}
 use Rattle.tree.specs.declared.Fold.{Fold}
 use Rattle.tree.specs.declared.Fold.the-variants.{Still}
-use Rattle.tree.specs.Entries.{cellOf, entryOf, beneathCell, blank}
-use Rattle.tree.specs.Parts.{PartAt, Stands, Ends}
+use Rattle.tree.specs.Entries.{cellOf, rootEntry, beneathCell, blank}
+use Rattle.tree.specs.Parts.{PartAt, HasPart, Ends}
 use Rattle.tree.specs.Phases.{phaseIn, outcomeOf, PhaseIs, FoldIs, FoldAt}
-use Rattle.tree.proofs.Trees.{size-some}
 use Rattle.tree.proofs.Parts.{part-inside, part-root, part-left, part-right}
 
 thread-beneath : (u : machine.Tree) → size u ≡ 1 → beneathCell (cellOf u) ≡ 0
@@ -46,7 +46,7 @@ record JoinAt (es : List Entry) (i : ℕ) : Type 0 where
   right : machine.Tree
   there : PartAt es i before (join frames last env left right) after
 
-module _ (es : List Entry) (i : ℕ) (s : Stands es i) (b : ℕ) (e : b ≡ beneathCell (getD es i blank .cell)) (some : b ≢ 0) where
+module _ (es : List Entry) (i : ℕ) (s : HasPart es i) (b : ℕ) (e : b ≡ beneathCell (getD es i blank .cell)) (some : b ≢ 0) where
   -- a tree beneath: the part is a join
   join-of : {before after : List Entry} (u : machine.Tree) → PartAt es i before u after → JoinAt es i
   join-of (running a env fs) p = absurd (some (e ∙ beneath-part es i p))
@@ -69,6 +69,6 @@ module _ (es : List Entry) (i : ℕ) (s : Stands es i) (b : ℕ) (e : b ≡ bene
           → (st : Stores) → fold st fs a env (phase l) (phase m) ≡ outcomeOf r st fs a env
       says {fs = fs} {a = a} {env = env} {l = l} {m = m} p st =
           let on-left : phaseIn x ≡ phase l = px l (part-root (part-left p)) in
-          let there : getD es right blank ≡ entryOf m = ap (λ (n : ℕ). getD es n blank) (h .part (part-left p)) ∙ part-root (part-right p) in
+          let there : getD es right blank ≡ rootEntry m = ap (λ (n : ℕ). getD es n blank) (h .part (part-left p)) ∙ part-root (part-right p) in
           let on-right : phaseIn y ≡ phase m = py m there in
           rw (← on-left, ← on-right) (f st fs a env)

@@ -7,8 +7,7 @@ use native.Mathlib.Numerals.{add-one}
 use native.Mathlib.Omega.{arith}
 use lib.ListN.{length, take, drop, getD, set, length-set, length-append, length-take, length-drop, take-append-drop, List·getD-append}
 use lib.Seq.{length-take-le, take-suc, drop-cons, append-snoc, set-at, take-at, slice, slice-empty, slice-cons, take-set-le, drop-set-lt, getD-set-same, getD-take, getD-drop, getD-append-add, take-append-add, take-take}
-use Rattle.tree.specs.declared.Entry.{Entry}
-use Rattle.tree.specs.Parts.{splice}
+use Rattle.representation.specs.Preorder.{splice}
 
 module _ {ℓ} {A : Type ℓ} where
   -- a turn of a loop that writes l over a, from the front
@@ -90,7 +89,7 @@ module _ {ℓ} {A : Type ℓ} where
   set-splice l x i k p h hk =
       rw (drop-set-lt k l i x hk, add-one i, take-suc (set l i x) i x (omega (arith, length-set l i x)), take-set-le i l i x (omega arith), getD-set-same l i x x h, append-snoc (take i l) x (p ++ drop k l))
 
-module _ (l : List Entry) (at old : ℕ) (new : List Entry) where
+module _ {A : Type 0} (l : List A) (at old : ℕ) (new : List A) where
   -- the front of a splice of l is the splice of the front of l
   pub splice-take : (q k : ℕ) → at + old ≤ q → q ≤ length l → k ≡ q - old + length new → take k (splice l at old new) ≡ splice (take q l) at old new
   splice-take q k h hq e =

@@ -1,14 +1,12 @@
 -- Laws of entries whose values are words.
-use mathlib.Core.Path.{_≡_}
-use mathlib.Core.Logic.{⊎-elim}
-use mathlib.Core.List.{List, [], _∷_, _++_, List·Memᴰ·cases-cons, List·Memᴰ·not-nil}
+use mathlib.Core.List.{List, [], _∷_, _++_}
 use Prim.Native.Nat.{ℕ, zero, suc, _+_, _<_}
 use native.Mathlib.Omega.{arith}
 use lib.ListN.{length, take, drop, getD}
-use Rattle.script.specs.Lists.{_∈_, Every}
+use Rattle.representation.specs.Preorder.{splice}
+use Rattle.script.specs.Lists.{Every}
 use Rattle.tree.specs.declared.Entry.{Entry}
 use Rattle.tree.specs.Entries.{Worded}
-use Rattle.tree.specs.Parts.{splice}
 
 module _ {A : Type 0} (P : A → Type 0) where
   pub every-append : (a b : List A) → Every P a → Every P b → Every P (a ++ b)
@@ -29,10 +27,6 @@ module _ {A : Type 0} (P : A → Type 0) where
   every-at [] k d h p = absurd (omega arith)
   every-at (x ∷ l) zero d h p = p .0
   every-at (x ∷ l) (suc k) d h p = every-at l k d (omega arith) (p .1)
-
-  pub every-in : (l : List A) → Every P l → (x : A) → x ∈ l → P x
-  every-in [] p x m = absurd (List·Memᴰ·not-nil m)
-  every-in (y ∷ l) p x m = ⊎-elim (λ (e : x ≡ y). rw e (p .0)) (every-in l (p .1) x) (List·Memᴰ·cases-cons m)
 
 -- entries exchanged for others
 pub splice-worded : (l : List Entry) (at old : ℕ) (new : List Entry) → Worded new → Worded l → Worded (splice l at old new)

@@ -24,12 +24,12 @@ cellOf failed = Failed
 cellOf (join fs a e l r) = Join a e
 
 -- The entry of a tree's root: its cell, and how many frames wait there.
-abbrev pub entryOf : machine.Tree → Entry
-entryOf t = record { cell = cellOf t; frames = length (waiting t) }
+abbrev pub rootEntry : machine.Tree → Entry
+rootEntry t = record { cell = cellOf t; frames = length (waiting t) }
 
 -- The entries of a tree.
-abbrev pub entries : machine.Tree → List Entry
-entries t = map entryOf (preorder t)
+abbrev pub treeEntries : machine.Tree → List Entry
+treeEntries t = map rootEntry (preorder t)
 
 -- How many trees stand beneath a position: two beneath a join, none beneath a thread.
 abbrev pub beneathCell : Cell → ℕ

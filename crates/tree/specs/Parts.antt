@@ -3,24 +3,25 @@
 use Prim.Native.Nat.{ℕ, suc, _+_, _≤_, _<_}
 use mathlib.Core.Path.{_≡_}
 use mathlib.Core.List.{List, [], _∷_, _++_}
-use lib.ListN.{length, take, drop, getD}
+use lib.ListN.{length, getD}
 use Rattle.machine.specs.declared.Frame.{Frame}
 use Rattle.machine.specs.Config as machine
 use Rattle.machine.specs.Config.{running, failed, join}
 use Rattle.machine.specs.Machine.{size, frameCount}
 use Rattle.block.specs.Values.{Storable}
 use Rattle.block.specs.Block.{waiting}
+use Rattle.representation.specs.Preorder.{splice}
 use Rattle.tree.specs.declared.Entry.{Entry}
 use Rattle.tree.specs.declared.Tree.{Tree}
-use Rattle.tree.specs.Entries.{entries, beneathCell, blank, used, Bounded, resultOf, Worded}
+use Rattle.tree.specs.Entries.{treeEntries, beneathCell, blank, used, Bounded, resultOf, Worded}
 
 -- The part at position i of the entries es is u, with these entries before it and these after it.
 pub record PartAt (es : List Entry) (i : ℕ) (before : List Entry) (u : machine.Tree) (after : List Entry) : Type 0 where
-  pub is : es ≡ before ++ (entries u ++ after)
+  pub is : es ≡ before ++ (treeEntries u ++ after)
   pub place : length before ≡ i
 
 -- There is a part at position i.
-pub record Stands (es : List Entry) (i : ℕ) : Type 0 where
+pub record HasPart (es : List Entry) (i : ℕ) : Type 0 where
   pub before : List Entry
   pub part : machine.Tree
   pub after : List Entry
@@ -32,11 +33,7 @@ pub record Ends (es : List Entry) (i r : ℕ) : Type 0 where
   pub inside : r ≤ length es
   pub part : {before after : List Entry} {u : machine.Tree} → PartAt es i before u after → r ≡ i + size u
 
--- The `old` entries of l from `at` on exchanged for `new`: fork, join and failure are each one such exchange.
-abbrev pub splice : List Entry → ℕ → ℕ → List Entry → List Entry
-splice l at old new = take at l ++ (new ++ drop (at + old) l)
-
--- r has the `old` entries from `at` on exchanged for `new`.
+-- r has the `old` entries from `at` on exchanged for `new`: fork, join and failure are each one such exchange.
 pub record Spliced (self : Tree) (at old : ℕ) (new : List Entry) (r : Tree) : Type 0 where
   pub bounded : Bounded r
   pub now : used r ≡ splice (used self) at old new

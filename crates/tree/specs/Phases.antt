@@ -12,7 +12,7 @@ use Rattle.tree.specs.declared.Phase.the-variants.{Finished, Broken, Bus
 use Rattle.tree.specs.declared.Fold.{Fold}
 use Rattle.tree.specs.declared.Fold.the-variants.{Still, GoesOn, Fails}
 use Rattle.tree.specs.declared.Entry.{Entry}
-use Rattle.tree.specs.Entries.{entryOf}
+use Rattle.tree.specs.Entries.{rootEntry}
 use Rattle.tree.specs.Parts.{PartAt}
 
 -- The machine's phase that each answer names.
@@ -30,7 +30,7 @@ outcomeOf Fails st fs a e = moved st failed
 
 -- The phase of every tree with this entry at its root.
 abbrev pub PhaseIs : Entry → Phase → Type 0
-PhaseIs x r = (u : machine.Tree) → x ≡ entryOf u → phaseIn r ≡ phase u
+PhaseIs x r = (u : machine.Tree) → x ≡ rootEntry u → phaseIn r ≡ phase u
 
 -- What the machine says of a join whose sides stand so.
 abbrev pub FoldIs : Phase → Phase → Fold → Type 0

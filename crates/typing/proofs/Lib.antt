@@ -1,3 +1,4 @@
+pub mod AllNodes
 pub mod Types
 pub mod Values
 pub mod Subtype

@@ -6,3 +6,4 @@ pub mod Published
 pub mod Refusals
 pub mod MethodOrder
 pub mod Ladder
+pub mod AllNodes

@@ -11,6 +11,7 @@ use Rattle.words.specs.Word.{WORD, wordAt}
 use Rattle.script.specs.Syntax.{intOf}
 use Rattle.script.specs.Reading.{programOf}
 use Rattle.script.specs.Questions.{allOf}
+use Rattle.script.proofs.Tests.{and-no}
 use Rattle.machine.specs.declared.Value.{Value}
 use Rattle.machine.specs.declared.Want.the-variants.{Upto as upto}
 use Rattle.machine.specs.Config.{codeOf}
@@ -22,9 +23,9 @@ use Rattle.block.specs.Values.{valueIn}
 use Rattle.block.specs.Decode.{configIn}
 use Rattle.environments.specs.Chains.{bindingAt, newest, bindingsIn}
 use Rattle.environments.proofs.ChainLaws.{length-newest}
-use Rattle.values.specs.Objects.{Asked, objectsIn, objectsTest}
+use Rattle.values.specs.Objects.{ObjectsInOrder, objectsIn, objectsTest}
 use Rattle.values.proofs.ReadLaws.{bindings-read}
-use Rattle.values.proofs.StoreLaws.{and-no, and-yes}
+use Rattle.values.proofs.StoreLaws.{and-yes}
 
 -- words of a block are words
 word-small : (b : List ℕ) → ((i : ℕ) → getD b i 0 < 256) → (at : ℕ) → wordAt b at < WORD
@@ -32,7 +33,7 @@ unfolding wordAt
 word-small b small at = omega (arith, small at, small (at + 1))
 
 -- one binding
-module _ {s b : List ℕ} (a : Asked s b) (i t z : ℕ) (et : t ≡ wordIn b Bindings i TYPE) (ez : z ≡ intOf (programOf s)) where
+module _ {s b : List ℕ} (a : ObjectsInOrder s b) (i t z : ℕ) (et : t ≡ wordIn b Bindings i TYPE) (ez : z ≡ intOf (programOf s)) where
   abbrev typeFits : Bool
   typeFits = leb (wordIn b Bindings i TYPE) (intOf (programOf s))
 

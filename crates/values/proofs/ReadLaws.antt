@@ -16,7 +16,7 @@ use Rattle.block.specs.Decode.{objectOf, bindingOf, configIn}
 use Rattle.block.proofs.Values.{value-same}
 use Rattle.representation.specs.InOrder.{AreaOk}
 use Rattle.environments.specs.Chains.{bindingAt, newest, bindingsIn}
-use Rattle.values.specs.Objects.{valueAt, objectAt}
+use Rattle.values.specs.Objects.{fieldValueAt, objectAt}
 
 -- runs
 run-same : {A : Type 0} (f g : ℕ → A) (i n : ℕ) → ((j : ℕ) → i ≤ j → j < i + n → f j ≡ g j) → run f i n ≡ run g i n
@@ -75,8 +75,8 @@ objects-read fieldCount b o =
     same i h =
         let n = fieldCount (wordIn b Objects i CLASS) in
         let few = o .records .each i h .few in
-        let e : run (λ k. valueIn (wordOf (row i)) (fieldWord k)) 0 n ≡ run (valueAt b i) 0 n =
-        run-same (λ k. valueIn (wordOf (row i)) (fieldWord k)) (valueAt b i) 0 n
+        let e : run (λ k. valueIn (wordOf (row i)) (fieldWord k)) 0 n ≡ run (fieldValueAt b i) 0 n =
+        run-same (λ k. valueIn (wordOf (row i)) (fieldWord k)) (fieldValueAt b i) 0 n
         (λ k l u.
         value-same (wordOf (row i)) (wordIn b Objects i) (fieldWord k)
         (λ m v.

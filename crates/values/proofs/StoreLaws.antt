@@ -5,7 +5,7 @@ use mathlib.Core.List.{List, [], _∷_}
 use mathlib.Core.Option.{none, some}
 use Prim.Native.Nat.{ℕ, suc, _+_, _-_, _<_, _≤_}
 use native.Mathlib.Omega.{arith}
-use borrow.Author.Tests.{not-true, not-false}
+use borrow.Author.Tests.{not-false}
 use lib.ListN.{length, getD}
 use lib.IntN.{ℤ}
 use Rattle.words.specs.Integer.{InRange}
@@ -20,7 +20,7 @@ use Rattle.script.specs.Asking.{Decides}
 use Rattle.script.specs.Questions.{allOf}
 use Rattle.script.specs.Statements.{WithinLayout}
 use Rattle.script.proofs.Lists.{length-run}
-use Rattle.script.proofs.Tests.{yes-said, no-said, decides-and, decides-lt, decides-le}
+use Rattle.script.proofs.Tests.{yes-said, no-said, decides-and, decides-lt, decides-le, and-no}
 use Rattle.script.proofs.Declarations.{a-class-at, length-interfaces, length-classes}
 use Rattle.members.specs.declared.Declared.{Declared}
 use Rattle.members.specs.declared.Declared.the-variants.{Interface as is-interface, Class as is-class, Neither as is-neither}
@@ -39,14 +39,14 @@ use Rattle.machine.specs.Decide.{meetsTest, objectTest, valueFitsTest, isClassT
 use Rattle.block.specs.declared.Area.the-variants.{Objects}
 use Rattle.block.specs.Layout.{counted, wordIn, CLASS}
 use Rattle.representation.specs.InOrder.{InOrder}
-use Rattle.values.specs.Objects.{Asked, valueAt, objectAt, objectsIn, objectFits, objectsTest}
+use Rattle.values.specs.Objects.{ObjectsInOrder, fieldValueAt, objectAt, objectsIn, objectFits, objectsTest}
 use Rattle.values.proofs.ReadLaws.{objects-read, object-run, object-past}
 
 -- a block that is in order is asked
-pub ordered-asked : {s b : List ℕ} → WithinLayout s → InOrder (fieldCount s) b → Asked s b
+pub ordered-asked : {s b : List ℕ} → WithinLayout s → InOrder (fieldCount s) b → ObjectsInOrder s b
 ordered-asked w o = record { script = w; long = o .long; small = o .small; objects = o .areas Objects }
 
-module _ {s b : List ℕ} (a : Asked s b) where
+module _ {s b : List ℕ} (a : ObjectsInOrder s b) where
   -- an object that is there, and one that is not
   pub object-there : (o : ℕ) → o < counted b Objects → object (objectsIn s b) o ≡ some (objectAt (fieldCount s) b o)
   object-there o h =
@@ -72,9 +72,6 @@ pub number-meets : (s : Code) (xs : List Object) (v : Value) (want : Want) (z : 
 number-meets s xs v want z t r e h k q = rw (e, range-exactly z .1 h, ← k) q
 
 -- a test of more than one thing, of which the first is asked first
-pub and-no : (p q r : Bool) → r ≡ p → not r ≡ true → false ≡ p && q
-and-no p q r e h = let n : p ≡ false = sym e ∙ not-true r h in rw n
-
 pub and-yes : (p q r : Bool) → r ≡ p → not r ≡ false → p && q ≡ q
 and-yes p q r e h = let y : p ≡ true = sym e ∙ not-false r h in rw y
 
@@ -116,30 +113,30 @@ and-all p q (x ∷ l) = swap (p x) (q x) (allOf p l) (allOf q l) ∙ ap (λ (t :
 module _ (s b : List ℕ) (i from count : ℕ) where
   abbrev pub FieldsLeft : ℕ → Type 0
   FieldsLeft j =
-      fieldsTest (codeOf s) (objectsIn s b) (run (fieldAt s) from count) (run (valueAt b i) 0 count)
-      ≡ fieldsTest (codeOf s) (objectsIn s b) (run (fieldAt s) (from + j) (count - j)) (run (valueAt b i) j (count - j))
+      fieldsTest (codeOf s) (objectsIn s b) (run (fieldAt s) from count) (run (fieldValueAt b i) 0 count)
+      ≡ fieldsTest (codeOf s) (objectsIn s b) (run (fieldAt s) (from + j) (count - j)) (run (fieldValueAt b i) j (count - j))
 
   pub fields-begun : FieldsLeft 0
   fields-begun = let y : from + 0 ≡ from = omega arith in let z : count - 0 ≡ count = omega arith in rw (y, z) refl
 
   module _ (j : ℕ) (left : FieldsLeft j) where
-    pub fields-done : count ≤ j → true ≡ fieldsTest (codeOf s) (objectsIn s b) (run (fieldAt s) from count) (run (valueAt b i) 0 count)
+    pub fields-done : count ≤ j → true ≡ fieldsTest (codeOf s) (objectsIn s b) (run (fieldAt s) from count) (run (fieldValueAt b i) 0 count)
     unfolding run
     fields-done h = let z : count - j ≡ 0 = omega arith in sym (rw z at left)
 
-    module _ (t : ℕ) (v : Value) (r : Bool) (h : j < count) (et : t ≡ recordWord s fields (from + j) 1) (ev : v ≡ valueAt b i j)
+    module _ (t : ℕ) (v : Value) (r : Bool) (h : j < count) (et : t ≡ recordWord s fields (from + j) 1) (ev : v ≡ fieldValueAt b i j)
         (e : r ≡ valueFitsTest (codeOf s) (objectsIn s b) v (upto t)) where
       later : Bool
-      later = fieldsTest (codeOf s) (objectsIn s b) (run (fieldAt s) (from + (j + 1)) (count - (j + 1))) (run (valueAt b i) (j + 1) (count - (j + 1)))
+      later = fieldsTest (codeOf s) (objectsIn s b) (run (fieldAt s) (from + (j + 1)) (count - (j + 1))) (run (fieldValueAt b i) (j + 1) (count - (j + 1)))
 
-      next-field : fieldsTest (codeOf s) (objectsIn s b) (run (fieldAt s) from count) (run (valueAt b i) 0 count) ≡ valueFitsTest (codeOf s) (objectsIn s b) v (upto t) && later
+      next-field : fieldsTest (codeOf s) (objectsIn s b) (run (fieldAt s) from count) (run (fieldValueAt b i) 0 count) ≡ valueFitsTest (codeOf s) (objectsIn s b) v (upto t) && later
       unfolding run fieldAt later
       next-field =
           let x : count - j ≡ suc (count - (j + 1)) = omega arith in
           let y : from + (j + 1) ≡ from + j + 1 = omega arith in
           rw (et, ev, y) (rw x at left)
 
-      pub fields-no : not r ≡ true → false ≡ fieldsTest (codeOf s) (objectsIn s b) (run (fieldAt s) from count) (run (valueAt b i) 0 count)
+      pub fields-no : not r ≡ true → false ≡ fieldsTest (codeOf s) (objectsIn s b) (run (fieldAt s) from count) (run (fieldValueAt b i) 0 count)
       fields-no q = and-no (valueFitsTest (codeOf s) (objectsIn s b) v (upto t)) later r e q ∙ sym next-field
 
       pub fields-more : not r ≡ false → FieldsLeft (j + 1)
@@ -150,7 +147,7 @@ module _ (s b : List ℕ) (i from count : ℕ) where
 abbrev pub ObjectsLeft : List ℕ → List ℕ → ℕ → ℕ → Type 0
 ObjectsLeft s b count i = objectsTest (codeOf s) (objectsIn s b) ≡ allOf (objectFits (codeOf s) (objectsIn s b)) (run (objectAt (fieldCount s) b) i (count - i))
 
-module _ {s b : List ℕ} (a : Asked s b) where
+module _ {s b : List ℕ} (a : ObjectsInOrder s b) where
   pub objects-begun : (count : ℕ) → count ≡ counted b Objects → ObjectsLeft s b count 0
   objects-begun count e =
       all-begun (objectFits (codeOf s) (objectsIn s b)) (objectAt (fieldCount s) b) count (objectsTest (codeOf s) (objectsIn s b))
@@ -196,7 +193,7 @@ module _ {s b : List ℕ} (a : Asked s b) where
           {starts : List ℕ} → Starts s starts → (from count : ℕ) (r : Bool)
           → from ≡ getD starts (INTERFACES + k) 0
           → count ≡ ownFields s k
-          → r ≡ fieldsTest (codeOf s) (objectsIn s b) (run (fieldAt s) from count) (run (valueAt b i) 0 count)
+          → r ≡ fieldsTest (codeOf s) (objectsIn s b) (run (fieldAt s) from count) (run (fieldValueAt b i) 0 count)
           → r ≡ objectFits (codeOf s) (objectsIn s b) (objectAt (fieldCount s) b i)
       object-class st from count r p g f =
           let c = class-there h q in

@@ -19,15 +19,15 @@ use Rattle.block.specs.Decode.{objectIn, configIn}
 use Rattle.representation.specs.InOrder.{AreaOk}
 
 -- What the code of the question relies on: questions 1 to 8 got a yes, the block has the bytes of a block, and its objects are in order.
-pub record Asked (s b : List ℕ) : Type 0 where
+pub record ObjectsInOrder (s b : List ℕ) : Type 0 where
   pub script : WithinLayout s
   pub long : length b ≡ BLOCK
   pub small : (i : ℕ) → getD b i 0 < 256
   pub objects : AreaOk (fieldCount s) b Objects
 
 -- The value of field k of the object with number i.
-abbrev pub valueAt : List ℕ → ℕ → ℕ → Value
-valueAt b i k = valueIn (wordIn b Objects i) (fieldWord k)
+abbrev pub fieldValueAt : List ℕ → ℕ → ℕ → Value
+fieldValueAt b i k = valueIn (wordIn b Objects i) (fieldWord k)
 
 -- The object with number i: "(class, open or shut, fields)".
 abbrev pub objectAt : (ℕ → ℕ) → List ℕ → ℕ → Object

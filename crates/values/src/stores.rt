@@ -27,11 +27,11 @@ ghost use Rattle.block.specs.declared.Area.the-variants.{Objects, Bindings};
 ghost use Rattle.block.specs.Layout.{counted};
 ghost use Rattle.block.specs.Decode.{configIn};
 ghost use Rattle.environments.specs.Chains.{bindingAt};
-ghost use Rattle.values.specs.Objects.{Asked, valueAt, objectAt, objectsIn, objectFits, objectsTest};
+ghost use Rattle.values.specs.Objects.{ObjectsInOrder, fieldValueAt, objectAt, objectsIn, objectFits, objectsTest};
 
 // Does object n fit what is wanted? It is there, and its class is the type wanted or below it.
 fn object_meets(s: &[u8], starts: &[u16], block: &[u8], n: u16, want: Want) -> bool
-    requires { ⌜ Asked (now s) (now block) × Starts (now s) (now starts) ⌝ }
+    requires { ⌜ ObjectsInOrder (now s) (now block) × Starts (now s) (now starts) ⌝ }
     ensures { λ r. ⌜ r ≡ objectTest (codeOf (now (s .entry))) want (object (objectsIn (now (s .entry)) (now (block .entry))) n) ⌝ }
 {
     let o = n as usize;
@@ -44,7 +44,7 @@ fn object_meets(s: &[u8], starts: &[u16], block: &[u8], n: u16, want: Want) -> b
 
 // Does a value fit what is wanted? An object goes by its class, and a number, which its type keeps in range, by Int: "value types fit".
 pub fn value_fits(s: &[u8], starts: &[u16], block: &[u8], v: Value, want: Want) -> bool
-    requires { ⌜ Asked (now s) (now block) × Starts (now s) (now starts) ⌝ }
+    requires { ⌜ ObjectsInOrder (now s) (now block) × Starts (now s) (now starts) ⌝ }
     ensures { λ r. ⌜ r ≡ valueFitsTest (codeOf (now (s .entry))) (objectsIn (now (s .entry)) (now (block .entry))) v want ⌝ }
 {
     match v {
@@ -57,12 +57,12 @@ pub fn value_fits(s: &[u8], starts: &[u16], block: &[u8], v: Value, want: Want) 
 // Do the values of object i fit the types of the fields whose records are the `count` from `from` on? WF-FIELDS.
 fn fields_fit(s: &[u8], starts: &[u16], block: &[u8], i: usize, from: usize, count: usize) -> bool
     requires { ⌜
-        Asked (now s) (now block) × Starts (now s) (now starts) × (i < counted (now block) Objects) × (from + count ≤ countOf (now s) Fields) ×
+        ObjectsInOrder (now s) (now block) × Starts (now s) (now starts) × (i < counted (now block) Objects) × (from + count ≤ countOf (now s) Fields) ×
         (count ≤ CLASS-FIELDS)
         ⌝ }
     ensures { λ r. ⌜
         r ≡ fieldsTest (codeOf (now (s .entry))) (objectsIn (now (s .entry)) (now (block .entry))) (run (fieldAt (now (s .entry))) from count)
-        (run (valueAt (now (block .entry)) i) 0 count)
+        (run (fieldValueAt (now (block .entry)) i) 0 count)
         ⌝ }
 {
     let mut j = 0;
@@ -79,7 +79,7 @@ fn fields_fit(s: &[u8], starts: &[u16], block: &[u8], i: usize, from: usize, cou
 
 // Is the class of object i a class, and does the value of each of its fields fit? WF-HEAP of one object.
 fn object_fits(s: &[u8], starts: &[u16], block: &[u8], i: usize) -> bool
-    requires { ⌜ Asked (now s) (now block) × Starts (now s) (now starts) × (i < counted (now block) Objects) ⌝ }
+    requires { ⌜ ObjectsInOrder (now s) (now block) × Starts (now s) (now starts) × (i < counted (now block) Objects) ⌝ }
     ensures { λ r. ⌜
         r ≡ objectFits (codeOf (now (s .entry))) (objectsIn (now (s .entry)) (now (block .entry)))
         (objectAt (fieldCount (now (s .entry))) (now (block .entry)) i)
@@ -100,7 +100,7 @@ fn object_fits(s: &[u8], starts: &[u16], block: &[u8], i: usize) -> bool
 
 // Do all objects fit? WF-HEAP.
 fn objects_fit(s: &[u8], starts: &[u16], block: &[u8]) -> bool
-    requires { ⌜ Asked (now s) (now block) × Starts (now s) (now starts) ⌝ }
+    requires { ⌜ ObjectsInOrder (now s) (now block) × Starts (now s) (now starts) ⌝ }
     ensures { λ r. ⌜ r ≡ objectsTest (codeOf (now (s .entry))) (objectsIn (now (s .entry)) (now (block .entry))) ⌝ }
 {
     let count = areas::count(block, Area::Objects);
@@ -117,7 +117,9 @@ fn objects_fit(s: &[u8], starts: &[u16], block: &[u8]) -> bool
 // Is the type of binding i a type (WF-ENV), does its value fit it (WF-VARS), and has it a link to an earlier binding or to none? "links run to earlier
 // bindings"
 fn binding_fits(s: &[u8], starts: &[u16], block: &[u8], i: usize) -> bool
-    requires { ⌜ Asked (now s) (now block) × Starts (now s) (now starts) × (counted (now block) Bindings ≤ BINDINGS) × (i < counted (now block) Bindings) ⌝ }
+    requires { ⌜
+        ObjectsInOrder (now s) (now block) × Starts (now s) (now starts) × (counted (now block) Bindings ≤ BINDINGS) × (i < counted (now block) Bindings)
+        ⌝ }
     ensures { λ r. ⌜ r ≡ bindingTest (codeOf (now (s .entry))) (objectsIn (now (s .entry)) (now (block .entry))) i (bindingAt (now (block .entry)) i) ⌝ }
 {
     let t = areas::word(block, Area::Bindings, i, Layout::TYPE);
@@ -134,7 +136,7 @@ fn binding_fits(s: &[u8], starts: &[u16], block: &[u8], i: usize) -> bool
 
 // Do all bindings fit? The newest is asked first.
 fn bindings_fit(s: &[u8], starts: &[u16], block: &[u8]) -> bool
-    requires { ⌜ Asked (now s) (now block) × Starts (now s) (now starts) × (counted (now block) Bindings ≤ BINDINGS) ⌝ }
+    requires { ⌜ ObjectsInOrder (now s) (now block) × Starts (now s) (now starts) × (counted (now block) Bindings ≤ BINDINGS) ⌝ }
     ensures { λ r. ⌜
         r ≡ bindingsTest (codeOf (now (s .entry))) (objectsIn (now (s .entry)) (now (block .entry)))
         (configIn (fieldCount (now (s .entry))) (now (block .entry)) .stores .bindings)
@@ -152,7 +154,7 @@ fn bindings_fit(s: &[u8], starts: &[u16], block: &[u8]) -> bool
 
 // Do the stores fit? Γ ⊢ H and Γ ⊢ V of Figure 7: "value types fit" and "links run to earlier bindings".
 pub fn stores_fit(s: &[u8], starts: &[u16], block: &[u8]) -> bool
-    requires { ⌜ Asked (now s) (now block) × (counted (now block) Bindings ≤ BINDINGS) × Starts (now s) (now starts) ⌝ }
+    requires { ⌜ ObjectsInOrder (now s) (now block) × (counted (now block) Bindings ≤ BINDINGS) × Starts (now s) (now starts) ⌝ }
     ensures { λ r. ⌜ r ≡ storesTest (codeOf (now (s .entry))) (configIn (fieldCount (now (s .entry))) (now (block .entry)) .stores) ⌝ }
 {
     if !objects_fit(s, starts, block) {

@@ -1,4 +1,4 @@
-// Does a type meet what is wanted?
+// Does a type, or null, meet what is wanted?
 use machine::Want;
 ghost use mathlib.Core.Path.{_≡_};
 ghost use Rattle.script.specs.Statements.{WithinLayout};

@@ -5,7 +5,7 @@ use Rattle.script.specs.Reading.{programOf}
 use Rattle.script.specs.Statements.{WithinLayout}
 use Rattle.typing.specs.Published.{WfEnv}
 use Rattle.members.specs.Tables.{Starts}
-use Rattle.inference.specs.At.{Blank}
+use Rattle.inference.specs.Walk.{EmptyEnv}
 use Rattle.machine.specs.declared.Value.{Value}
 use Rattle.machine.specs.Machine.{context}
 use Rattle.block.specs.Values.{Storable}
@@ -28,7 +28,7 @@ pub record AtFrameIn (s starts b : List ℕ) (i env : ℕ) (v : Value) : Type 0 
 
 -- The variables of the environment have types: a let's first part is inferred under them.
 pub record AtTypedFrame (s starts facts table b : List ℕ) (i env : ℕ) (v : Value) : Type 0 where
-  pub blank : Blank s starts facts table
+  pub blank : EmptyEnv s starts facts table
   pub chain : Chain b env
   pub typed : Typed b
   pub types : WfEnv (programOf s) (context (bindingsIn b) env)

@@ -9,7 +9,7 @@ use borrow.Author.Tests.{not-true, not-false, le-leb}
 use lib.ListN.{length, length-map, length-reverse}
 use Rattle.limits.specs.Limits.{OBJECTS, BINDINGS, FRAMES, THREADS}
 use Rattle.script.specs.Asking.{Decides}
-use Rattle.inference.specs.At.{Blank}
+use Rattle.inference.specs.Walk.{EmptyEnv}
 use Rattle.machine.specs.declared.Want.the-variants.{Upto as upto}
 use Rattle.machine.specs.Config.{Config, codeOf}
 use Rattle.machine.specs.Machine.{fieldCount, limits, frameCount, threadCount}
@@ -25,10 +25,10 @@ use Rattle.block.proofs.Decode.{encode-decode}
 use Rattle.representation.proofs.InOrder.{in-order-decodes}
 use Rattle.representation.proofs.Ordered.{decoded-in-order}
 use Rattle.canonical.proofs.Answers.{after-yes, after-no}
-use Rattle.values.specs.Objects.{Asked}
+use Rattle.values.specs.Objects.{ObjectsInOrder}
 use Rattle.values.proofs.StoreLaws.{ordered-asked}
 use Rattle.locks.specs.Locking.{Sized, locksTest}
-use Rattle.frames.specs.Expecting.{Ready}
+use Rattle.awaited.specs.Awaited.{ScopedBlock}
 use Rattle.frames.proofs.StoresPassed.{stores-passed}
 use Rattle.calls.specs.Calls.{wellFormed, configOf}
 use Rattle.calls.proofs.Fits.{frames-many}
@@ -80,7 +80,7 @@ module _ (s : List ℕ) (t : ℕ) (b : List ℕ) where
           let d = in-order-decodes (fieldCount s) b order in
           rw (d, few-within c (encode-decode (fieldCount s) b c d .1 .few), and-true (coveredTest (c .stores .objects) (c .tree))) refl
 
-      pub asked : {starts facts table : List ℕ} → Blank s starts facts table → Asked s b
+      pub asked : {starts facts table : List ℕ} → EmptyEnv s starts facts table → ObjectsInOrder s b
       asked k = ordered-asked (k .within) order
 
       pub few-bindings : counted b Bindings ≤ BINDINGS
@@ -97,7 +97,7 @@ module _ (s : List ℕ) (t : ℕ) (b : List ℕ) where
           fits : stores ≡ true
           fits = sym fit ∙ not-false p h
 
-          pub ready : {starts facts table : List ℕ} → Blank s starts facts table → Ready s starts facts table b
+          pub ready : {starts facts table : List ℕ} → EmptyEnv s starts facts table → ScopedBlock s starts facts table b
           ready k =
               let passed = stores-passed s b fits in
               record {

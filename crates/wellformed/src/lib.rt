@@ -7,7 +7,7 @@ ghost use mathlib.Core.Path.{_≡_};
 ghost use mathlib.Core.Option.{some};
 ghost use lib.ListN.{length};
 ghost use Rattle.limits.specs.Limits.{BLOCK};
-ghost use Rattle.inference.specs.At.{Blank};
+ghost use Rattle.inference.specs.Walk.{EmptyEnv};
 ghost use Rattle.machine.specs.Machine.{fieldCount};
 ghost use Rattle.machine.specs.Decide.{only};
 ghost use Rattle.block.specs.Decode.{configIn};
@@ -23,7 +23,7 @@ pub fn well_formed(
     t: u16,
     block: &[u8],
 ) -> bool
-    requires { ⌜ Blank (now s) (now starts) (now facts) (now table) × (length (now block) ≡ BLOCK) ⌝ }
+    requires { ⌜ EmptyEnv (now s) (now starts) (now facts) (now table) × (length (now block) ≡ BLOCK) ⌝ }
     ensures { λ r. ⌜ configOf (now (s .entry)) t (now (block .entry)) ≡ only r (some (configIn (fieldCount (now (s .entry))) (now (block .entry)))) ⌝ }
     ensures { λ r. ⌜ now (table .exit) ≡ now (table .entry) ⌝ }
 {

@@ -98,8 +98,11 @@ fn run(case: &Case, tally: &mut Tally) -> Result<(), String> {
     Ok(())
 }
 
-/// Both lists are equal; else the message shows the first difference.
+/// Both lists are equal; else the message shows their lengths, or the first difference.
 fn same<T: PartialEq + std::fmt::Debug>(what: &str, given: &[T], expected: &[T]) -> Result<(), String> {
+    if given.len() != expected.len() {
+        return Err(format!("{what}: the engine has {}, the second implementation {}", given.len(), expected.len()));
+    }
     match given.iter().zip(expected).position(|(one, other)| one != other) {
         Some(at) => {
             Err(format!("{what}: at {at} the engine has {:?}, the second implementation {:?}", given[at], expected[at]))

@@ -1,7 +1,7 @@
 //! Random damage to a state block. Unlike damage to a script it often leaves a block that is
 //! still well formed, so each kind of edit is named and a test can count what became of it.
 
-use crate::block::{value_words, Area, VALUE};
+use crate::block::{value_words, Area};
 use crate::damage::{edit_byte, set_word, word};
 use crate::generate::Rng;
 use crate::state::Value;

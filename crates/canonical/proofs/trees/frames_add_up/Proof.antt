@@ -3,9 +3,9 @@ use borrow.Author.Needs.{needs}
 use Prim.Native.Nat.{_-_, _*_, _≤_}
 use mathlib.Core.Path.{_≡_}
 use Rattle.script.specs.Lists.{sumBelow}
+use Rattle.script.proofs.Lists.{sum-start, sum-next}
 use Rattle.block.specs.declared.Area.the-variants.{Positions}
 use Rattle.block.specs.Layout.{wordIn, WAITING}
-use Rattle.sections.proofs.CodeLaws.{sum-none}
 use Rattle.canonical.proofs.TreeLaws as laws
 use Rattle.canonical.proofs.trees.frames_add_up.Statement.{statement}
 use Rattle.canonical.proofs.trees.frames_add_up.Tie as tie
@@ -17,7 +17,7 @@ abbrev μ-loop : tie.MeasureT-loop
 μ-loop block n sum₀ i₀ sum i = n - i
 
 loop-holds : tie.Need-loop-holds Inv-loop μ-loop
-loop-holds c = (omega arith, sum-none _, omega arith)
+loop-holds c = (omega arith, sum-start _, omega arith)
 
 word-requires : tie.Need-word-requires Inv-loop μ-loop
 word-requires c κs = (c .before .before .before .before .pre .0, omega (arith, c .before .before .count .ensures .0, c .before .before .before .before .pre .1), omega arith)
@@ -29,7 +29,7 @@ add-i : tie.Need-add-i Inv-loop μ-loop
 add-i c = omega (arith, c .before .before .before .count .ensures .1)
 
 loop-again : tie.Need-loop-again Inv-loop μ-loop
-loop-again c = (omega arith, laws.sum-next (λ k. wordIn (c .before .before .before .before .before .args .block .now) Positions k WAITING) (c .before .before .loop .i) _ _ (c .before .before .loop .inv .1) (c .word .ensures .0), omega (arith, c .word .ensures .1, c .before .before .loop .inv .2))
+loop-again c = (omega arith, sum-next (λ k. wordIn (c .before .before .before .before .before .args .block .now) Positions k WAITING) (c .before .before .loop .i) _ _ (c .before .before .loop .inv .1) (c .word .ensures .0), omega (arith, c .word .ensures .1, c .before .before .loop .inv .2))
 
 returns : tie.Need-returns Inv-loop μ-loop
 returns c = laws.sum-all _ (c .before .before .loop .i) _ _ _ (c .before .before .loop .inv .1) (omega arith) (c .before .before .before .count .ensures .0) (c .count2 .ensures .0)

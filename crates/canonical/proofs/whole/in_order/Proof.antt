@@ -7,14 +7,14 @@ use Rattle.canonical.proofs.whole.in_order.Statement.{statement}
 use Rattle.canonical.proofs.whole.in_order.Tie as tie
 
 returns : tie.Need-returns
-returns c = refused (λ o. o .areas Objects) (c .before .area-fits .ensures) (c .if1 .taken)
+returns c = refused (λ o. o .areas Objects) (c .before .area-in-order .ensures) (c .if1 .taken)
 
 returns-2 : tie.Need-returns-2
-returns-2 c = refused (λ o. o .areas Bindings) (c .before .area-fits2 .ensures) (c .if2 .taken)
+returns-2 c = refused (λ o. o .areas Bindings) (c .before .area-in-order2 .ensures) (c .if2 .taken)
 
 returns-3 : tie.Need-returns-3
 returns-3 c =
-    laws.order-asked (c .before .before .before .before .before .before .before .pre .1) (λ i. omega (arith, c .before .before .before .before .before .shared-slice-known2 .given i)) (c .before .before .before .before .area-fits .ensures) (c .before .before .before .if1 .left) (c .before .before .area-fits2 .ensures) (c .before .if2 .left)
+    laws.order-asked (c .before .before .before .before .before .before .before .pre .1) (λ i. omega (arith, c .before .before .before .before .before .shared-slice-known2 .given i)) (c .before .before .before .before .area-in-order .ensures) (c .before .before .before .if1 .left) (c .before .before .area-in-order2 .ensures) (c .before .if2 .left)
     (c .threads-in-order .ensures)
 
 pub in-order-spec : {M : Type 1} → statement M

@@ -1,6 +1,7 @@
 use borrow.Author.Needs.{needs}
 use mathlib.Core.Path.{refl}
 use Rattle.engine.proofs.Replies.{lent, tables}
+use Rattle.typing.proofs.Exact.{outside-refused}
 use Rattle.engine.proofs.RunReplies as laws
 use Rattle.engine.proofs.OfferReplies.{offer-block}
 use Rattle.engine.proofs.OfferReplies as replies
@@ -23,7 +24,7 @@ offer-requires : tie.Need-offer-requires
 offer-requires c κs =
     let acc = laws.type-is _ _ _ (c .before .before .before .before .before .before .before .before .before .check-script .ensures .0) (c .before .before .before .before .before .if1 .left) (c .before .before .before .before .before .before .before .before .before .check-script .ensures .1 .1 .0) in
     let made = tables _ _ _ _ acc (c .before .before .before .before .before .before .before .before .before .check-script .ensures .1 .1 .1) in
-    ((laws.within _ _ acc, made .0, made .1, acc), (c .before .before .before .before .if2 .left, c .before .before .before .if3 .left))
+    ((outside-refused _ _ acc, made .0, made .1, acc), (c .before .before .before .before .if2 .left, c .before .before .before .if3 .left))
 
 returns-4 : tie.Need-returns-4
 returns-4 c =

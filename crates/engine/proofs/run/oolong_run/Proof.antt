@@ -2,6 +2,7 @@ use native.Mathlib.Omega.{arith}
 use mathlib.Core.Path.{refl}
 use borrow.Author.Needs.{needs}
 use Rattle.engine.proofs.Replies.{lent, tables}
+use Rattle.typing.proofs.Exact.{outside-refused}
 use Rattle.engine.proofs.RunReplies as laws
 use Rattle.engine.proofs.run.oolong_run.Statement.{statement}
 use Rattle.engine.proofs.run.oolong_run.Tie as tie
@@ -22,7 +23,7 @@ run-requires : tie.Need-run-requires
 run-requires c κs =
     let acc = laws.type-is _ _ _ (c .before .before .before .before .before .before .before .before .before .check-script .ensures .0) (c .before .before .before .before .before .if1 .left) (c .before .before .before .before .before .before .before .before .before .check-script .ensures .1 .1 .0) in
     let made = tables _ _ _ _ acc (c .before .before .before .before .before .before .before .before .before .check-script .ensures .1 .1 .1) in
-    ((laws.within _ _ acc, made .0, made .1, acc), (c .before .before .before .before .if2 .left, omega arith))
+    ((outside-refused _ _ acc, made .0, made .1, acc), (c .before .before .before .before .if2 .left, omega arith))
 
 returns-4 : tie.Need-returns-4
 returns-4 c = (refl, (refl, laws.run-form-refused _ _ _ _ (laws.type-is _ _ _ (c .before .before .before .before .before .before .before .before .before .before .before .before .before .before .before .before .check-script .ensures .0) (c .before .before .before .before .before .before .before .before .before .before .before .before .if1 .left) (c .before .before .before .before .before .before .before .before .before .before .before .before .before .before .before .before .check-script .ensures .1 .1 .0)) (c .before .before .before .before .before .before .before .before .before .before .before .if2 .left) (omega arith) _ (c .before .before .before .before .before .before .run .ensures) _ _ (c .run-refusal4 .ensures) (c .before .before .if4 .taken) (c .before .lent-number3 .ensures)))

@@ -3,11 +3,11 @@ use lib.ListN.{length}
 use mathlib.Core.Path.{ap, _∙_}
 use native.Mathlib.Omega.{arith}
 use borrow.Author.Needs.{needs}
-use Rattle.frames.specs.Memo.{Remembers}
+use Rattle.memo.specs.Memo.{Remembers}
 use Rattle.frames.proofs.FrameLaws.{Climbed}
 use Rattle.frames.proofs.FrameLaws as laws
-use Rattle.frames.proofs.MemoLaws.{same-size}
-use Rattle.frames.proofs.ReadyLaws.{still-ready}
+use Rattle.memo.proofs.MemoLaws.{same-size}
+use Rattle.awaited.proofs.ReadyLaws.{still-ready}
 use Rattle.frames.proofs.frames.frames_want.Statement.{statement}
 use Rattle.frames.proofs.frames.frames_want.Tie as tie
 

@@ -1,7 +1,7 @@
 use mathlib.Core.Path.{refl}
 use native.Mathlib.Omega.{arith}
 use borrow.Author.Needs.{needs}
-use Rattle.frames.proofs.ReadyLaws as ready
+use Rattle.awaited.proofs.ReadyLaws as ready
 use Rattle.frames.proofs.StepLaws as laws
 use Rattle.frames.proofs.frames.node_fits.Statement.{statement}
 use Rattle.frames.proofs.frames.node_fits.Tie as tie

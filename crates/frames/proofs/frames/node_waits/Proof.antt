@@ -1,7 +1,7 @@
 use mathlib.Core.Path.{refl, sym, _∙_}
 use borrow.Author.Needs.{needs}
-use Rattle.frames.proofs.AwaitedLaws as laws
-use Rattle.frames.proofs.ReadyLaws as ready
+use Rattle.awaited.proofs.AwaitedLaws as laws
+use Rattle.awaited.proofs.ReadyLaws as ready
 use Rattle.frames.proofs.frames.node_waits.Statement.{statement}
 use Rattle.frames.proofs.frames.node_waits.Tie as tie
 

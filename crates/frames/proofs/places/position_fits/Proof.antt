@@ -2,8 +2,8 @@ use mathlib.Core.Path.{refl, _∙_}
 use native.Mathlib.Omega.{arith}
 use borrow.Author.Needs.{needs}
 use Rattle.frames.proofs.PositionLaws as laws
-use Rattle.frames.proofs.MemoLaws.{same-size}
-use Rattle.frames.proofs.ReadyLaws.{still-ready}
+use Rattle.memo.proofs.MemoLaws.{same-size}
+use Rattle.awaited.proofs.ReadyLaws.{still-ready}
 use Rattle.values.proofs.StoreLaws.{ordered-asked}
 use Rattle.frames.proofs.places.position_fits.Statement.{statement}
 use Rattle.frames.proofs.places.position_fits.Tie as tie

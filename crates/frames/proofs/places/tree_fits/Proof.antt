@@ -7,10 +7,10 @@ use borrow.Author.Needs.{needs}
 use Rattle.machine.specs.declared.Want.the-variants.{Upto as upto}
 use Rattle.block.specs.declared.Area.the-variants.{Positions}
 use Rattle.block.specs.Layout.{counted}
-use Rattle.frames.specs.Memo.{Remembers}
-use Rattle.frames.proofs.MemoLaws.{remembers-nothing}
+use Rattle.memo.specs.Memo.{Remembers}
+use Rattle.memo.proofs.MemoLaws.{remembers-nothing}
 use Rattle.frames.proofs.PositionLaws.{place-there}
-use Rattle.frames.proofs.ReadyLaws.{still-ready}
+use Rattle.awaited.proofs.ReadyLaws.{still-ready}
 use Rattle.frames.proofs.TreeLaws.{Passed}
 use Rattle.frames.proofs.TreeLaws as laws
 use Rattle.frames.proofs.places.tree_fits.Statement.{statement}

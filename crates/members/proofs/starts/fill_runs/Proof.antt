@@ -4,10 +4,11 @@ use native.Mathlib.Omega.{arith}
 use borrow.Author.Needs.{needs}
 use lib.ListN.{length, length-set}
 use Rattle.script.specs.Lists.{sumBelow}
+use Rattle.script.proofs.Lists.{sum-start, sum-next}
 use Rattle.script.specs.Section.{countOf}
 use Rattle.sections.specs.Laid.{ownerOf, ownOf}
 use Rattle.members.specs.Lookup.{RunsTo}
-use Rattle.members.proofs.LookupLaws.{sum-small, owners-are, sum-start, sum-next, no-runs, run-more, runs-done}
+use Rattle.members.proofs.LookupLaws.{sum-small, owners-are, no-runs, run-more, runs-done}
 use Rattle.members.proofs.starts.fill_runs.Statement.{statement}
 use Rattle.members.proofs.starts.fill_runs.Tie as tie
 

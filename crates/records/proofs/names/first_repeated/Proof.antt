@@ -7,7 +7,8 @@ use Rattle.script.specs.Section.{countOf}
 use Rattle.script.specs.Asking.{firstOut}
 use Rattle.sections.specs.Laid.{ownerOf, ownOf, freshIn}
 use Rattle.sections.proofs.Access.{count-within}
-use Rattle.sections.proofs.CodeLaws.{sum-none, owner-is}
+use Rattle.script.proofs.Lists.{sum-start}
+use Rattle.sections.proofs.CodeLaws.{owner-is}
 use Rattle.sections.proofs.Search.{search-start, found-end, lowest-here, lowest-none}
 use Rattle.records.proofs.NameLaws.{OwnRun, run-within, run-next, run-at, run-there, run-none, runs-end}
 use Rattle.records.proofs.names.first_repeated.Statement.{statement}
@@ -20,7 +21,7 @@ abbrev μ-loop : tie.MeasureT-loop
 μ-loop s k n start₀ o₀ start o = n - o
 
 loop-holds : tie.Need-loop-holds Inv-loop μ-loop
-loop-holds c = (omega arith, sum-none _, search-start (freshIn (c .before .before .before .args .s .now) (c .before .before .before .args .k)) _)
+loop-holds c = (omega arith, sum-start _, search-start (freshIn (c .before .before .before .args .s .now) (c .before .before .before .args .k)) _)
 
 -- The owner that a turn is about, and its run.
 owner : (c : tie.In-loop Inv-loop μ-loop) → c .before .loop .o < countOf (c .before .before .before .before .before .args .s .now) (ownerOf (c .before .before .before .before .before .args .k))

@@ -1,13 +1,13 @@
 use borrow.Author.Needs.{needs}
 use native.Mathlib.Omega.{arith}
 use Prim.Native.Nat.{_≤_, _-_}
-use Rattle.records.specs.Uses.{Adds, bodiesIn}
+use Rattle.records.specs.Uses.{Adds, bodyWords}
 use Rattle.records.proofs.UseLaws.{bodies-start, bodies-next, bodies-all}
 use Rattle.records.proofs.nodes.count_bodies.Statement.{statement}
 use Rattle.records.proofs.nodes.count_bodies.Tie as tie
 
 abbrev Inv-loop : tie.InvT-loop
-Inv-loop s uses₀ n i₀ uses i = (i ≤ n) × Adds uses₀ uses (bodiesIn s i)
+Inv-loop s uses₀ n i₀ uses i = (i ≤ n) × Adds uses₀ uses (bodyWords s i)
 
 abbrev μ-loop : tie.MeasureT-loop
 μ-loop s uses₀ n i₀ uses i = n - i

@@ -1,0 +1,27 @@
+-- 20 and 22 from the three calls, beside a script that Check accepts: neither depends on what is asked later.
+use mathlib.Core.Path.{_≡_, refl}
+use mathlib.Core.List.{List}
+use Prim.Native.Nat.{ℕ, _<_}
+use lib.ListN.{length}
+use borrow.Author.Tests.{eq-eqb, ne-eqb, lt-leb}
+use Rattle.limits.specs.Limits.{BLOCK, CHOICES, FLAGS}
+use Rattle.typing.specs.declared.Verdict.the-variants.{Accepted}
+use Rattle.typing.specs.Check.{checkOf}
+use Rattle.machine.specs.Machine.{initial}
+use Rattle.block.specs.Block.{encode}
+use Rattle.calls.specs.Calls.{startAsked, blockAsked, startOf, offerOf, runOf}
+use Rattle.calls.specs.Lent.{LentRefused}
+
+module _ (s : List ℕ) (t : ℕ) (acc : checkOf s ≡ Accepted t) (b fl ns : List ℕ) where
+  pub no-length : (length b ≡ BLOCK → ⊥) → LentRefused s (record { block = b; flags = fl; choices = ns; start = 20; written = b; number = 20 })
+  unfolding startOf startAsked offerOf runOf blockAsked
+  no-length h =
+      let e = ne-eqb (length b) BLOCK h in
+      record { started = rw (acc, e) refl; offered = rw (acc, e) refl; ran = rw (acc, e) refl }
+
+  pub no-buffer : length b ≡ BLOCK → (length fl ≡ FLAGS → ⊥) → CHOICES < length ns
+      → LentRefused s (record { block = b; flags = fl; choices = ns; start = 0; written = encode initial; number = 22 })
+  unfolding startOf startAsked offerOf runOf blockAsked
+  no-buffer l h k =
+      let e = eq-eqb (length b) BLOCK l in
+      record { started = rw (acc, e) refl; offered = rw (acc, e, ne-eqb (length fl) FLAGS h) refl; ran = rw (acc, e, lt-leb (length ns) CHOICES k) refl }
