@@ -21,7 +21,7 @@ use Rattle.script.specs.Statements.{Earlier, WithinLayout}
 use Rattle.typing.specs.Members.{reach}
 use Rattle.members.specs.Tables.{BITS, ROW, RUNS, STARTS, rowWord, rowBit, RowIs, RowsTo, Starts}
 use Rattle.members.specs.Lookup.{RowState, no-bit, filled-row, Rows, Climbed, RowJoined, withOwnBit}
-use Rattle.members.proofs.SubtypeLaws.{leads-itself, leads-unit, leads-later, leads-list, leads-join}
+use Rattle.members.proofs.SubtypeLaws.{leads-itself, leads-list, leads-join}
 
 -- One word has bits of one row only, and in it a bit has one place.
 same-word : (i j k m : ℕ) → k < INTERFACES → m < INTERFACES → rowWord i k ≡ rowWord j m → (i ≡ j) × (k / BITS ≡ m / BITS)
@@ -188,14 +188,8 @@ rows-more {s} {before} {after} i h x all j l = go (eqb j i) refl
     go true e = let q : i + 1 - 1 ≡ j = omega (arith, eqb-true j i e) in rw q at (x .row)
     go false e = let n = eqb-false j i e in x .kept j (omega arith) (all j (omega arith))
 
--- What a row tells of a type number: an interface by its bit, any other not.
-module _ {s : List ℕ} (w : WithinLayout s) (table : List ℕ) (x : Starts s table) (i u : ℕ) (h : i < countOf s interfaces) where
-  pub tells-unit : u ≡ 0 → false ≡ reach (programOf s) (suc i) u
-  tells-unit e = leads-unit w i u h e
-
-  pub tells-later : INTERFACES ≤ u - 1 → false ≡ reach (programOf s) (suc i) u
-  tells-later l = leads-later w i u h (omega (arith, w .counts-are .within interfaces))
-
+-- What a row tells of an interface, by its bit.
+module _ {s : List ℕ} (table : List ℕ) (x : Starts s table) (i u : ℕ) (h : i < countOf s interfaces) where
   pub tells-bit : (b : Bool) → (u ≡ 0 → ⊥) → u - 1 < INTERFACES → flagOf b ≡ rowBit table i (u - 1) → b ≡ reach (programOf s) (suc i) u
   tells-bit b n l e = let q : suc (u - 1) ≡ u = omega arith in same b _ (e ∙ (rw q at (x .rows i h (u - 1) l)))
     where

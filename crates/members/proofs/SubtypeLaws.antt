@@ -93,6 +93,13 @@ marked-more P marks i all here k e = go (eqb k i) refl
     go true q = rw (eqb-true k i q) here
     go false q = all k (sym (getD-set-other marks i k 1 0 (eqb-false k i q)) ∙ e)
 
+-- The record of an interface is there.
+pub record-there : {s : List ℕ} {t : ℕ} → InterfaceWord s t → t - 1 < countOf s interfaces
+record-there h = omega (arith, h .first, h .last)
+
+pub record-small : {s : List ℕ} {t : ℕ} → WithinLayout s → InterfaceWord s t → t - 1 < INTERFACES
+record-small w h = omega (arith, record-there h, w .counts-are .within interfaces)
+
 -- An earlier interface than t is an interface, with a smaller number.
 pub earlier-interface : {s : List ℕ} {t a : ℕ} → InterfaceWord s t → Earlier (t - 1) a → InterfaceWord s a × (a < t)
 earlier-interface h x = (record { first = x .first; last = omega arith }, omega arith)
@@ -220,6 +227,10 @@ module _ {s : List ℕ} {t : ℕ} {d : Declared} (h : DeclaredAs s t d) where
         go (a-class c) m = absurd m
         go an-int m = refl
         go no-type m = refl
+
+-- What is led to by the byte of a number is led to by the number.
+pub led : (p : Program) (t g u : ℕ) (r : Bool) → g ≡ u → r ≡ reach p t g → r ≡ reach p t u
+led p t g u r e h = rw e at h
 
 pub below-itself : (s : List ℕ) (t u : ℕ) → t ≡ u → true ≡ below (programOf s) t u
 unfolding below

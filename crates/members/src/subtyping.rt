@@ -53,8 +53,8 @@ pub fn int_of(s: &[u8]) -> u16
 }
 
 // Walks up from the interface t, and stores what it is at or below. A join calls this on both its parents and hands the rows along, in which an ancestor that
-// has been walked is marked by its own bit, so that none is walked twice.
-fn climb(s: &[u8], t: u16, rows: &mut [u16])
+// has been walked is marked by its own bit, so that none is walked twice. There are at most 130 type numbers, so a byte carries them.
+fn climb(s: &[u8], t: u8, rows: &mut [u16])
     requires { ⌜ WithinLayout (now s) × InterfaceWord (now s) t × Rows (now s) (now rows) ⌝ }
     ensures { λ r. ⌜ Climbed (now (s .entry)) (now (rows .entry)) (now (rows .exit)) (t - 1) ⌝ }
 {
@@ -67,9 +67,9 @@ fn climb(s: &[u8], t: u16, rows: &mut [u16])
         mark(rows, i);
         return;
     }
-    let left = record_word(s, Section::Interfaces, i, 1);
+    let left = record_word(s, Section::Interfaces, i, 1) as u8;
     climb(s, left, rows);
-    let right = record_word(s, Section::Interfaces, i, 2);
+    let right = record_word(s, Section::Interfaces, i, 2) as u8;
     climb(s, right, rows);
     join(rows, i, left as usize - 1, right as usize - 1);
     mark(rows, i);
@@ -83,7 +83,7 @@ pub fn fill_rows(s: &[u8], rows: &mut [u16])
     let count = count_of(s, Section::Interfaces);
     let mut i = 0;
     while i < count {
-        climb(s, i as u16 + 1, rows);
+        climb(s, i as u8 + 1, rows);
         i += 1;
     }
 }
@@ -95,14 +95,15 @@ fn leads(starts: &[u16], i: usize, u: u16) -> bool
         ((s : List ℕ) → WithinLayout s → Starts s (now (starts .entry)) → i < countOf s interfaces → r ≡ reach (programOf s) (suc i) u)
         ⌝ }
 {
-    if u == 0 {
+    // Any other word than an interface's number, of a damaged block too, is answered before it would be cut to a byte.
+    if u as usize > Limits::INTERFACES {
         return false;
     }
-    let k = u as usize - 1;
-    if k >= Limits::INTERFACES {
+    let goal = u as u8;
+    if goal == 0 {
         return false;
     }
-    has_bit(starts, i, k)
+    has_bit(starts, i, goal as usize - 1)
 }
 
 // Is the type t below the type u?

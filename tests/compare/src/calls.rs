@@ -22,7 +22,7 @@ const SCRIPT: u16 = 15;
 
 /// How often each answer of each call came up.
 #[derive(Default)]
-struct Tally(BTreeMap<(&'static str, u16), u64>);
+pub struct Tally(BTreeMap<(&'static str, u16), u64>);
 
 impl Tally {
     fn count(&mut self, call: &'static str, number: u16) {
@@ -57,7 +57,7 @@ pub fn compare(count: u64, seed: u64) -> Result<(), String> {
     }
 }
 
-fn agree(case: &Case, tally: &mut Tally) -> Result<(), String> {
+pub fn agree(case: &Case, tally: &mut Tally) -> Result<(), String> {
     start(case, tally)?;
     offer(case, tally)?;
     run(case, tally)?;

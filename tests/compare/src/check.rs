@@ -31,7 +31,7 @@ pub fn compare(count: u64, seed: u64) -> Result<(), String> {
 }
 
 /// The reply that both give.
-fn agreed(script: &[u8]) -> Result<second::Reply, String> {
+pub fn agreed(script: &[u8]) -> Result<second::Reply, String> {
     let expected = second::check(script);
     let given = engine::check(script);
     if (given.number, given.place, given.start_type) == (expected.number, expected.place, expected.ty) {

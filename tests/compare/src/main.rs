@@ -1,8 +1,9 @@
 //! The engine against the second implementation, on N random cases; it fails at the first difference, and if an answer came up too rarely.
-//! `compare check N SEED`: Check, on scripts. `compare calls N SEED`: the calls that a block is lent to.
+//! `compare check N SEED`: Check, on scripts. `compare calls N SEED`: the calls that a block is lent to. `compare types`: both, on every type number and on words that are none.
 
 mod calls;
 mod check;
+mod types;
 
 use std::process::ExitCode;
 use std::time::Instant;
@@ -15,8 +16,9 @@ fn main() -> ExitCode {
     let outcome = match (words.first().map(String::as_str), &numbers[..]) {
         (Some("check"), &[count, seed]) => check::compare(count, seed),
         (Some("calls"), &[count, seed]) => calls::compare(count, seed),
+        (Some("types"), []) => types::compare(),
         _ => {
-            eprintln!("usage: compare check|calls N SEED");
+            eprintln!("usage: compare check|calls N SEED, or compare types");
             return ExitCode::from(2);
         }
     };

@@ -20,6 +20,8 @@ pub enum Edit {
     Value { area: Area, damage: ValueDamage },
     /// The class of an object or the type of a binding becomes another, often one of the last numbers: a class, Int, no type.
     Type,
+    /// The class of an object or the type of a binding gets another high byte, which no type has.
+    HighByte,
     /// Two records of an area exchange a word, or all words.
     Exchange,
     /// A record goes or comes twice, with its count.
@@ -60,9 +62,10 @@ impl ValueDamage {
 /// A random edit of a block whose script has this type as its last, Int. It is not made where the block has no record for it.
 pub fn damage(block: &mut [u8], int: Type, rng: &mut Rng) -> Option<Edit> {
     let area = rng.pick(&Area::ALL)?;
-    let edit = match rng.below(25) {
+    let edit = match rng.below(26) {
         0 | 22 => Edit::Byte,
         23 | 24 => Edit::Type,
+        25 => Edit::HighByte,
         1 => Edit::Count,
         2 | 3 => Edit::Exchange,
         4 | 5 => Edit::Record,
@@ -84,6 +87,7 @@ pub fn damage(block: &mut [u8], int: Type, rng: &mut Rng) -> Option<Edit> {
         }
         Edit::Value { area, damage } => change_value(block, area, damage, rng)?,
         Edit::Type => change_type(block, int, rng)?,
+        Edit::HighByte => change_high_byte(block, rng)?,
         Edit::Exchange => exchange(block, area, rng)?,
         Edit::Record => remove_or_repeat(block, area, rng)?,
         Edit::Closure => copy_closure(block, rng)?,
@@ -134,11 +138,23 @@ fn change_word(block: &mut [u8], area: Area, at: usize, column: usize, rng: &mut
     (new != old).then_some(())
 }
 
-/// An object's values often become zeros, since only they fit a class without fields; a binding's becomes a number or null.
-fn change_type(block: &mut [u8], int: Type, rng: &mut Rng) -> Option<()> {
+/// A record of an object or a binding, and where its class or its type is.
+fn some_type(block: &[u8], rng: &mut Rng) -> Option<(Area, Range<usize>, usize)> {
     let area = [Area::Objects, Area::Bindings][rng.below(2)];
     let record = some_record(block, area, rng)?;
     let at = if area == Area::Objects { record.start } else { record.start + 2 };
+    Some((area, record, at))
+}
+
+fn change_high_byte(block: &mut [u8], rng: &mut Rng) -> Option<()> {
+    let (_, _, at) = some_type(block, rng)?;
+    block[at + 1] ^= 1 + rng.below(255) as u8;
+    Some(())
+}
+
+/// An object's values often become zeros, since only they fit a class without fields; a binding's becomes a number or null.
+fn change_type(block: &mut [u8], int: Type, rng: &mut Rng) -> Option<()> {
+    let (area, record, at) = some_type(block, rng)?;
     let values = record.start + 4;
     let (old, any) = (word(block, at), rng.below(int as usize + 1) as Type);
     let new = [int - 1, int, int, int + 1, any][rng.below(5)];

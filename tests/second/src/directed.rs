@@ -57,13 +57,19 @@ fn break_file(number: u16, mut file: Vec<u8>, rng: &mut Rng) -> Vec<u8> {
 fn break_interface(script: &mut Script, rng: &mut Rng) -> Option<Vec<u8>> {
     let index = rng.below(script.interfaces.len());
     let record = script.interfaces.get_mut(index)?;
-    let not_earlier = rng.pick(&[0, index as u16 + 1, index as u16 + 2, 65_535])?;
+    let above = above_a_byte(index as u16, rng);
+    let not_earlier = rng.pick(&[0, index as u16 + 1, index as u16 + 2, above, 65_535])?;
     match (record[0], rng.below(3)) {
         (_, 0) => record[0] = [2, 65_535][rng.below(2)],
         (0, _) => record[2] = 1 + rng.below(65_535) as u16,
         (_, word) => record[word] = not_earlier,
     }
     Some(script.encode())
+}
+
+/// A word whose low byte alone would be a type up to the last one given.
+fn above_a_byte(last: u16, rng: &mut Rng) -> u16 {
+    256 * (1 + rng.below(255) as u16) + rng.below(last as usize + 1) as u16
 }
 
 fn break_counts(script: &mut Script, rng: &mut Rng) -> Option<Vec<u8>> {
@@ -79,9 +85,9 @@ fn break_counts(script: &mut Script, rng: &mut Rng) -> Option<Vec<u8>> {
 fn break_type(script: &mut Script, rng: &mut Rng) -> Option<Vec<u8>> {
     let interfaces = script.interfaces.len();
     let int = script.int_type();
-    let past = [int + 1, int + 2, 65_535][rng.below(3)];
-    let no_interface = [0, interfaces as u16 + 1, int][rng.below(3)];
-    let no_class = [rng.below(interfaces + 1) as u16, int, int, int + 1][rng.below(4)];
+    let past = [int + 1, int + 2, above_a_byte(int, rng), 65_535][rng.below(4)];
+    let no_interface = [0, interfaces as u16 + 1, int, above_a_byte(interfaces as u16, rng)][rng.below(4)];
+    let no_class = [rng.below(interfaces + 1) as u16, int, int, int + 1, above_a_byte(int - 1, rng)][rng.below(5)];
     let (news, casts): (Vec<_>, Vec<_>) =
         script.nodes.iter_mut().filter(|node| [NEW, CAST].contains(&node[0])).partition(|node| node[0] == NEW);
     let mut words: [Vec<(&mut u16, u16)>; 6] = [

@@ -150,6 +150,8 @@ fn damaged_values() {
         let case = any_case(&mut rng);
         let number = offer(&case.script, &case.block, &mut case.flags.clone()).number;
         tally.count("20: a block of 49,152 bytes", number == 20 && case.block.len() == 49_152);
+        tally
+            .count("21: a type with another high byte", case.origin == Origin::Damaged(Edit::HighByte) && number == 21);
         let Origin::Damaged(Edit::Value { damage, .. }) = case.origin else { continue };
         for (wanted, refused, accepted) in [
             (ValueDamage::Null, "21: null at Int", "null in place of an object or a number"),
@@ -168,5 +170,5 @@ fn damaged_values() {
         tally.count("21: a kind of 3 or more", damage == ValueDamage::Kind && number == 21);
         tally.count("21: a value's first word", damage == ValueDamage::Word(0) && number == 21);
     }
-    tally.is_often(13);
+    tally.is_often(14);
 }
