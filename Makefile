@@ -1,10 +1,10 @@
-# make            build/: the library, its header and the checking program, ready to take away
-# make demo       the checking program on every sample script, with what each shows
+# make            build/: the library, its header and the two programs, ready to take away
+# make demo       Figure 10 from its text to its number, and the programs on every sample, with what each shows
 # make test       the whole test run, which is the gate
 # make quick      for daily work: what has changed since it was last proved, proved and compiled, and the short tests; no must-fail edit
 # make install    under PREFIX (default /usr/local; each place by itself: LIBDIR, INCLUDEDIR, BINDIR, PKGCONFIGDIR, DOCDIR), in DESTDIR if it is given
 # make uninstall  removes what `make install` with the same variables has put there, and DOCDIR if nothing else is in it
-# make bench      the speed of the calls beside the second implementation's
+# make bench      the speed of the calls beside the second implementation's, and of Read beside that of a reader made for speed
 # make clean      removes build/ and target/
 
 PREFIX ?= /usr/local
@@ -18,16 +18,17 @@ CFLAGS ?= -O2
 CFLAGS += -std=c11 -D_DEFAULT_SOURCE -Wall -Wextra -Werror
 SOURCES := crates.txt $(shell find crates -type f)
 
-# The version stands in the header only. The linker's names of the four calls end in its first number.
+# The version stands in the header only. The linker's names of the calls end in its first number.
 version_part = $(shell sed -n 's/^.define OOLONG_VERSION_$(1) //p' include/oolong.h)
 MAJOR := $(call version_part,MAJOR)
 VERSION := $(MAJOR).$(call version_part,MINOR).$(call version_part,PATCH)
-CALLS := oolong_check oolong_start oolong_offer oolong_run
+CALLS := oolong_read oolong_check oolong_start oolong_offer oolong_run
 
 LIBRARY := build/lib/liboolong.a
-PROGRAM := build/bin/oolong_check
-DOCUMENTS := BLOCK.md SCRIPT.md
-INSTALLED = $(LIBDIR)/liboolong.a $(INCLUDEDIR)/oolong.h $(BINDIR)/oolong_check $(PKGCONFIGDIR)/liboolong.pc $(addprefix $(DOCDIR)/,$(DOCUMENTS))
+NAMES := oolong_read oolong_check
+PROGRAMS := $(addprefix build/bin/,$(NAMES))
+DOCUMENTS := BLOCK.md GRAMMAR.md SCRIPT.md
+INSTALLED = $(LIBDIR)/liboolong.a $(INCLUDEDIR)/oolong.h $(addprefix $(BINDIR)/,$(NAMES)) $(PKGCONFIGDIR)/liboolong.pc $(addprefix $(DOCDIR)/,$(DOCUMENTS))
 
 ifneq ($(filter-out clean uninstall,$(or $(MAKECMDGOALS),all)),)
 ifneq ($(shell uname -sm),Linux x86_64)
@@ -47,16 +48,16 @@ in_prefix = $(patsubst $(PREFIX)/%,$${prefix}/%,$(1))
 
 .PHONY: all test quick demo install uninstall bench clean
 
-all: $(LIBRARY) build/include/oolong.h $(PROGRAM)
+all: $(LIBRARY) build/include/oolong.h $(PROGRAMS)
 
-# Archive and program are made of proved crates: rt proves whatever has changed first. One rule makes both, since rt must not run twice at once.
-build/engine.a $(PROGRAM) &: $(SOURCES)
+# Archive and programs are made of proved crates: rt proves whatever has changed first. One rule makes all, since rt must not run twice at once.
+build/engine.a $(PROGRAMS) &: $(SOURCES)
 	@mkdir -p build/bin
 	@echo "proving the engine's crates and compiling them: minutes the first time, then only what has changed"
 	rt staticlib engine
-	rt check oolong_check
+	rt check $(NAMES)
 	cp target/staticlib/libengine.a build/engine.a
-	cp target/bin/oolong_check $(PROGRAM)
+	cp $(addprefix target/bin/,$(NAMES)) build/bin/
 
 $(LIBRARY): build/engine.a include/oolong.h
 	@mkdir -p $(@D)
@@ -70,14 +71,14 @@ build/bin/words: samples/words.c
 	@mkdir -p $(@D)
 	$(CC) $(CFLAGS) -o $@ $<
 
-build/tests/%: tests/c/%.c tests/c/lent.h build/include/oolong.h $(LIBRARY)
+build/tests/%: tests/c/%.c $(wildcard tests/c/*.h) build/include/oolong.h $(LIBRARY)
 	@mkdir -p $(@D)
 	$(CC) $(CFLAGS) -Ibuild/include -o $@ $< $(LIBRARY) -pthread $(LINKED)
 
 # Counts the library's calls of these.
 build/tests/copies: LINKED := -Wl,--wrap=memcpy,--wrap=memmove
 
-demo: $(PROGRAM) build/bin/words
+demo: $(PROGRAMS) build/bin/words build/tests/player
 	@samples/demo
 
 test:
@@ -90,7 +91,7 @@ install: all
 	install -d $(addprefix $(DESTDIR),$(dir $(INSTALLED)))
 	install -m 644 $(LIBRARY) $(DESTDIR)$(LIBDIR)/
 	install -m 644 build/include/oolong.h $(DESTDIR)$(INCLUDEDIR)/
-	install -m 755 $(PROGRAM) $(DESTDIR)$(BINDIR)/
+	install -m 755 $(PROGRAMS) $(DESTDIR)$(BINDIR)/
 	install -m 644 $(addprefix docs/,$(DOCUMENTS)) $(DESTDIR)$(DOCDIR)/
 	sed 's|@PREFIX@|$(PREFIX)|; s|@LIBDIR@|$(call in_prefix,$(LIBDIR))|; s|@INCLUDEDIR@|$(call in_prefix,$(INCLUDEDIR))|; s|@VERSION@|$(VERSION)|' \
 	    include/liboolong.pc.in >$(DESTDIR)$(PKGCONFIGDIR)/liboolong.pc

@@ -1,28 +1,31 @@
 /*
  * oolong.h - OOlong scripts in a converter.
  *
- * The engine is a static library, liboolong.a, of proved functions. There are four calls:
+ * The engine is a static library, liboolong.a, of proved functions. There are five calls:
  *
+ *     oolong_read    makes a script of a text, as an author types it
  *     oolong_check   is this a script that may run, and what is the type of its result?
  *     oolong_start   writes the state of a run that has not begun into a block of yours
  *     oolong_offer   which threads can move next?
  *     oolong_run     moves threads in the order that you choose
  *
- * SCRIPT.md and BLOCK.md are installed beside this header, in share/doc/liboolong, and stand in docs/ of the sources.
+ * GRAMMAR.md, SCRIPT.md and BLOCK.md are installed beside this header, in share/doc/liboolong, and stand in docs/ of the sources.
  *
  * Every call returns, whatever bytes it is lent: you need not check them first. Nothing here allocates memory, keeps anything between calls, reads or writes a file, or calls back.
  * A reply depends on nothing but the lent bytes and lengths. Calls may run at the same time in different threads if each has buffers of its own for what it writes: one script, and any
  * other buffer that the calls only read, may be lent to all of them at once.
  *
  * Buffers. A buffer is lent as a pointer and a length in bytes, at any address. A length of 0 goes with any pointer, NULL too. With a larger length the pointer must point to that many
- * bytes that stay readable, and unwritten by others, until the call returns. A buffer that a call writes (the block in oolong_start and oolong_run, the flags in oolong_offer) must be
- * writable and may not overlap another buffer lent to that call. Parameters that point to const bytes are only read.
+ * bytes that stay readable, and unwritten by others, until the call returns. A buffer that a call writes (the file in oolong_read, the block in oolong_start and oolong_run, the flags in
+ * oolong_offer) must be writable and may not overlap another buffer lent to that call. Parameters that point to const bytes are only read.
  *
  * Numbers. A reply has a number: 0 if the call was not refused, else the number of the first question about your input that gets a no (OOLONG_NO_..). The place goes with it:
- * the byte offset in the script of the lowest record at fault, or 0 where the question is about the script as a whole or about another buffer. A refusal leaves every other number of
- * the reply 0, and EVERY LENT BYTE AS IT WAS.
+ * the byte offset in the script of the lowest record at fault, or 0 where the question is about the script as a whole or about another buffer; of oolong_read the byte offset in the text
+ * of the first token at fault (its line is 1 and the line feeds in front of it). A refusal leaves every other number of the reply 0, and EVERY LENT BYTE AS IT WAS.
  *
- * The script. A file of 24 to 13,592 bytes; SCRIPT.md says what each byte means.
+ * The text. Up to 65,536 bytes of ASCII that an author types; GRAMMAR.md says what may stand there. oolong_read makes a script of it, and no other call is lent a text.
+ *
+ * The script. A file of 24 to 13,592 bytes; SCRIPT.md says what each byte means. It comes from oolong_read, or from a tool of yours that writes such files.
  *
  * The block. A run's whole state is in the 65,536 bytes of the block, which is yours; BLOCK.md says what each byte means. A state has exactly one block: two runs of a script are in the
  * same state just where memcmp of their blocks is 0. All numbers in it stand low byte first on every machine. Between calls you may keep a block as long as you like, move it, save it to a
@@ -30,7 +33,8 @@
  * that was changed, damaged or made by hand: if it is no well-formed state of the script the call is refused with OOLONG_NO_BLOCK_FORM, and if it is one, the run goes on from there.
  * A block that was written by a library of major version 1 (layout 1, 49,152 bytes) is refused with OOLONG_NO_BLOCK_LENGTH: let the old library end its runs, or start them anew.
  *
- * Stack. The calls go as deep as the script's expressions are nested: OOLONG_STACK_FOR says what a thread needs that makes them.
+ * Stack. The calls that are lent a script go as deep as its expressions are nested: OOLONG_STACK_FOR says what a thread needs that makes them. oolong_read needs the same for every nesting, and
+ * more of it: OOLONG_READ_STACK.
  *
  * Versions. The names that the linker sees end in the major version: a program that was compiled with the header of another major version does not link with this library, since replies are
  * returned by value and may then have other fields. In C and C++ the calls have the names that are declared here. The header is for gcc and clang, in C from C89 and in C++ from C++98 on.
@@ -47,8 +51,8 @@ extern "C" {
 
 /* The major version changes where a call, a reply, a number's meaning or the block's layout does; the minor where something is added; the patch where neither does. */
 #define OOLONG_VERSION_MAJOR 2
-#define OOLONG_VERSION_MINOR 0
-#define OOLONG_VERSION_PATCH 1
+#define OOLONG_VERSION_MINOR 1
+#define OOLONG_VERSION_PATCH 0
 #define OOLONG_VERSION (OOLONG_VERSION_MAJOR * 10000 + OOLONG_VERSION_MINOR * 100 + OOLONG_VERSION_PATCH)
 
 /* The number of the block's layout: it changes where a byte of the block changes its meaning. A block that you keep in a file is best kept with this number. */
@@ -71,6 +75,8 @@ extern "C" {
 #define OOLONG_CLASS_FIELDS_MOST 8u  /* fields of one class */
 
 /* The other buffers. */
+#define OOLONG_TEXT_MOST 65536u      /* bytes of the longest text */
+#define OOLONG_FILE 13592u           /* bytes of the buffer that oolong_read writes a script file into, exactly */
 #define OOLONG_BLOCK 65536u          /* bytes of a state block, exactly */
 #define OOLONG_FLAGS 63u             /* bytes of the flags, exactly: one for each tree position that there can be */
 #define OOLONG_CHOICES_MOST 4096u    /* bytes of the longest choice list; none is fine */
@@ -81,7 +87,8 @@ extern "C" {
 #define OOLONG_FRAMES_MOST 2048u     /* unfinished expressions of all threads together */
 #define OOLONG_THREADS_MOST 32u      /* threads at one time; with the joins between them at most 63 tree positions */
 
-/* Why a call is refused: the first question, in this order, that gets a no. oolong_check asks those to 15, oolong_start these and OOLONG_NO_BLOCK_LENGTH, the other two all. */
+/* Why a call is refused: the first question, in this order, that gets a no. oolong_check asks those to 15, oolong_start these and OOLONG_NO_BLOCK_LENGTH, oolong_offer and oolong_run
+ * all down to OOLONG_NO_BLOCK_FORM; oolong_read asks the last three and no others. */
 enum oolong_number {
     OOLONG_OK = 0,
     OOLONG_NO_LENGTH = 1,      /* the file is not 24 to 13,592 bytes; place 0 */
@@ -102,7 +109,12 @@ enum oolong_number {
     OOLONG_NO_SHARING = 15,    /* the two asyncs of a fork share a variable (place: the fork) */
     OOLONG_NO_BLOCK_LENGTH = 20,  /* the block is not 65,536 bytes, as one of layout 1 is not; place 0 */
     OOLONG_NO_BUFFER_LENGTH = 22, /* there are more than 4,096 choices (oolong_run), or the flags are not 63 bytes (oolong_offer); place 0. Asked before 21 */
-    OOLONG_NO_BLOCK_FORM = 21     /* the block is no well-formed state of this script; place 0 */
+    OOLONG_NO_BLOCK_FORM = 21,    /* the block is no well-formed state of this script; place 0 */
+    OOLONG_NO_GRAMMAR = 34,     /* the token at the place fits nothing that can be typed behind what stands before it; where the text ends too soon, the place is its length */
+    OOLONG_NO_DECLARATION = 35, /* a type has a name that the text declares nowhere, or a name is declared again, as an interface or a class (place: the first such name) */
+    OOLONG_NO_ROOM = 36         /* the text is above 65,536 bytes or the buffer is not 13,592 (both asked before 34; place 0), or there are more interfaces, signatures, classes, fields, methods
+                                   or nodes than a file may have (place: the first token of the first one too many), or an integer is below -2,147,483,648 or above 2,147,483,647
+                                   (place: its first token, which is its minus if it has one): the lowest of these places */
 };
 
 /* Why oolong_run came back. */
@@ -117,14 +129,36 @@ enum oolong_stop {
     OOLONG_FULL_THREADS = 7
 };
 
-/* Stack that is enough for a thread that makes any of the calls, in bytes, where the script's expressions are nested so deep: a node that is no part of another is nested 1 deep, and a part one
- * deeper than its node. pthread_attr_setstacksize may be given this number as it is. In it are 8,192 bytes for the thread itself, 24,576 for a call, and 410 for each level of nesting, all by
- * measurement on x86-64 with glibc, with some room. Add what your own functions use that make the call; the program's thread-local variables, if they are large, since glibc keeps them, and what
- * it knows of a thread, on the thread's stack; and what signal handlers use, if they run there. OOLONG_STACK is enough for any script, OOLONG_STACK_USUAL for one that is nested at most
- * 100 deep. */
+/* Stack that is enough for a thread that makes any of the calls but oolong_read, in bytes, where the script's expressions are nested so deep: a node that is no part of another is nested 1 deep,
+ * and a part one deeper than its node. pthread_attr_setstacksize may be given this number as it is. In it are 8,192 bytes for the thread itself, 24,576 for a call, and 410 for each level of
+ * nesting, all by measurement on x86-64 with glibc, with some room. Add what your own functions use that make the call; the program's thread-local variables, if they are large, since glibc keeps
+ * them, and what it knows of a thread, on the thread's stack; and what signal handlers use, if they run there. OOLONG_STACK is enough for any script, OOLONG_STACK_USUAL for one that is nested at
+ * most 100 deep. */
 #define OOLONG_STACK_FOR(nesting) (8192u + 24576u + 410u * (nesting))
 #define OOLONG_STACK_USUAL OOLONG_STACK_FOR(100u)
 #define OOLONG_STACK OOLONG_STACK_FOR(OOLONG_NODES_MOST)
+
+/* The same for a thread that calls oolong_read, with any text: what the call keeps of a text it keeps in tables of a fixed size, so neither its length nor how deep it is nested matters. The 8,192
+ * bytes for the thread itself are in it, and what is said above of your own functions goes for it too. */
+#define OOLONG_READ_STACK 700000u
+
+struct oolong_read_reply {
+    uint16_t number; /* OOLONG_OK, OOLONG_NO_GRAMMAR, OOLONG_NO_DECLARATION or OOLONG_NO_ROOM */
+    uint16_t length; /* how many bytes of the buffer are the script file, 32 to 13,592; 0 with a refusal */
+    uint32_t place;  /* where in the text the fault is, 0 to 65,536; 0 with OOLONG_OK */
+};
+
+/*
+ * Read a text: does the grammar of GRAMMAR.md derive it, and within the limits of a script file? Then the one file of its one derivation is written into the buffer, which must be OOLONG_FILE
+ * bytes, and the buffer's rest becomes 0. Lend the first `length` bytes of it to the other calls. The text is only read, and needs no 0 at its end.
+ *
+ * A text that is read need not be accepted: whether its types fit, and all else, oolong_check asks of the file. Its places are offsets in the file; SCRIPT.md says which record stands where, and
+ * GRAMMAR.md which token of the text it comes from. Numbers stand for names in the file, so keep the text if its names are still wanted.
+ *
+ * With OOLONG_NO_ROOM and place 0 it is a length that is at fault, unless both are right: then the text begins with an integer out of range. A text from a file that may be too long is best read
+ * into a buffer of OOLONG_TEXT_MOST + 1 bytes: if that is full, the call says so.
+ */
+struct oolong_read_reply oolong_read(const uint8_t *text, size_t text_len, uint8_t *file, size_t file_len) OOLONG_LINKED("oolong_read");
 
 struct oolong_check_reply {
     uint16_t number; /* OOLONG_OK or OOLONG_NO_.. */
@@ -200,6 +234,9 @@ static __inline__ const char *oolong_number_text(unsigned number) {
     case OOLONG_NO_BLOCK_LENGTH: return "the block is not 65,536 bytes long";
     case OOLONG_NO_BLOCK_FORM: return "the block is no well-formed state of this script";
     case OOLONG_NO_BUFFER_LENGTH: return "there are more than 4,096 choices, or the flags are not 63 bytes long";
+    case OOLONG_NO_GRAMMAR: return "the token at the place, or the end of the text, does not fit what stands before it";
+    case OOLONG_NO_DECLARATION: return "a type's name is declared nowhere, or again";
+    case OOLONG_NO_ROOM: return "the text is above 65,536 bytes, the buffer is not 13,592, the text has too much for one file, or an integer is out of range";
     default: return "no reply has this number";
     }
 }

@@ -4,7 +4,12 @@ use crate::timing::Times;
 
 /// The heading of a table: what is timed, what its size is, and what the last column is, if there is one.
 pub fn heading(what: &str, size: &str, last: &str) {
-    println!("\n{what:<36} {size:>8} {:>12} {:>12} {:>7} {:>8}  {last}", "engine ns", "second ns", "ratio", "growth");
+    heading_beside(what, "second ns", size, last);
+}
+
+/// The same where the engine is timed beside something else than the second implementation.
+pub fn heading_beside(what: &str, beside: &str, size: &str, last: &str) {
+    println!("\n{what:<36} {size:>8} {:>12} {beside:>12} {:>7} {:>8}  {last}", "engine ns", "ratio", "growth");
 }
 
 /// A row: `half` are the times at half the size, where there are such.

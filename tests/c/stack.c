@@ -1,16 +1,10 @@
 /*
- * How much stack the calls use. `stack < script` measures each call on a stack of our own that is painted first: without a script, which is refused at once, on the script, which is one of the
+ * How much stack the calls use that are lent a script. `stack < script` measures each call on a stack of our own that is painted first: without a script, which is refused at once, on the script, which is one of the
  * usual size, and on scripts that are nested as deep as a file can be. None may use more than the header's OOLONG_STACK_FOR has for a call and its nesting. Then a thread whose stack has just
- * OOLONG_STACK_FOR bytes makes all of the calls, in a process of its own, which a stack that is too small would end.
+ * OOLONG_STACK_FOR bytes makes all of the calls, in a process of its own, which a stack that is too small would end. tests/c/read_stack.c does the same with oolong_read.
  */
-#include <pthread.h>
-#include <sys/wait.h>
-
-#include "lent.h"
 #include "oolong.h"
-
-/* THREAD: what OOLONG_STACK_FOR has for the thread itself. */
-enum { STACK = 4 * 1024 * 1024, PAINT = 0xa5, THREAD = 8192 };
+#include "stacks.h"
 
 static uint8_t block[OOLONG_BLOCK];
 
@@ -47,28 +41,13 @@ struct job {
     unsigned (*call)(const uint8_t *, size_t);
     const uint8_t *script;
     size_t len;
-    unsigned number;
+    unsigned wanted, number; /* the reply's number: which it must be, and which it is */
 };
 
 static void *work(void *given) {
     struct job *job = given;
-    if (job->call != NULL) job->number = job->call(job->script, job->len);
+    job->number = job->call(job->script, job->len);
     return NULL;
-}
-
-/* The bytes of stack that a thread used for a job, or for none where there is no call; the thread's own included. */
-static size_t used(struct job *job) {
-    uint8_t *stack = mmap(NULL, STACK, PROT_READ | PROT_WRITE, MAP_PRIVATE | MAP_ANONYMOUS, -1, 0);
-    pthread_attr_t attributes;
-    pthread_t thread;
-    sure(stack != MAP_FAILED, "mmap");
-    memset(stack, PAINT, STACK);
-    if (pthread_attr_init(&attributes) != 0 || pthread_attr_setstack(&attributes, stack, STACK) != 0) exit(2);
-    if (pthread_create(&thread, &attributes, work, job) != 0 || pthread_join(thread, NULL) != 0) exit(2);
-    size_t clean = 0;
-    while (clean < STACK && stack[clean] == PAINT) clean++;
-    munmap(stack, STACK);
-    return STACK - clean;
 }
 
 /* One empty interface and one class of it, and as many nodes of this kind as there is room for in this number of nodes, each with the next as a part; at the end, and where a part is no such
@@ -128,48 +107,28 @@ static unsigned nesting(const uint8_t *script, size_t len) {
     return most;
 }
 
-/* All calls in one thread; the number of the last. */
+/* All calls in one thread; NULL if the last has the wanted number. */
 static void *work_all(void *given) {
     struct job *job = given;
     for (size_t i = 0; i < sizeof calls / sizeof *calls; i++) job->number = calls[i].call(job->script, job->len);
-    return NULL;
-}
-
-/* Whether a thread with this many bytes of stack makes all calls on the script, the last with this number: a process of its own ends with 0 then. */
-static int enough(size_t bytes, const uint8_t *script, size_t len, unsigned number) {
-    int status = 0;
-    fflush(stdout);
-    pid_t child = fork();
-    sure(child >= 0, "fork");
-    if (child == 0) {
-        struct job job = {NULL, script, len, 0};
-        pthread_attr_t attributes;
-        pthread_t thread;
-        if (pthread_attr_init(&attributes) != 0 || pthread_attr_setstacksize(&attributes, bytes) != 0) _exit(2);
-        if (pthread_create(&thread, &attributes, work_all, &job) != 0 || pthread_join(thread, NULL) != 0) _exit(2);
-        _exit(job.number != number);
-    }
-    sure(waitpid(child, &status, 0) == child, "waitpid");
-    if (WIFSIGNALED(status)) printf(" (FAIL  a thread of %zu bytes was ended by signal %d)", bytes, WTERMSIG(status));
-    if (WIFEXITED(status) && WEXITSTATUS(status) != 0) printf(" (FAIL  a thread of %zu bytes: status %d)", bytes, WEXITSTATUS(status));
-    return WIFEXITED(status) && WEXITSTATUS(status) == 0;
+    return job->number == job->wanted ? NULL : job;
 }
 
 /* Says what each call uses on this script; whether all answer with this number, none uses more than the header has for it, and a thread with the header's stack is enough. */
 static int within(const char *what, const uint8_t *script, size_t len, unsigned number) {
-    struct job idle = {NULL, NULL, 0, 0};
+    struct job job = {NULL, script, len, number, 0};
     unsigned deep = nesting(script, len);
-    size_t base = used(&idle), most = 0, has = OOLONG_STACK_FOR(deep);
+    size_t base = used(idle, NULL), most = 0, has = OOLONG_STACK_FOR(deep);
     int answered = 1;
     printf("%s, nested %u deep:", what, deep);
     for (size_t i = 0; i < sizeof calls / sizeof *calls; i++) {
-        struct job job = {calls[i].call, script, len, 0};
-        size_t bytes = used(&job) - base;
+        job.call = calls[i].call;
+        size_t bytes = used(work, &job) - base;
         printf(" %s %zu", calls[i].name, bytes);
         if (job.number != number) printf(" (FAIL  its number is %u and not %u)", job.number, number), answered = 0;
         if (bytes > most) most = bytes;
     }
-    answered &= enough(has, script, len, number);
+    answered &= enough(has, work_all, &job);
     printf("; %s: the header says %zu, of which %d are for the thread itself\n", most <= has - THREAD ? "ok" : "FAIL", has, THREAD);
     return answered && most <= has - THREAD;
 }

@@ -1,6 +1,6 @@
 /*
- * Calls in several threads at once. `threads < script` lends one script, which may only be read, to all of them, and one first block; each thread has a block of its own, in which it plays its own
- * choices. What it plays is first played in one thread alone, and every reply, flag and byte of the block after each move must then be the same. It prints nothing unless something is wrong.
+ * Calls in several threads at once. `threads < text` lends one text, its script and one first block, which may only be read, to all of them; each thread has a file and a block of its own, into
+ * which it reads the text, and in which it plays its own choices. What it plays is first played in one thread alone, and every reply, flag and byte of the block after each move must then be the same. It prints nothing unless something is wrong.
  */
 #include <pthread.h>
 
@@ -9,12 +9,12 @@
 
 enum { THREADS = 8, MOVES = 600, GAMES = 4 };
 
-static struct lent script, first_block;
+static struct lent text, script, first_block;
 
 struct game {
     unsigned number;
-    uint8_t *block;   /* the thread's own */
-    uint64_t outcome; /* a sum of all that the calls have answered and written */
+    uint8_t *file, *block; /* the thread's own */
+    uint64_t outcome;      /* a sum of all that the calls have answered and written */
 };
 
 /* FNV-1a. */
@@ -32,12 +32,15 @@ static uint8_t pick(const uint8_t *flags, unsigned number) {
     return 0;
 }
 
-/* Check, Start, then Offer and Run for each move; Offer on the one first block too. */
+/* Read, Check, Start, then Offer and Run for each move; Offer on the one first block too. */
 static void *play(void *given) {
     struct game *game = given;
     uint64_t sum = 14695981039346656037u;
     unsigned random = game->number;
     for (unsigned round = 0; round < GAMES; round++) {
+        struct oolong_read_reply made = oolong_read(text.bytes, text.len, game->file, OOLONG_FILE);
+        add(&sum, &made, sizeof made);
+        add(&sum, game->file, OOLONG_FILE);
         struct oolong_check_reply checked = oolong_check(script.bytes, script.len);
         add(&sum, &checked, sizeof checked);
         struct oolong_start_reply started = oolong_start(script.bytes, script.len, game->block, OOLONG_BLOCK);
@@ -63,14 +66,15 @@ static void *play(void *given) {
 }
 
 int main(void) {
-    static uint8_t bytes[OOLONG_SCRIPT_MOST], blocks[THREADS][OOLONG_BLOCK];
+    static uint8_t bytes[OOLONG_TEXT_MOST], files[THREADS][OOLONG_FILE], blocks[THREADS][OOLONG_BLOCK];
     struct game alone[THREADS], together[THREADS];
     pthread_t threads[THREADS];
-    script = lend_to_read(bytes, fread(bytes, 1, sizeof bytes, stdin));
+    text = lend_to_read(bytes, fread(bytes, 1, sizeof bytes, stdin));
+    script = lend_to_read(files[0], oolong_read(text.bytes, text.len, files[0], OOLONG_FILE).length);
     if (oolong_start(script.bytes, script.len, blocks[0], OOLONG_BLOCK).number != OOLONG_OK) return printf("FAIL  the script is not accepted\n"), EXIT_FAILURE;
     first_block = lend_to_read(blocks[0], OOLONG_BLOCK);
     for (unsigned i = 0; i < THREADS; i++) {
-        alone[i] = together[i] = (struct game){i, blocks[i], 0};
+        alone[i] = together[i] = (struct game){i, files[i], blocks[i], 0};
         play(&alone[i]);
     }
     for (unsigned i = 0; i < THREADS; i++) sure(pthread_create(&threads[i], NULL, play, &together[i]) == 0, "pthread_create");

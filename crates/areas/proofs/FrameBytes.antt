@@ -1,12 +1,12 @@
 -- The frames of a block as bytes: where they lie, and a block of which the bytes of the later frames are changed.
 use mathlib.Core.Path.{_≡_, refl, sym, ap, _∙_}
 use mathlib.Core.List.{List, [], _∷_, _++_, append-assoc, append-nil, map, flatten}
-use Prim.Native.Nat.{ℕ, zero, suc, _+_, _*_, _-_, _%_, _/_, _<_, _≤_}
+use Prim.Native.Nat.{ℕ, zero, suc, _+_, _*_, _-_, _<_, _≤_}
 use native.Mathlib.Omega.{arith}
 use lib.ListN.{length, take, drop, replicate, length-append, length-drop, length-map, length-replicate, take-append-drop, replicate-append-replicate}
 use lib.Seq.{length-take-le, take-at, drop-at}
 use Rattle.words.specs.Word.{bytes}
-use Rattle.words.proofs.Laws.{length-bytes, twice-suc}
+use Rattle.words.proofs.Laws.{length-bytes, twice-suc, bytes-append}
 use Rattle.slices.specs.Put.{putWord}
 use Rattle.limits.specs.Limits.{FRAMES}
 use Rattle.machine.specs.declared.Frame.{Frame}
@@ -21,11 +21,6 @@ use Rattle.areas.specs.Shifts.{raised, lowered}
 use Rattle.areas.proofs.Shifting.{up-length, down-length, whole-length}
 
 -- words and zeros as bytes
-bytes-append : (xs ys : List ℕ) → bytes (xs ++ ys) ≡ bytes xs ++ bytes ys
-unfolding bytes
-bytes-append [] ys = refl
-bytes-append (x ∷ xs) ys = ap (λ (l : List ℕ). x % 256 ∷ x / 256 ∷ l) (bytes-append xs ys)
-
 bytes-zeros : (n : ℕ) → bytes (replicate n 0) ≡ replicate (2 * n) 0
 unfolding bytes
 bytes-zeros zero = refl

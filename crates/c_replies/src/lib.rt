@@ -1,6 +1,7 @@
 // The replies as C gets them.
 mod check;
 mod offer;
+mod read;
 mod run;
 mod start;
 
@@ -8,6 +9,8 @@ pub use check::CheckReply;
 pub use check::check_reply;
 pub use offer::OfferReply;
 pub use offer::offer_refusal;
+pub use read::ReadReply;
+pub use read::read_reply;
 pub use run::RunReply;
 pub use run::run_refusal;
 pub use run::run_reply;

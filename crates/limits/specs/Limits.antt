@@ -63,3 +63,7 @@ FLAGS = POSITIONS
 -- "A thread makes at most 1,024 silent moves in a row."
 abbrev pub SILENT : ℕ
 SILENT = 1024
+
+-- Request 4: the longest text, "the text is above 65,536 bytes".
+abbrev pub TEXT : ℕ
+TEXT = 65536

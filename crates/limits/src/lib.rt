@@ -1,7 +1,7 @@
 // Every limit of document 01, and the length of the block, which is document 02's (request 2), named in one place.
 ghost use mathlib.Core.Path.{_≡_};
 ghost use Rattle.limits.specs.Limits.{INTERFACES, SIGNATURES, CLASSES, FIELDS, METHODS, NODES, CONTENTS, FILE, CLASS-FIELDS, BLOCK, OBJECTS, BINDINGS};
-ghost use Rattle.limits.specs.Limits.{FRAMES, THREADS, POSITIONS, CHOICES, FLAGS, SILENT};
+ghost use Rattle.limits.specs.Limits.{FRAMES, THREADS, POSITIONS, CHOICES, FLAGS, SILENT, TEXT};
 
 // The limits. `specs/Limits.antt` says what each one bounds.
 pub struct Limits {}
@@ -42,6 +42,8 @@ impl Limits {
     pub const FLAGS: usize = Self::POSITIONS;
 
     pub const SILENT: usize = 1024;
+
+    pub const TEXT: usize = 65536;
 }
 
 // The constants and the definitions are the same numbers.
@@ -64,4 +66,5 @@ pub fn agreed()
     ensures { λ r. do ⌜ (← ⟦Limits::CHOICES⟧ .entry) ≡ CHOICES ⌝ }
     ensures { λ r. do ⌜ (← ⟦Limits::FLAGS⟧ .entry) ≡ FLAGS ⌝ }
     ensures { λ r. do ⌜ (← ⟦Limits::SILENT⟧ .entry) ≡ SILENT ⌝ }
+    ensures { λ r. do ⌜ (← ⟦Limits::TEXT⟧ .entry) ≡ TEXT ⌝ }
 {}

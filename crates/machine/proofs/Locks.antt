@@ -9,6 +9,7 @@ use mathlib.Core.Logic.{⊎-elim}
 use lib.Dec.{eqb}
 use borrow.Author.Tests.{eq-eqb, ne-eqb}
 use Rattle.script.specs.Lists.{_∈_, countIn}
+use Rattle.script.proofs.Lists.{count-append}
 use Rattle.machine.specs.declared.Frame.{Frame}
 use Rattle.machine.specs.declared.Frame.the-variants.{Awaits as awaits, Casts as casts, Locks as locks}
 use Rattle.machine.specs.Config.{Tree, running, returning, failed, join}
@@ -24,11 +25,6 @@ count-head o p l = go (ℕ-discrete o p)
     go : Dec (o ≡ p) → countIn o (p ∷ l) ≡ oneIf (eqb o p) + countIn o l
     go (yes e) = rw (eq-eqb p o (sym e), eq-eqb o p e) (omega arith)
     go (no n) = rw (ne-eqb p o (λ e. n (sym e)), ne-eqb o p n) (omega arith)
-
-pub count-append : (o : ℕ) (l m : List ℕ) → countIn o (l ++ m) ≡ countIn o l + countIn o m
-unfolding countIn
-count-append o [] m = omega arith
-count-append o (p ∷ l) m = omega (arith, count-head o p l, count-head o p (l ++ m), count-append o l m)
 
 pub count-in : (o : ℕ) (l : List ℕ) → 1 ≤ countIn o l → o ∈ l
 unfolding countIn

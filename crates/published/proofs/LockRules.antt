@@ -9,6 +9,7 @@ use lib.ListN.{length}
 use borrow.Author.Tests.{eq-eqb, ne-eqb}
 use Rattle.script.specs.Lists.{_∈_, countIn}
 use Rattle.script.specs.Syntax.{Point, Expr, null, var, select, update, call, bind, new, cast, fork, lock, constant, add, Node, n-null, n-var, n-select, n-update, n-call, n-bind, n-new, n-cast, n-fork, n-lock, n-constant, n-add}
+use Rattle.script.proofs.Lists.{count-append}
 use Rattle.machine.specs.declared.Value.{Value}
 use Rattle.machine.specs.declared.Frame.{Frame}
 use Rattle.machine.specs.declared.Frame.the-variants.{Awaits as awaits, Casts as casts, Locks as locks}
@@ -21,7 +22,7 @@ use Rattle.published.specs.ReadAs.{names, gap, hole, plug, said, read, r
 use Rattle.published.specs.LockRules.{lockedList, asSet, DistinctLocks, heldLocks, LeftmostFailed, leftmost-here, leftmost-left, WfLocks, WF-L-THREAD, WF-L-ASYNC, WF-L-EXN, leftmost-failed, allLocked, LockFramesOk}
 use Rattle.soundness.proofs.Stores.{shutAt-le, shutAt-object}
 use Rattle.soundness.proofs.Ends.{frames-append}
-use Rattle.machine.proofs.Locks.{count-head, count-append, count-in, in-count, frames-held, held-in, in-held}
+use Rattle.machine.proofs.Locks.{count-head, count-in, in-count, frames-held, held-in, in-held}
 use Rattle.published.proofs.HeldLocks.{shut-locked}
 
 -- sets by counting

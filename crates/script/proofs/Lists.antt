@@ -1,7 +1,7 @@
 -- Laws of lists that are read off numbered records.
 use mathlib.Core.Path.{_≡_, refl, sym, ap, _∙_}
 use mathlib.Core.Bool.{Bool, true, false, cond}
-use mathlib.Core.List.{List, [], _∷_, List·Memᴰ·head, List·Memᴰ·tail, List·Memᴰ·cases-cons, List·Memᴰ·not-nil}
+use mathlib.Core.List.{List, [], _∷_, _++_, List·Memᴰ·head, List·Memᴰ·tail, List·Memᴰ·cases-cons, List·Memᴰ·not-nil}
 use mathlib.Core.Logic.{_⊎_, ⊎-elim, inl, inr}
 use mathlib.Core.Option.{none, some}
 use Prim.Native.Nat.{ℕ, zero, suc, _+_, _<_, _≤_}
@@ -11,7 +11,7 @@ use native.Mathlib.Numerals.{add-one}
 use lib.Dec.{eqb, ltb}
 use lib.ListN.{length, getD, replicate}
 use borrow.Author.Tests.{eqb-true, eqb-false, eq-eqb, ne-eqb, ltb-true, ltb-false}
-use Rattle.script.specs.Lists.{_∈_, Every, run, sumBelow, named}
+use Rattle.script.specs.Lists.{_∈_, Every, run, sumBelow, named, countIn}
 use Rattle.script.specs.Regular.{Unique, no-more, one-more}
 
 -- what follows of each element
@@ -123,6 +123,17 @@ owner-of f (suc n) i h =
     (λ (l : i < sumBelow f n). let o = owner-of f n i l in record { owner = o .owner; among = omega (arith, o .among); from = o .from; upto = o .upto })
     (λ (g : sumBelow f n ≤ i). record { owner = n; among = omega arith; from = g; upto = h })
     (lt-or-le i (sumBelow f n))
+
+-- counting in two lists, one after the other
+pub count-append : (x : ℕ) (l m : List ℕ) → countIn x (l ++ m) ≡ countIn x l + countIn x m
+unfolding countIn
+count-append x [] m = omega arith
+count-append x (y ∷ l) m = go (eqb y x) (count-append x l m)
+  where
+    go : (b : Bool) → countIn x (l ++ m) ≡ countIn x l + countIn x m
+        → cond b (suc (countIn x (l ++ m))) (countIn x (l ++ m)) ≡ cond b (suc (countIn x l)) (countIn x l) + countIn x m
+    go true e = omega arith
+    go false e = omega arith
 
 -- what is found under a name has it and stands in the list, and nothing has it where nothing is found
 module _ {A : Type 0} (name : A → ℕ) (x : ℕ) where

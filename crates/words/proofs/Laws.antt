@@ -1,7 +1,7 @@
 -- Laws of words in bytes: a list of words is read word by word.
 use mathlib.Core.Path.{_≡_, refl, sym, ap, _∙_}
-use mathlib.Core.List.{List, [], _∷_}
-use Prim.Native.Nat.{ℕ, zero, suc, _+_, _*_}
+use mathlib.Core.List.{List, [], _∷_, _++_}
+use Prim.Native.Nat.{ℕ, zero, suc, _+_, _*_, _/_, _%_}
 use native.Mathlib.Omega.{arith}
 use lib.ListN.{length, getD}
 use Rattle.words.specs.Word.{wordAt, bytes}
@@ -24,3 +24,8 @@ pub length-bytes : (ws : List ℕ) → length (bytes ws) ≡ 2 * length ws
 unfolding bytes
 length-bytes [] = refl
 length-bytes (w ∷ ws) = ap (λ (k : ℕ). suc (suc k)) (length-bytes ws) ∙ sym (twice-suc (length ws))
+
+pub bytes-append : (us vs : List ℕ) → bytes (us ++ vs) ≡ bytes us ++ bytes vs
+unfolding bytes
+bytes-append [] vs = refl
+bytes-append (w ∷ us) vs = ap (λ (l : List ℕ). w % 256 ∷ w / 256 ∷ l) (bytes-append us vs)

@@ -1,8 +1,10 @@
 //! The engine against the second implementation, on N random cases; it fails at the first difference, and if an answer came up too rarely.
 //! `compare check N SEED`: Check, on scripts. `compare calls N SEED`: the calls that a block is lent to. `compare types`: both, on every type number and on words that are none.
+//! `compare texts N SEED`: Read, on texts.
 
 mod calls;
 mod check;
+mod texts;
 mod types;
 
 use std::process::ExitCode;
@@ -16,9 +18,10 @@ fn main() -> ExitCode {
     let outcome = match (words.first().map(String::as_str), &numbers[..]) {
         (Some("check"), &[count, seed]) => check::compare(count, seed),
         (Some("calls"), &[count, seed]) => calls::compare(count, seed),
+        (Some("texts"), &[count, seed]) => texts::compare(count, seed),
         (Some("types"), []) => types::compare(),
         _ => {
-            eprintln!("usage: compare check|calls N SEED, or compare types");
+            eprintln!("usage: compare check|calls|texts N SEED, or compare types");
             return ExitCode::from(2);
         }
     };

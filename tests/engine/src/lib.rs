@@ -33,6 +33,8 @@ pub fn start(script: &[u8], block: &mut [u8]) -> Answer {
     unsafe { oolong_start(script.as_ptr(), script.len(), block.as_mut_ptr(), block.len()) }
 }
 
+mod reading;
 mod running;
 
+pub use reading::{read, ReadReply};
 pub use running::{offer, run, RunReply};

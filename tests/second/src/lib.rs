@@ -1,5 +1,5 @@
-//! A second, independent implementation of document 01's four calls, written for differential
-//! testing, with generators of scripts and blocks to test with.
+//! A second, independent implementation of document 01's four calls and of request 4's reader, written
+//! for differential testing, with generators of scripts, blocks and texts to test with.
 
 pub mod block;
 pub mod block_damage;
@@ -8,14 +8,21 @@ pub mod cases;
 pub mod configure;
 pub mod counters;
 pub mod damage;
+mod derive;
 pub mod directed;
 pub mod expr;
 pub mod generate;
 pub mod machine;
+pub mod print;
 pub mod program;
 pub mod script;
 mod shape;
+pub mod spelling;
 pub mod state;
+pub mod text;
+pub mod text_damage;
+pub mod text_limits;
+pub mod texts;
 pub mod types;
 pub mod typing;
 pub mod walk;

@@ -1,0 +1,170 @@
+// 36, asked after 35: "a table limit or the range of Int is passed". One pass over the tokens of a text, by the role and the offset of each.
+use limits::Limits;
+use tokens::magnitude_at;
+ghost use mathlib.Core.Path.{_≡_};
+ghost use mathlib.Core.List.{List};
+ghost use Prim.Native.Nat.{_+_, _<_, _≤_};
+ghost use lib.Dec.{eqb};
+ghost use lib.ListN.{length, getD, set, take, drop};
+ghost use Rattle.limits.specs.Limits.{NODES};
+ghost use Rattle.grammar.specs.Tokens.{Lexeme};
+ghost use Rattle.grammar.specs.Faults.{markedBy, beginsTest, outsideTest};
+ghost use Rattle.script.specs.declared.Section.{Section};
+ghost use Rattle.script.specs.Section.{entryOf};
+ghost use Rattle.bounds.specs.Counting.{SECTIONS, fullTest, Placed, IntegersSpelt, countedOf, CountedAs, markedAt};
+
+// Roles of tokens: the first tokens of records, and among those of nodes, which begin with that of `null`, the first tokens of integers.
+const INTERFACE: u8 = 1;
+
+const CLASS: u8 = 2;
+
+const METHOD: u8 = 3;
+
+const SIGNATURE: u8 = 4;
+
+const FIELD: u8 = 5;
+
+const NULL: u8 = 16;
+
+const INTEGER: u8 = 26;
+
+const NEGATIVE: u8 = 29;
+
+// A variable's binding is counted in this.
+const BINDING: u8 = 32;
+
+// Minus this is the least integer.
+const HALF: u32 = 2147483648;
+
+// The sections, and how many records each has at most.
+const SECTIONS: usize = 6;
+
+const MOST: [usize; 6] = [
+    Limits::INTERFACES,
+    Limits::SIGNATURES,
+    Limits::CLASSES,
+    Limits::FIELDS,
+    Limits::METHODS,
+    Limits::NODES,
+];
+
+// How many records of each section begin in a text; or the token at fault, which is otherwise the number of tokens.
+pub struct Counted {
+    pub fault: usize,
+    pub interfaces: usize,
+    pub signatures: usize,
+    pub classes: usize,
+    pub fields: usize,
+    pub methods: usize,
+    pub nodes: usize,
+}
+
+// The entry of the section of which a token of this role begins a record.
+fn entry_begun(role: u8) -> usize
+    ensures { λ r. ⌜ ((k : Section) → beginsTest k role ≡ eqb r (entryOf k)) × (r ≤ SECTIONS) ⌝ }
+{
+    if NULL <= role % BINDING {
+        return 5;
+    }
+    match role {
+        INTERFACE => 0,
+        SIGNATURE => 1,
+        CLASS => 2,
+        FIELD => 3,
+        METHOD => 4,
+        _ => SECTIONS,
+    }
+}
+
+// Has the section of this entry no room for a record more?
+fn is_full(counts: &[usize; 6], entry: usize) -> bool
+    requires { ⌜ entry ≤ SECTIONS ⌝ }
+    ensures { λ r. ⌜ r ≡ fullTest (now (counts .entry)) entry ⌝ }
+{
+    if entry == SECTIONS {
+        return false;
+    }
+    MOST[entry] <= counts[entry]
+}
+
+// One record more of the section of this entry, if it is one.
+fn count_one(counts: &mut [usize; 6], entry: usize)
+    requires { ⌜ (length (now counts) ≡ SECTIONS) × (getD (now counts) entry 0 < NODES) ⌝ }
+    ensures { λ r. ⌜ now (counts .exit) ≡ set (now (counts .entry)) entry (getD (now (counts .entry)) entry 0 + 1) ⌝ }
+{
+    if entry < SECTIONS {
+        counts[entry] += 1;
+    }
+}
+
+// Does token i begin an integer outside the range?
+fn is_outside(text: &[u8], roles: &[u8], offsets: &[u16], n: usize, i: usize) -> bool
+    requires { ⌜ Placed (now text) (now roles) (now offsets) n × (i < n) ⌝ }
+    ensures { λ r. ⌜ ((ls : List Lexeme) → IntegersSpelt (now (text .entry)) (now (roles .entry)) (now (offsets .entry)) n ls →
+        r ≡ outsideTest (markedAt (markedBy (take n (now (roles .entry))) ls) i) (drop (i + 1) (markedBy (take n (now (roles .entry))) ls))) ⌝ }
+{
+    let role = roles[i];
+    if role == INTEGER {
+        return HALF <= magnitude_at(text, offsets[i] as usize);
+    }
+    if role != NEGATIVE {
+        return false;
+    }
+    let digits = i + 1;
+    if digits == n {
+        return false;
+    }
+    HALF < magnitude_at(text, offsets[digits] as usize)
+}
+
+// The answer where token i is at fault: counts are of no use then.
+fn fault_at(i: usize) -> Counted
+    ensures { λ r. ⌜ r .fault ≡ i ⌝ }
+{
+    Counted {
+        fault: i,
+        interfaces: 0,
+        signatures: 0,
+        classes: 0,
+        fields: 0,
+        methods: 0,
+        nodes: 0,
+    }
+}
+
+// The answer where none of n tokens is.
+fn faultless(n: usize, counts: &[usize; 6]) -> Counted
+    ensures { λ r. ⌜ (r .fault ≡ n) × ((k : Section) → countedOf r k ≡ getD (now (counts .entry)) (entryOf k) 0) ⌝ }
+{
+    Counted {
+        fault: n,
+        interfaces: counts[0],
+        signatures: counts[1],
+        classes: counts[2],
+        fields: counts[3],
+        methods: counts[4],
+        nodes: counts[5],
+    }
+}
+
+// The first of the n tokens that is at fault, or the counts of all sections.
+pub fn count_records(text: &[u8], roles: &[u8], offsets: &[u16], n: usize) -> Counted
+    requires { ⌜ Placed (now text) (now roles) (now offsets) n ⌝ }
+    ensures { λ r. ⌜ ((ls : List Lexeme) → IntegersSpelt (now (text .entry)) (now (roles .entry)) (now (offsets .entry)) n ls →
+        CountedAs n (markedBy (take n (now (roles .entry))) ls) r) ⌝ }
+{
+    let mut counts = [0usize; 6];
+    let mut i = 0;
+    while i < n {
+        let entry = entry_begun(roles[i]);
+        if is_full(&counts, entry) {
+            return fault_at(i);
+        }
+        if is_outside(text, roles, offsets, n, i) {
+            return fault_at(i);
+        }
+        count_one(&mut counts, entry);
+        i += 1;
+    }
+    faultless(n, &counts)
+}

@@ -1,0 +1,4 @@
+pub mod Asking
+pub mod Marks
+pub mod Exact
+pub mod Derived

@@ -1,0 +1,46 @@
+use native.Mathlib.Nat.{le-refl}
+use Rattle.numbering.proofs.NumberLaws.{held-of, room-still}
+use Rattle.declarations.proofs.Exact.{declared-again, declared-nowhere}
+use borrow.Author.Needs.{needs}
+use Rattle.declarations.proofs.declaration_fault.Statement.{statement}
+use Rattle.declarations.proofs.declaration_fault.Tie as tie
+
+first-nowhere-requires : tie.Need-first-nowhere-requires
+first-nowhere-requires c κs =
+    let pre = c .before .before .before .before .before .before .before .before .before .before .before .before .before .before .before .before .before .before .before .before .before .before .before .before .before .before .pre in
+    let number-names = c .before .before .before .before .before .before .before .before .before .before .before .before .before .before .number-names in
+    (room-still _ (le-refl _) (number-names .kept .1 .1 .1 .1 .1 .0) (number-names .kept .1 .1 .1 .1 .1 .1 .0) (number-names .kept .1 .1 .1 .1 .1 .1 .1 .0) (pre .0), held-of (number-names .ensures))
+
+returns : tie.Need-returns
+returns c =
+    let pre = c .before .before .before .before .before .before .before .before .before .before .before .before .before .before .before .before .before .before .before .before .before .before .before .before .before .before .before .before .before .before .pre in
+    let number-names = c .before .before .before .before .before .before .before .before .before .before .before .before .before .before .before .before .before .before .number-names in
+    let first-again = c .before .before .before .before .before .before .before .before .first-again in
+    let first-nowhere = c .before .before .before .first-nowhere in
+    declared-again _ _ _ _ (pre .0 .in-roles) (pre .0 .in-offsets) _ _ (pre .0 .in-values) (number-names .ensures .values-are) _ _ _ (first-again .ensures) (first-nowhere .ensures _ (number-names .ensures .holds) (number-names .ensures .counted)) (c .if1 .taken)
+
+returns-2 : tie.Need-returns-2
+returns-2 c =
+    let pre = c .before .before .before .before .before .before .before .before .before .before .before .before .before .before .before .before .before .before .before .before .before .before .before .before .before .before .before .before .before .before .pre in
+    let number-names = c .before .before .before .before .before .before .before .before .before .before .before .before .before .before .before .before .before .before .number-names in
+    let first-again = c .before .before .before .before .before .before .before .before .first-again in
+    let first-nowhere = c .before .before .before .first-nowhere in
+    declared-nowhere _ _ _ _ (pre .0 .in-roles) (pre .0 .in-offsets) _ _ (pre .0 .in-values) (number-names .ensures .values-are) _ _ _ (first-again .ensures) (first-nowhere .ensures _ (number-names .ensures .holds) (number-names .ensures .counted)) (c .if1 .left)
+
+pub declaration-fault-spec : {M : Type 1} → statement M
+declaration-fault-spec =
+    tie.close
+    (tie.spec
+    (λ c κs. search needs)
+    (λ c κs. search needs)
+    first-nowhere-requires
+    (λ c. search needs)
+    (λ c. search needs)
+    (λ c. search needs)
+    (λ c. search needs)
+    returns
+    (λ c. search needs)
+    (λ c. search needs)
+    (λ c. search needs)
+    (λ c. search needs)
+    returns-2)

@@ -1,0 +1,13 @@
+use borrow.Author.Tests.{ne-eqb}
+use borrow.Author.Needs.{needs}
+use Rattle.declarations.proofs.seen_with.Statement.{statement}
+use Rattle.declarations.proofs.seen_with.Tie as tie
+
+returns : tie.Need-returns
+returns c = rw (c .if1 .taken)
+
+returns-2 : tie.Need-returns-2
+returns-2 c = rw (ne-eqb _ _ (c .if1 .left))
+
+pub seen-with-spec : {M : Type 1} → statement M
+seen-with-spec = tie.close (tie.spec (λ c. search needs) returns returns-2)

@@ -1,0 +1,148 @@
+// Error 35: a name of a type that is declared again, or nowhere.
+use numbering::Sort;
+use numbering::number_names;
+ghost use mathlib.Core.Path.{_≡_};
+ghost use mathlib.Core.List.{List, []};
+ghost use Prim.Native.Nat.{_+_, _<_, _≤_};
+ghost use lib.ListN.{length};
+ghost use Rattle.words.specs.Word.{WORD};
+ghost use Rattle.grammar.specs.Tokens.{Spelling};
+ghost use Rattle.grammar.specs.Files.{declaredRole};
+ghost use Rattle.spellings.specs.Table.{Held, Holds};
+ghost use Rattle.numbering.specs.Numbers.{Tokens};
+ghost use Rattle.declarations.specs.Declaring.{FirstOf, oneMore, againBy, againAt, TypeAsked, TypesAsked, Declarations};
+
+// Roles: a name that is declared, and a name of a type.
+const DECLARED: u8 = 6;
+
+const TYPE: u8 = 7;
+
+// Does a token declare, with a value that is not the number of declarations before it?
+fn is_again(role: u8, value: u16, seen: usize) -> bool
+    ensures { λ r. ⌜ r ≡ againBy role value seen ⌝ }
+{
+    (role == DECLARED) & (value as usize != seen)
+}
+
+// The number of declarations with a token of this role.
+fn seen_with(role: u8, seen: usize) -> usize
+    requires { ⌜ seen < WORD ⌝ }
+    ensures { λ r. ⌜ r ≡ oneMore (declaredRole role) seen ⌝ }
+{
+    if role == DECLARED {
+        return seen + 1;
+    }
+    seen
+}
+
+// The first of n tokens that declares a name declared before, or n. The names that are declared have been numbered.
+fn first_again(roles: &[u8], values: &[u16], n: usize) -> usize
+    requires { ⌜ (n ≤ WORD) × (n ≤ length (now roles)) × (n ≤ length (now values)) ⌝ }
+    ensures { λ r. ⌜ FirstOf (againAt (now (roles .entry)) (now (values .entry))) n r ⌝ }
+{
+    let mut seen = 0;
+    let mut i = 0;
+    while i < n {
+        if is_again(roles[i], values[i], seen) {
+            return i;
+        }
+        seen = seen_with(roles[i], seen);
+        i += 1;
+    }
+    n
+}
+
+// If token i names a type, gives it the number of its declaration, or answers no.
+fn type_token(
+    text: &[u8],
+    roles: &[u8],
+    offsets: &[u16],
+    i: usize,
+    values: &mut [u16],
+    firsts: &[u16],
+    links: &[u16],
+    heads: &[u32],
+    count: usize,
+) -> bool
+    requires { ⌜ Tokens (now text) (now roles) (now offsets) (now values) (now firsts) (now links) (i + 1) ⌝ }
+    requires { ⌜ Held (now text) (now firsts) (now links) (now heads) count ⌝ }
+    ensures { λ r. ⌜
+        ((names : List Spelling) → Holds (now (text .entry)) (now (firsts .entry)) (now (links .entry)) (now (heads .entry)) names → length names ≡ count
+        → TypeAsked names (now (text .entry)) (now (roles .entry)) (now (offsets .entry)) (now (values .entry)) i (now (values .exit)) r)
+        ⌝ }
+{
+    if roles[i] != TYPE {
+        return true;
+    }
+    let e = spellings::find(text, firsts, links, heads, count, offsets[i]);
+    if e < count {
+        values[i] = e as u16;
+        return true;
+    }
+    false
+}
+
+// The first of n tokens that names a type declared nowhere, or n. The table holds the declared names.
+fn first_nowhere(
+    text: &[u8],
+    roles: &[u8],
+    offsets: &[u16],
+    n: usize,
+    values: &mut [u16],
+    firsts: &[u16],
+    links: &[u16],
+    heads: &[u32],
+    count: usize,
+) -> usize
+    requires { ⌜ Tokens (now text) (now roles) (now offsets) (now values) (now firsts) (now links) n ⌝ }
+    requires { ⌜ Held (now text) (now firsts) (now links) (now heads) count ⌝ }
+    ensures { λ r. ⌜
+        ((names : List Spelling) → Holds (now (text .entry)) (now (firsts .entry)) (now (links .entry)) (now (heads .entry)) names → length names ≡ count
+        → TypesAsked names (now (text .entry)) (now (roles .entry)) (now (offsets .entry)) (now (values .entry)) n (now (values .exit)) r)
+        ⌝ }
+{
+    let mut i = 0;
+    while i < n {
+        if !type_token(text, roles, offsets, i, values, firsts, links, heads, count) {
+            return i;
+        }
+        i += 1;
+    }
+    n
+}
+
+// The first of n tokens at fault, or n. Then the declared names and the names of types have their values, and the table holds the declared names.
+pub fn declaration_fault(
+    text: &[u8],
+    roles: &[u8],
+    offsets: &[u16],
+    n: usize,
+    values: &mut [u16],
+    firsts: &mut [u16],
+    links: &mut [u16],
+    heads: &mut [u32],
+) -> usize
+    requires { ⌜ Tokens (now text) (now roles) (now offsets) (now values) (now firsts) (now links) n ⌝ }
+    requires { ⌜ Holds (now text) (now firsts) (now links) (now heads) [] ⌝ }
+    ensures { λ r. ⌜
+        Declarations (now (text .entry)) (now (roles .entry)) (now (offsets .entry)) (now (values .entry)) n (now (values .exit)) r
+        ⌝ }
+{
+    let count = number_names(
+        text,
+        roles,
+        offsets,
+        n,
+        Sort::Declared,
+        values,
+        firsts,
+        links,
+        heads,
+    );
+    let again = first_again(roles, values, n);
+    let nowhere = first_nowhere(text, roles, offsets, n, values, firsts, links, heads, count);
+    if again < nowhere {
+        return again;
+    }
+    nowhere
+}

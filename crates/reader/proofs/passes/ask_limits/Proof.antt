@@ -1,0 +1,43 @@
+use native.Mathlib.Omega.{arith}
+use borrow.Author.Needs.{needs}
+use Rattle.reader.proofs.Between.{limit-refused, limits-passed}
+use Rattle.reader.proofs.PassLaws.{in-offsets, placed, tokens-there}
+use Rattle.reader.proofs.passes.ask_limits.Statement.{statement}
+use Rattle.reader.proofs.passes.ask_limits.Tie as tie
+
+count-records-requires : tie.Need-count-records-requires
+count-records-requires c κs = placed (c .before .before .before .before .before .before .before .before .pre .derived-text)
+
+offset-at-requires : tie.Need-offset-at-requires
+offset-at-requires c κs = omega (arith, in-offsets (c .before .before .before .before .before .before .before .before .before .before .pre .derived-text))
+
+returns : tie.Need-returns
+returns c =
+    limit-refused (c .before .before .before .before .before .before .before .before .before .before .before .before .pre) (c .refusal .result) (c .before .before .before .count-records .ensures) (omega arith) _ (c .before .offset-at .ensures .0)
+    (c .refusal .ensures)
+
+number-rest-requires : tie.Need-number-rest-requires
+number-rest-requires c κs =
+    let j = c .before .before .before .before .before .before .before .before .before .before .before .before .before .before .pre in
+    (tokens-there (j .derived-text) _ _ _ _ _ (j .roomy), j .roomy .for-heads)
+
+write-requires : tie.Need-write-requires
+write-requires c κs =
+    limits-passed (c .before .before .before .before .before .before .before .before .before .before .before .before .before .before .before .before .before .before .before .before .before .before .before .before .before .pre) (c .before .before .before .before .before .before .before .before .before .before .before .before .before .before .before .before .count-records .ensures) (omega arith) (c .before .before .before .before .before .before .before .before .before .before .number-rest .ensures)
+
+pub ask-limits-spec : {M : Type 1} → statement M
+ask-limits-spec =
+    tie.close
+    (tie.spec
+    count-records-requires
+    offset-at-requires
+    (λ c κs. search needs)
+    returns
+    number-rest-requires
+    write-requires
+    (λ c. search needs)
+    (λ c. search needs)
+    (λ c. search needs)
+    (λ c. search needs)
+    (λ c. search needs)
+    (λ c. search needs))

@@ -1,0 +1,98 @@
+// The numbers of names, a sort after another, with one table for all.
+use numbering::Sort;
+use numbering::number_names;
+ghost use mathlib.Core.Path.{_≡_};
+ghost use lib.ListN.{length, replicate};
+ghost use Rattle.tokens.specs.Runs.{HASHES};
+ghost use Rattle.numbering.specs.Numbers.{roleTest, Tokens};
+ghost use Rattle.numbering.specs.declared.Sort.the-variants.{Methods, Fields, Variables};
+ghost use Rattle.reader.specs.Numbers.{SortNumbered, sortNumbered};
+
+// Empties the table: no hash has an entry.
+pub fn clear_heads(heads: &mut [u32])
+    ensures { λ r. ⌜ now (heads .exit) ≡ replicate (length (now (heads .entry))) 0 ⌝ }
+{
+    let mut i = 0;
+    while i < heads.len() {
+        heads[i] = 0;
+        i += 1;
+    }
+}
+
+// Numbers the names of one sort among the first n tokens.
+fn number_sort(
+    text: &[u8],
+    roles: &[u8],
+    offsets: &[u16],
+    n: usize,
+    sort: Sort,
+    values: &mut [u16],
+    firsts: &mut [u16],
+    links: &mut [u16],
+    heads: &mut [u32],
+)
+    requires { ⌜ Tokens (now text) (now roles) (now offsets) (now values) (now firsts) (now links) n × (length (now heads) ≡ HASHES) ⌝ }
+    ensures { λ r. ⌜
+        SortNumbered (now (text .entry)) (now (roles .entry)) (now (offsets .entry)) n
+        (now (values .entry)) (now (firsts .entry)) (now (links .entry)) (now (heads .entry))
+        (sortNumbered (roleTest sort) (now (text .entry)) (now (roles .entry)) (now (offsets .entry)) n (now (values .entry)))
+        (now (values .exit)) (now (firsts .exit)) (now (links .exit)) (now (heads .exit))
+        ⌝ }
+{
+    clear_heads(heads);
+    number_names(text, roles, offsets, n, sort, values, firsts, links, heads);
+}
+
+// Numbers the names of methods, of fields and of variables.
+pub fn number_rest(
+    text: &[u8],
+    roles: &[u8],
+    offsets: &[u16],
+    n: usize,
+    values: &mut [u16],
+    firsts: &mut [u16],
+    links: &mut [u16],
+    heads: &mut [u32],
+)
+    requires { ⌜ Tokens (now text) (now roles) (now offsets) (now values) (now firsts) (now links) n × (length (now heads) ≡ HASHES) ⌝ }
+    ensures { λ r. ⌜
+        now (values .exit)
+        ≡ sortNumbered (roleTest Variables) (now (text .entry)) (now (roles .entry)) (now (offsets .entry)) n
+        (sortNumbered (roleTest Fields) (now (text .entry)) (now (roles .entry)) (now (offsets .entry)) n
+        (sortNumbered (roleTest Methods) (now (text .entry)) (now (roles .entry)) (now (offsets .entry)) n (now (values .entry))))
+        ⌝ }
+{
+    number_sort(
+        text,
+        roles,
+        offsets,
+        n,
+        Sort::Methods,
+        values,
+        firsts,
+        links,
+        heads,
+    );
+    number_sort(
+        text,
+        roles,
+        offsets,
+        n,
+        Sort::Fields,
+        values,
+        firsts,
+        links,
+        heads,
+    );
+    number_sort(
+        text,
+        roles,
+        offsets,
+        n,
+        Sort::Variables,
+        values,
+        firsts,
+        links,
+        heads,
+    );
+}

@@ -1,0 +1,179 @@
+// The passes over a text, one after another. Each asks what the one before has left open.
+use crate::Read;
+use crate::numbers::number_rest;
+use bounds::Counted;
+use bounds::count_records;
+use declarations::declaration_fault;
+use judge::judge;
+use writer::Counts;
+use writer::write_file;
+ghost use mathlib.Core.Path.{_≡_};
+ghost use Prim.Native.Nat.{_<_, _≤_};
+ghost use lib.ListN.{length, getD};
+ghost use Rattle.limits.specs.Limits.{TEXT};
+ghost use Rattle.grammar.specs.Read.{readOf};
+ghost use Rattle.script.specs.declared.Section.{Section};
+ghost use Rattle.bounds.specs.Counting.{countedOf};
+ghost use Rattle.writer.specs.Counted.{countIn};
+ghost use Rattle.reader.specs.Reading.{ReadAs, Lent};
+ghost use Rattle.reader.specs.Derived.{JudgedDerived, DeclaredText, NumberedText};
+
+// The reply of a refusal.
+pub fn refusal(number: u16, place: usize) -> Read
+    requires { ⌜ place ≤ TEXT ⌝ }
+    ensures { λ r. ⌜ r ≡ record { number = number; length = 0; place = place } ⌝ }
+{
+    Read {
+        number,
+        length: 0,
+        place: place as u32,
+    }
+}
+
+fn wide(x: u16) -> usize
+    ensures { λ r. ⌜ (r ≡ x) × (r < TEXT) ⌝ }
+{
+    x as usize
+}
+
+// Where token i stands.
+fn offset_at(offsets: &[u16], i: usize) -> usize
+    requires { ⌜ i < length (now offsets) ⌝ }
+    ensures { λ r. ⌜ (r ≡ getD (now (offsets .entry)) i 0) × (r ≤ TEXT) ⌝ }
+{
+    wide(offsets[i])
+}
+
+// The counts as the writer takes them.
+fn counts_of(c: Counted) -> Counts
+    ensures { λ r. ⌜ ((k : Section) → countIn r k ≡ countedOf c k) ⌝ }
+{
+    Counts {
+        interfaces: c.interfaces,
+        signatures: c.signatures,
+        classes: c.classes,
+        fields: c.fields,
+        methods: c.methods,
+        nodes: c.nodes,
+    }
+}
+
+// Writes the file.
+fn write(
+    text: &[u8],
+    roles: &[u8],
+    offsets: &[u16],
+    values: &[u16],
+    n: usize,
+    start: usize,
+    c: Counted,
+    file: &mut [u8],
+) -> Read
+    requires { ⌜ NumberedText (now text) (now roles) (now offsets) (now values) n start c (now file) ⌝ }
+    ensures { λ r. ⌜ ReadAs r (now (file .exit)) (readOf (now (text .entry)) (now (file .entry))) ⌝ }
+{
+    let length = write_file(text, roles, offsets, values, n, start, counts_of(c), file);
+    Read {
+        number: 0,
+        length: length as u16,
+        place: 0,
+    }
+}
+
+// 36: "after 35, a table limit or the range of Int is passed"; else names are numbered.
+fn ask_limits(
+    text: &[u8],
+    roles: &[u8],
+    offsets: &[u16],
+    n: usize,
+    start: usize,
+    values: &mut [u16],
+    firsts: &mut [u16],
+    links: &mut [u16],
+    heads: &mut [u32],
+    file: &mut [u8],
+) -> Read
+    requires { ⌜
+        DeclaredText (now text) (now roles) (now offsets) n start (now values) (now firsts) (now links) (now heads) (now file)
+        ⌝ }
+    ensures { λ r. ⌜ ReadAs r (now (file .exit)) (readOf (now (text .entry)) (now (file .entry))) ⌝ }
+{
+    let c = count_records(text, roles, offsets, n);
+    let fault = c.fault;
+    if fault < n {
+        return refusal(36, offset_at(offsets, fault));
+    }
+    number_rest(text, roles, offsets, n, values, firsts, links, heads);
+    write(text, roles, offsets, values, n, start, c, file)
+}
+
+// 35: "after 34, a type name is declared nowhere or again".
+fn ask_declarations(
+    text: &[u8],
+    roles: &[u8],
+    offsets: &[u16],
+    n: usize,
+    start: usize,
+    values: &mut [u16],
+    firsts: &mut [u16],
+    links: &mut [u16],
+    heads: &mut [u32],
+    file: &mut [u8],
+) -> Read
+    requires { ⌜
+        JudgedDerived (now text) (now roles) (now offsets) n start (now values) (now firsts) (now links) (now heads) (now file)
+        ⌝ }
+    ensures { λ r. ⌜ ReadAs r (now (file .exit)) (readOf (now (text .entry)) (now (file .entry))) ⌝ }
+{
+    let fault = declaration_fault(text, roles, offsets, n, values, firsts, links, heads);
+    if fault < n {
+        return refusal(35, offset_at(offsets, fault));
+    }
+    ask_limits(
+        text,
+        roles,
+        offsets,
+        n,
+        start,
+        values,
+        firsts,
+        links,
+        heads,
+        file,
+    )
+}
+
+// 34: "the token at the place, or the text's end, fits no legal continuation". The arrays are all 0.
+pub fn ask_grammar(
+    text: &[u8],
+    roles: &mut [u8],
+    offsets: &mut [u16],
+    closers: &mut [u8],
+    values: &mut [u16],
+    firsts: &mut [u16],
+    links: &mut [u16],
+    heads: &mut [u32],
+    file: &mut [u8],
+) -> Read
+    requires { ⌜
+        Lent (now text) (now roles) (now offsets) (now closers) (now values) (now firsts) (now links) (now heads) (now file)
+        ⌝ }
+    ensures { λ r. ⌜ ReadAs r (now (file .exit)) (readOf (now (text .entry)) (now (file .entry))) ⌝ }
+{
+    let j = judge(text, roles, offsets, closers);
+    if !j.ok {
+        return refusal(34, j.place);
+    }
+    ask_declarations(
+        text,
+        roles,
+        offsets,
+        j.tokens,
+        j.start,
+        values,
+        firsts,
+        links,
+        heads,
+        file,
+    )
+}

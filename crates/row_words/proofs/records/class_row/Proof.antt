@@ -1,0 +1,24 @@
+use mathlib.Core.Path.{refl}
+use Rattle.rows.specs.Rows.{classRow}
+use Rattle.row_words.proofs.TokenLaws.{three-are}
+use borrow.Author.Needs.{needs}
+use Rattle.row_words.proofs.records.class_row.Statement.{statement}
+use Rattle.row_words.proofs.records.class_row.Tie as tie
+
+returns : tie.Need-returns
+unfolding classRow
+returns c es m =
+    let s = c .before .before .before .before .before in
+    three-are (c .before .before .type-word .ensures es m (s .args .i) 3 refl) (c .before .owned .ensures es (m .roled) (s .args .i) 1 refl) (c .owned2 .ensures es (m .roled) (s .args .i) 1 refl)
+
+pub class-row-spec : {M : Type 1} → statement M
+class-row-spec =
+    tie.close
+    (tie.spec
+    (λ c. search needs)
+    (λ c κs. search needs)
+    (λ c. search needs)
+    (λ c κs. search needs)
+    (λ c. search needs)
+    (λ c κs. search needs)
+    returns)

@@ -1,0 +1,1 @@
+// No code: what stands at the offsets of a text's tokens.

@@ -1,0 +1,4 @@
+pub mod RunLaws
+pub mod NameLaws
+pub mod WordLaws
+pub mod TokenLaws

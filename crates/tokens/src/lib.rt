@@ -1,0 +1,50 @@
+// Tokens of a text: the next one, and what names and digits say. A text is read in place, each token where it stands.
+mod bytes;
+mod names;
+mod scan;
+mod words;
+
+ghost use mathlib.Core.Path.{_≡_};
+ghost use Rattle.tokens.specs.Next.{NAME, DIGITS};
+ghost use Rattle.tokens.specs.Runs.{HASHES, BEYOND};
+ghost use Rattle.tokens.specs.Words.{LONGEST, SLOTS, RADIX};
+pub use names::magnitude_at;
+pub use names::name_hash;
+pub use names::same_name;
+pub use scan::next_token;
+
+// Kinds of tokens: a word or sign that the grammar spells out has its number, below these.
+pub const NAME: u8 = 28;
+
+pub const DIGITS: u8 = 29;
+
+// A hash of a name is below this.
+pub const HASHES: usize = 2048;
+
+// What the value of digits is at most: the first number that no integer has, with a minus or without.
+pub const BEYOND: u32 = 2147483649;
+
+// The longest word that the grammar spells out has so many bytes, such words have so many slots, and codes are numbers in this radix.
+const LONGEST: usize = 10;
+
+const SLOTS: usize = 32;
+
+const RADIX: u64 = 128;
+
+// A token's kind, where it starts and where it ends. The text's end is of kind 0.
+pub struct Next {
+    pub kind: u8,
+    pub start: usize,
+    pub end: usize,
+}
+
+// The constants and the definitions are the same numbers.
+pub fn agreed()
+    ensures { λ r. do ⌜ (← ⟦NAME⟧ .entry) ≡ NAME ⌝ }
+    ensures { λ r. do ⌜ (← ⟦DIGITS⟧ .entry) ≡ DIGITS ⌝ }
+    ensures { λ r. do ⌜ (← ⟦HASHES⟧ .entry) ≡ HASHES ⌝ }
+    ensures { λ r. do ⌜ (← ⟦BEYOND⟧ .entry) ≡ BEYOND ⌝ }
+    ensures { λ r. do ⌜ (← ⟦LONGEST⟧ .entry) ≡ LONGEST ⌝ }
+    ensures { λ r. do ⌜ (← ⟦SLOTS⟧ .entry) ≡ SLOTS ⌝ }
+    ensures { λ r. do ⌜ (← ⟦RADIX⟧ .entry) ≡ RADIX ⌝ }
+{}

@@ -1,0 +1,5 @@
+pub mod WrittenLaws
+pub mod SizeLaws
+pub mod AppendLaws
+pub mod FileLaws
+pub mod SectionLaws

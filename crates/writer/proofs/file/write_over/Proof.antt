@@ -1,0 +1,51 @@
+use Prim.Native.Nat.{_+_, _*_, _≤_}
+use mathlib.Core.List.{_++_}
+use native.Mathlib.Omega.{arith}
+use lib.ListN.{length}
+use Rattle.limits.specs.Limits.{CONTENTS}
+use Rattle.script.specs.declared.Section.the-variants.{Interfaces as interfaces, Classes as classes, Nodes as nodes}
+use Rattle.rows.specs.Rows.{sectionsWords}
+use Rattle.row_words.specs.Items.{itemsOf}
+use Rattle.writer.specs.Written.{Appended}
+use Rattle.writer.specs.Counted.{contentsOf}
+use Rattle.writer.proofs.FileLaws.{appended-both}
+use Rattle.writer.proofs.SectionLaws.{words-fit, whole-fits, contents-long}
+use borrow.Author.Needs.{needs}
+use Rattle.writer.proofs.file.write_over.Statement.{statement}
+use Rattle.writer.proofs.file.write_over.Tie as tie
+
+add-types : tie.Need-add-types
+add-types c =
+    let s = c .before .before .before .before .before .before .before .before .before .before in
+    omega (arith, s .pre .0 .few-records .within interfaces, s .pre .0 .few-records .within classes)
+
+cast-write-sections : tie.Need-cast-write-sections
+cast-write-sections c =
+    let s = c .before .before .before .before .before .before .before .before .before .before in
+    omega (arith, s .pre .0 .few-records .within interfaces, s .pre .0 .few-records .within classes)
+
+write-sections-requires : tie.Need-write-sections-requires
+write-sections-requires c κs =
+    let s = c .before .before .before .before .before .before .before .before .before .before .before in
+    let w = s .pre .0 in ((w .tokens, omega (arith, s .pre .0 .few-records .within interfaces, s .pre .0 .few-records .within classes)), ((w .counted .counts-are nodes, w .few-records .within nodes), omega (arith, words-fit w, s .pre .1)))
+
+returns : tie.Need-returns
+returns c =
+    let a = c .before .before .before .before .before .before .before .before .before .before .before .before .before .before .args in
+    let w = c .before .before .before .before .before .before .before .before .before .before .before .before .before .before .pre .0 in
+    let v = sectionsWords (a .c .interfaces + a .c .classes) (a .start) (itemsOf (a .text .now) (a .roles .now) (a .offsets .now) (a .values .now)) in
+    let l = contents-long (a .c) in
+    let h : 0 + 2 * length (contentsOf (a .c) ++ v) ≤ length (a .file .now) = omega (arith, whole-fits w, c .before .before .before .before .before .before .before .before .before .before .before .before .before .before .pre .1) in
+    let p : Appended (a .file .now) 0 _ CONTENTS (contentsOf (a .c)) = record { file-is = c .before .before .before .before .before .before .before .put-counts .ensures; end-is = omega (arith, l) } in
+    appended-both (a .file .now) 0 (contentsOf (a .c)) v h p (c .before .before .write-sections .ensures)
+
+pub write-over-spec : {M : Type 1} → statement M
+write-over-spec =
+    tie.close
+    (tie.spec
+    (λ c κs. search needs)
+    add-types
+    cast-write-sections
+    write-sections-requires
+    (λ c. search needs)
+    returns)

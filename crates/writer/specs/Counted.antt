@@ -1,0 +1,80 @@
+-- What the file's writer is handed, and what it writes.
+use Prim.Native.Nat.{ℕ, _+_, _-_, _*_, _≤_, _<_}
+use mathlib.Core.Path.{_≡_}
+use mathlib.Core.List.{List, _++_}
+use lib.ListN.{length, drop, replicate}
+use Rattle.words.specs.Word.{WORD, bytes}
+use Rattle.limits.specs.Limits.{TEXT, FILE}
+use Rattle.script.specs.declared.Section.{Section}
+use Rattle.script.specs.declared.Section.the-variants.{Interfaces as interfaces, Signatures as signatures, Classes as classes}
+use Rattle.script.specs.declared.Section.the-variants.{Fields as fields, Methods as methods, Nodes as nodes}
+use Rattle.script.specs.Section.{mostOf}
+use Rattle.rows.specs.Rows.{Item, sizesOf, contentsWords, sectionsWords}
+use Rattle.row_words.specs.Items.{Small, WithinText, Readable, itemsOf}
+use Rattle.writer.specs.declared.Counts.{Counts}
+use Rattle.writer.specs.Records.{begunAmong, rowsOf}
+
+-- The count of a section.
+abbrev pub countIn : Counts → Section → ℕ
+countIn c interfaces = c .interfaces
+countIn c signatures = c .signatures
+countIn c classes = c .classes
+countIn c fields = c .fields
+countIn c methods = c .methods
+countIn c nodes = c .nodes
+
+-- No section has too many records.
+pub record Within (c : Counts) : Type 0 where
+  pub within : (s : Section) → countIn c s ≤ mostOf s
+
+-- These are the counts of the records that begin at tokens with these roles.
+pub record Counted (roles : List ℕ) (c : Counts) : Type 0 where
+  pub counts-are : (s : Section) → countIn c s ≡ begunAmong s roles
+
+-- Tokens of a text, each with an offset and a number; `start` of them come before the start.
+pub record Tokens (text roles offsets values : List ℕ) (start : ℕ) : Type 0 where
+  pub small : Small values
+  pub within-text : WithinText text offsets
+  pub few-tokens : length roles ≤ TEXT
+  pub starts : start ≤ length roles
+  pub offset-each : length offsets ≡ length roles
+  pub value-each : length values ≡ length roles
+
+-- And their records are counted.
+pub record Writable (text roles offsets values : List ℕ) (start : ℕ) (c : Counts) : Type 0 where
+  pub tokens : Tokens text roles offsets values start
+  pub counted : Counted roles c
+  pub few-records : Within c
+
+-- What is written of the text's tokens: they can be read, and `sizes` are those of all nodes; the first `base` numbers are the start's nodes'.
+pub record Sized (text roles offsets values sizes : List ℕ) (types base : ℕ) : Type 0 where
+  pub readable : Readable text roles offsets values sizes types
+  pub sizes-are : sizes ≡ sizesOf (itemsOf text roles offsets values)
+  pub few-nodes : base + 1 + 2 * length sizes < WORD
+
+-- The contents.
+unfoldable pub contentsOf : Counts → List ℕ
+contentsOf c = contentsWords (c .interfaces) (c .signatures) (c .classes) (c .fields) (c .methods) (c .nodes)
+
+-- The words of the file.
+abbrev pub fileWords : Counts → ℕ → List Item → List ℕ
+fileWords c start es = contentsOf c ++ sectionsWords (c .interfaces + c .classes) start es
+
+-- The records of a section among all items.
+abbrev pub allRows : Section → ℕ → ℕ → List Item → List ℕ
+allRows s types n es = rowsOf s types (length es) n es
+
+-- The records of all sections but nodes, where the bodies' nodes are numbered from n on; and the nodes, the start's before the bodies'.
+abbrev pub recordRows : ℕ → ℕ → List Item → List ℕ
+recordRows types n es =
+    ((allRows interfaces types n es ++ allRows signatures types n es) ++ (allRows classes types n es ++ allRows fields types n es))
+    ++ allRows methods types n es
+
+abbrev pub startAndBodies : ℕ → ℕ → ℕ → List Item → List ℕ
+startAndBodies types start n es = rowsOf nodes types (length es - start) 0 (drop start es) ++ rowsOf nodes types start n es
+
+-- The file of these words, in a buffer that has zeros behind it.
+pub record FileIs (ws file : List ℕ) (r : ℕ) : Type 0 where
+  pub file-is : file ≡ bytes ws ++ replicate (FILE - r) 0
+  pub length-is : r ≡ length (bytes ws)
+  pub fits : r ≤ FILE

@@ -1,0 +1,3 @@
+pub mod Written
+pub mod Records
+pub mod Counted

@@ -1,0 +1,29 @@
+-- The records of a section, in the order of the text.
+use Prim.Native.Nat.{ℕ, zero, suc, _+_, _%_}
+use mathlib.Core.Bool.{cond}
+use mathlib.Core.List.{List, [], _∷_, _++_}
+use lib.Dec.{leb}
+use Rattle.script.specs.declared.Section.{Section}
+use Rattle.script.specs.declared.Section.the-variants.{Nodes as nodes}
+use Rattle.grammar.specs.Faults.{beginsTest}
+use Rattle.rows.specs.Rows.{Item, rowItem, oneMore, arityOf, hop}
+use Rattle.row_words.specs.Row.{rowOf}
+
+-- How many records of a section begin at tokens with these roles.
+unfoldable pub begunAmong : Section → List ℕ → ℕ
+begunAmong s [] = 0
+begunAmong s (r ∷ roles) = oneMore (beginsTest s r) (begunAmong s roles)
+
+-- The words of the record that begins with the first item, if one of the section does.
+abbrev pub rowIf : Section → ℕ → ℕ → List Item → List ℕ
+rowIf s types n es = cond (beginsTest s (rowItem es 0 .role)) (rowOf s types n es) []
+
+-- The words of the records that begin among the first k items, where the next node is node n.
+unfoldable pub rowsOf : Section → ℕ → ℕ → ℕ → List Item → List ℕ
+rowsOf s types zero n es = []
+rowsOf s types (suc k) n [] = []
+rowsOf s types (suc k) n (e ∷ es) = rowIf s types n (e ∷ es) ++ rowsOf s types k (oneMore (beginsTest nodes (e .role)) n) es
+
+-- The sizes of nodes with that of the one that begins at a token of this role, if one does.
+abbrev pub sizedBy : ℕ → List ℕ → List ℕ
+sizedBy role sizes = cond (leb 16 (role % 32)) (suc (hop (arityOf (role % 32)) sizes) ∷ sizes) sizes
