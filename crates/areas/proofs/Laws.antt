@@ -8,32 +8,30 @@ use borrow.Author.Tests.{ne-eqb}
 use lib.IntN.{ℤ}
 use mir.Syntax.{w32}
 use mir.Val.{SFits}
-use lib.ListN.{length, getD, set, take, drop, replicate, length-append, length-map, length-replicate}
+use lib.ListN.{length, getD, set, take, drop, replicate, length-append, length-map}
 use Rattle.slices.specs.Put.{putWord}
 use Rattle.words.specs.Word.{WORD, bytes}
 use Rattle.words.specs.Integer.{InRange, integer}
 use Rattle.words.proofs.Integers.{integer-words}
 use Rattle.integers.proofs.Signed.{read, read-is, read-small}
-use Rattle.limits.specs.Limits.{BLOCK, OBJECTS, BINDINGS, FRAMES, CLASS-FIELDS}
+use Rattle.limits.specs.Limits.{OBJECTS, BINDINGS, FRAMES, CLASS-FIELDS}
 use Rattle.machine.specs.declared.Value.{Value}
 use Rattle.machine.specs.declared.Value.the-variants.{Null as nil, Ref as ref, Int as int}
 use Rattle.machine.specs.declared.Frame.{Frame}
 use Rattle.machine.specs.declared.Frame.the-variants.{Awaits as awaits, Casts as casts, Locks as locks}
 use Rattle.machine.specs.Config.{Object, Binding}
-use Rattle.machine.specs.Machine.{initial}
 use Rattle.block.specs.declared.Area.{Area}
 use Rattle.block.specs.declared.Area.the-variants.{Objects, Bindings, Positions, Frames}
 use Rattle.representation.specs.Changed.{putWords, withObjects, withBindings, withFrames, markedShut, withField}
-use Rattle.block.specs.Layout.{width, most, begins, END, countByte, wordByte, counted, wordIn, SHUT, fieldWord, NAME, BOUND, LINK, RUNNING, AWAITS, CASTS}
+use Rattle.block.specs.Layout.{width, most, begins, END, countByte, wordByte, counted, wordIn, SHUT, fieldWord, NAME, BOUND, LINK, AWAITS, CASTS}
 use Rattle.block.specs.Values.{REF, INT, valueWords, valueIn}
-use Rattle.block.specs.Block.{shutWord, objectWords, bindingWords, frameWords, Parts, laid, encode}
+use Rattle.block.specs.Block.{shutWord, objectWords, bindingWords, frameWords, Parts, laid}
 use Rattle.block.specs.Decode.{frameOf}
 use Rattle.block.proofs.Rows.{row-at}
 use Rattle.block.proofs.Values.{value-width, value-listed}
 use Rattle.block.proofs.Words.{within, area-ends, count-is, word-is}
 use Rattle.block.proofs.Decode.{frame-back}
 use Rattle.representation.proofs.Changes.{put-append, put-shut, put-field, put-fresh-object, put-new-binding, put-frame, put-new-frame}
-use Rattle.representation.proofs.Start.{start-block}
 use Rattle.areas.specs.Shifts.{raised, lowered}
 use Rattle.areas.proofs.Shifting.{raised-length, lowered-length, inserted, removed}
 
@@ -56,12 +54,6 @@ casts-said k x y e = rw e
 
 pub locks-said : (k x y : ℕ) → (k ≡ AWAITS → ⊥) → (k ≡ CASTS → ⊥) → locks x ≡ frameOf (k ∷ x ∷ y ∷ [])
 locks-said k x y a b = rw (ne-eqb k AWAITS a, ne-eqb k CASTS b)
-
--- the start written over bytes that were made 0
-pub started : (e z : List ℕ) → length e ≡ BLOCK → z ≡ replicate (length e) 0 → putWord (putWord z (wordByte Positions 0 0) RUNNING) (countByte Positions) 1 ≡ encode initial
-started e z long is =
-    let same : length z ≡ length e = ap length is ∙ length-replicate (length e) 0 in
-    start-block z (same ∙ long) (is ∙ ap (λ (n : ℕ). replicate n 0) (sym same))
 
 -- words put one after the other
 pub pair-put :

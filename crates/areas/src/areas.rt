@@ -1,6 +1,5 @@
 // The areas of a block: their counts, and the words of their records.
 use block::Area;
-use block::Layout;
 use block::begins_of;
 use block::count_word_of;
 use block::width_of;
@@ -11,10 +10,8 @@ ghost use lib.ListN.{length};
 ghost use Rattle.words.specs.Word.{WORD};
 ghost use Rattle.slices.specs.Put.{putWord};
 ghost use Rattle.limits.specs.Limits.{BLOCK};
-ghost use Rattle.machine.specs.Machine.{initial};
 ghost use Rattle.representation.specs.Changed.{putWords};
 ghost use Rattle.block.specs.Layout.{width, most, countByte, wordByte, counted, wordIn};
-ghost use Rattle.block.specs.Block.{encode};
 
 // The byte at which word j of record i stands.
 fn word_byte(a: Area, i: usize, j: usize) -> usize
@@ -69,14 +66,4 @@ pub fn put_count(block: &mut [u8], a: Area, n: u16)
 {
     let at = count_word_of(a);
     slices::put_word(block, 2 * at, n);
-}
-
-// "Start writes the initial block over anything"
-pub fn start(block: &mut [u8])
-    requires { ⌜ length (now block) ≡ BLOCK ⌝ }
-    ensures { λ r. ⌜ now (block .exit) ≡ encode initial ⌝ }
-{
-    slices::clear(block);
-    put(block, Area::Positions, 0, Layout::KIND, Layout::RUNNING);
-    put_count(block, Area::Positions, 1);
 }

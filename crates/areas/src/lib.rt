@@ -1,4 +1,4 @@
-// The state block in code: its words by area, and the changes that Start and Run make to it, where it stands.
+// The state block in code: its words by area, and the changes that a Run makes to it, where it stands.
 mod areas;
 mod frames;
 mod objects;
@@ -7,7 +7,6 @@ mod values;
 pub use areas::count;
 pub use areas::put;
 pub use areas::put_count;
-pub use areas::start;
 pub use areas::word;
 pub use frames::frame;
 pub use frames::insert_frame;
@@ -19,4 +18,3 @@ pub use objects::new_object;
 pub use objects::put_field;
 pub use objects::set_shut;
 pub use values::value;
-pub use values::value_words;

@@ -24,7 +24,7 @@ ghost use Rattle.block.specs.Block.{shutWord, Parts, laid};
 ghost use Rattle.representation.specs.Changed.{withObjects, withBindings, markedShut, withField};
 
 // An open object with null in each of its m fields, whatever m is: null is all zeros, as is all past the last object. The initial values of its class follow in
-// crate moves.
+// crate initials.
 pub fn new_object(block: &mut [u8], class: u16)
     requires { ⌜ (length (now block) ≡ BLOCK) × (counted (now block) Objects < OBJECTS) ⌝ }
     ensures { λ r. ⌜

@@ -4,10 +4,9 @@ use crate::areas::put_pair;
 use crate::areas::word;
 use block::Area;
 use block::Layout;
-use integers::high_word;
 use integers::integer_of;
-use integers::low_word;
 use machine::Value;
+use value_words::value_words;
 ghost use mathlib.Core.Path.{_≡_};
 ghost use Prim.Native.Nat.{_+_, _<_, _≤_};
 ghost use lib.ListN.{length};
@@ -15,21 +14,6 @@ ghost use Rattle.limits.specs.Limits.{BLOCK};
 ghost use Rattle.block.specs.Layout.{VALUE, width, most, wordByte, wordIn};
 ghost use Rattle.block.specs.Values.{valueWords, valueIn, Storable};
 ghost use Rattle.representation.specs.Changed.{putWords};
-
-// The words of a value.
-pub fn value_words(v: Value) -> [u16; Layout::VALUE]
-    ensures { λ r. ⌜ r ≡ valueWords v ⌝ }
-{
-    match v {
-        Value::Null => [Layout::NULL, 0, 0],
-        Value::Ref(o) => [Layout::REF, o, 0],
-        Value::Int(z) => {
-            let low = low_word(z);
-            let high = high_word(z);
-            [Layout::INT, low, high]
-        }
-    }
-}
 
 // The value in record i of an area from word j on.
 pub fn value(block: &[u8], a: Area, i: usize, j: usize) -> Value

@@ -29,7 +29,7 @@ use Rattle.typing.specs.Members.{below, typeIn, fieldIn, methodIn}
 use Rattle.typing.specs.Typing.{andThen, fits, nullTest, answer, inferred}
 use Rattle.typing.proofs.Int.{null-fits-exactly}
 use Rattle.typing.proofs.Rules.{infer-type, inferred-typed}
-use Rattle.members.specs.Tables.{memberOf}
+use Rattle.members.specs.Lookup.{memberOf}
 use Rattle.members.proofs.LookupLaws.{found-at, found-nothing}
 use Rattle.inference.specs.declared.Given.{Given}
 use Rattle.inference.specs.declared.Given.the-variants.{Typed as typed-at, Null as null-at, Faulty as faulty-at}

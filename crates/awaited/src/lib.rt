@@ -10,7 +10,7 @@ use values::null_meets;
 ghost use mathlib.Core.Path.{_≡_};
 ghost use Rattle.script.specs.Section.{nodeWord};
 ghost use Rattle.script.specs.Statements.{WithinLayout};
-ghost use Rattle.members.specs.Tables.{Starts};
+ghost use Rattle.subtypes.specs.Tables.{Starts};
 ghost use Rattle.machine.specs.Config.{codeOf};
 ghost use Rattle.environments.specs.Known.{ScopedNode};
 ghost use Rattle.awaited.specs.Awaited.{ScopedBlock, NodeUnder, expectsOf, wantsOf, givenTest, waitsBy, GivesSmall, WaitsAs};

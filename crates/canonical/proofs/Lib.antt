@@ -1,7 +1,1 @@
-pub mod Answers
-pub mod ZeroLaws
-pub mod ValueLaws
-pub mod KindLaws
-pub mod EachLaws
-pub mod TreeLaws
 pub mod WholeLaws

@@ -13,7 +13,7 @@ use Rattle.block.specs.declared.Area.the-variants.{Objects, Bindings, Positions
 use Rattle.block.specs.Layout.{WORDS, END, most, counted}
 use Rattle.representation.specs.InOrder.{Unused, RecordsOk, Blank, AreaOk, OneTree, FramesAdd, wordsOf, InOrder}
 use Rattle.canonical.specs.Parts.{ThreadsOk}
-use Rattle.canonical.proofs.Answers.{after-yes, after-no}
+use Rattle.in_order.proofs.Answers.{after-yes, after-no}
 
 -- One area.
 module _ (fields : ℕ → ℕ) (b : List ℕ) (a : Area) (n all : ℕ) (c : n ≡ counted b a) (m : all ≡ most a) where

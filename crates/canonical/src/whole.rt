@@ -1,12 +1,12 @@
 // The bytes of a block as a whole.
-use crate::records::records_in_order;
-use crate::trees::frames_add_up;
-use crate::trees::one_tree;
-use crate::zeros::blank;
-use crate::zeros::zeros;
 use block::Area;
 use block::Layout;
 use block::most_of;
+use in_order::blank;
+use in_order::records_in_order;
+use in_order::zeros;
+use one_tree::frames_add_up;
+use one_tree::one_tree;
 ghost use mathlib.Core.Path.{_≡_};
 ghost use lib.ListN.{length};
 ghost use Rattle.limits.specs.Limits.{BLOCK};

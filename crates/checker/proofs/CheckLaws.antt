@@ -30,7 +30,7 @@ use Rattle.typing.specs.declared.Verdict.{Verdict}
 use Rattle.typing.specs.declared.Verdict.the-variants.{Accepted, Refused}
 use Rattle.typing.specs.Typing.{bodiesOf, walk}
 use Rattle.typing.specs.Check.{refusedOr, walked, checkOf}
-use Rattle.members.specs.Tables.{Starts}
+use Rattle.subtypes.specs.Tables.{Starts}
 use Rattle.members.proofs.LookupLaws.{found-at, found-nothing}
 use Rattle.names.specs.Facts.{Facts}
 use Rattle.checker.specs.Lent.{TablesFilled}

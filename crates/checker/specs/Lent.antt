@@ -6,7 +6,7 @@ use lib.ListN.{length}
 use Rattle.slices.specs.Zero.{AllZero}
 use Rattle.typing.specs.declared.Verdict.{Verdict}
 use Rattle.typing.specs.declared.Verdict.the-variants.{Accepted, Refused}
-use Rattle.members.specs.Tables.{STARTS, Starts}
+use Rattle.subtypes.specs.Tables.{STARTS, Starts}
 use Rattle.names.specs.Ranks.{FACTS}
 use Rattle.names.specs.Facts.{Facts}
 

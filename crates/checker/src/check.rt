@@ -15,7 +15,7 @@ ghost use mathlib.Core.Path.{_≡_};
 ghost use Rattle.sections.specs.Laid.{Laid};
 ghost use Rattle.script.specs.Statements.{WithinLayout};
 ghost use Rattle.typing.specs.Check.{checkOf, walked};
-ghost use Rattle.members.specs.Tables.{Starts};
+ghost use Rattle.subtypes.specs.Tables.{Starts};
 ghost use Rattle.names.specs.Facts.{Facts};
 ghost use Rattle.checker.specs.Stages.{NodeThere, walkStage, memberStage, recordStage};
 ghost use Rattle.checker.specs.Lent.{FactsLent, TablesLent, TablesFilled};

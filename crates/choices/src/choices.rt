@@ -2,8 +2,8 @@
 use crate::nodes::resume;
 use crate::nodes::run_node;
 use block::Area;
+use control::fold_join;
 use moves::Effect;
-use moves::fold_join;
 use tree::Cell;
 ghost use mathlib.Core.Path.{_≡_};
 ghost use Rattle.machine.specs.declared.Want.{Want};

@@ -47,9 +47,9 @@ use Rattle.state.proofs.Seeing.{seen-length, seen-few, seen-entry, seen-waiting
 use Rattle.state.proofs.Glue.{around, seen-there, positions-many}
 use Rattle.enabled.specs.declared.Looked.{Looked}
 use Rattle.enabled.specs.declared.Looked.the-variants.{GoesOn, Ends}
-use Rattle.moves.specs.declared.Access.{Access}
+use Rattle.locking.specs.declared.Access.{Access}
 use Rattle.moves.specs.Performs.{AtPosition}
-use Rattle.moves.specs.Targets.{entered}
+use Rattle.locking.specs.Entered.{entered}
 use Rattle.enabled.specs.Looks.{Standing, lookOf}
 use Rattle.moves.proofs.Positions.{same-part, ChosenPart, chosen-at, root-told, here-told}
 use Rattle.moves.proofs.Ready.{seen-chain}

@@ -1,8 +1,8 @@
 // Which positions can move, and what Run sees when it looks.
 use crate::Looked;
 use block::Area;
+use locking::Access;
 use machine::Ending;
-use moves::Access;
 use script::Section;
 use tree::Cell;
 use tree::Fold;
@@ -33,7 +33,7 @@ fn lock_open(block: &[u8], i: usize, env: u16, x: u16) -> bool
         r ≡ able (lockTarget (c .stores) (framesAbove [] (c .tree) p) fs a env k (find (scope (c .stores .bindings) env) x)))
         ⌝ }
 {
-    let access = moves::lock_access(block, i, env, x);
+    let access = locking::lock_access(block, i, env, x);
     match access {
         Access::Stays => false,
         Access::Null => true,

@@ -1,11 +1,5 @@
 // Offer.
-use crate::check::check_script;
 use c_replies::OfferReply;
-use c_replies::offer_refusal;
-use calls::LentQuestion;
-use limits::Limits;
-use members::STARTS;
-use names::FACTS;
 ghost use mathlib.Core.Path.{_≡_};
 ghost use Rattle.calls.specs.Calls.{offerOf};
 
@@ -18,23 +12,5 @@ pub extern "C" fn oolong_offer(script: &[u8], block: &[u8], flags: &mut [u8]) ->
     ensures place { λ r. ⌜ r .place ≡ offerOf (now (script .entry)) (now (block .entry)) (now (flags .entry)) .place ⌝ }
     ensures flags { λ r. ⌜ now (flags .exit) ≡ offerOf (now (script .entry)) (now (block .entry)) (now (flags .entry)) .flags ⌝ }
 {
-    let mut starts = [0u16; STARTS];
-    let mut facts = [0u16; FACTS];
-    let checked = check_script(script, &mut starts, &mut facts);
-    if checked.number != 0 {
-        return offer_refusal(checked.number, checked.place);
-    }
-    if block.len() != Limits::BLOCK {
-        return offer_refusal(numbers::lent_number(LentQuestion::BlockLength), 0);
-    }
-    if flags.len() != Limits::FLAGS {
-        return offer_refusal(numbers::lent_number(LentQuestion::BufferLength), 0);
-    }
-    if !replies::offer(script, &starts, &facts, checked.start_type, block, flags) {
-        return offer_refusal(numbers::lent_number(LentQuestion::BlockForm), 0);
-    }
-    OfferReply {
-        number: 0,
-        place: 0,
-    }
+    offer_call::offer(script, block, flags)
 }

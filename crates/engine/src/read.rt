@@ -1,6 +1,5 @@
 // Read.
 use c_replies::ReadReply;
-use c_replies::read_reply;
 ghost use mathlib.Core.Path.{_≡_};
 ghost use Rattle.grammar.specs.Read.{readOf};
 
@@ -13,6 +12,5 @@ pub extern "C" fn oolong_read(text: &[u8], file: &mut [u8]) -> ReadReply
     ensures place { λ r. ⌜ r .place ≡ readOf (now (text .entry)) (now (file .entry)) .place ⌝ }
     ensures file { λ r. ⌜ now (file .exit) ≡ readOf (now (text .entry)) (now (file .entry)) .buffer ⌝ }
 {
-    let r = reader::read_text(text, file);
-    read_reply(r.number, r.length, r.place)
+    read_call::read(text, file)
 }

@@ -1,12 +1,5 @@
 // Run.
-use crate::check::check_script;
 use c_replies::RunReply;
-use c_replies::run_refusal;
-use c_replies::run_reply;
-use calls::LentQuestion;
-use limits::Limits;
-use members::STARTS;
-use names::FACTS;
 ghost use mathlib.Core.Path.{_≡_};
 ghost use Rattle.calls.specs.Calls.{runOf};
 
@@ -22,21 +15,5 @@ pub extern "C" fn oolong_run(script: &[u8], block: &mut [u8], choices: &[u8]) ->
     ensures moves { λ r. ⌜ r .moves ≡ runOf (now (script .entry)) (now (block .entry)) (now (choices .entry)) .moves ⌝ }
     ensures block { λ r. ⌜ now (block .exit) ≡ runOf (now (script .entry)) (now (block .entry)) (now (choices .entry)) .block ⌝ }
 {
-    let mut starts = [0u16; STARTS];
-    let mut facts = [0u16; FACTS];
-    let checked = check_script(script, &mut starts, &mut facts);
-    if checked.number != 0 {
-        return run_refusal(checked.number, checked.place);
-    }
-    if block.len() != Limits::BLOCK {
-        return run_refusal(numbers::lent_number(LentQuestion::BlockLength), 0);
-    }
-    if Limits::CHOICES < choices.len() {
-        return run_refusal(numbers::lent_number(LentQuestion::BufferLength), 0);
-    }
-    let played = replies::run(script, &starts, &facts, checked.start_type, block, choices);
-    if !played.formed {
-        return run_refusal(numbers::lent_number(LentQuestion::BlockForm), 0);
-    }
-    run_reply(played.stop, played.read, played.moves)
+    run_call::run(script, block, choices)
 }

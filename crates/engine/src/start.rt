@@ -1,9 +1,5 @@
 // Start.
-use crate::check::oolong_check;
 use c_replies::StartReply;
-use c_replies::start_refusal;
-use calls::LentQuestion;
-use limits::Limits;
 ghost use mathlib.Core.Path.{_≡_};
 ghost use Rattle.calls.specs.Calls.{startOf};
 
@@ -16,16 +12,5 @@ pub extern "C" fn oolong_start(script: &[u8], block: &mut [u8]) -> StartReply
     ensures place { λ r. ⌜ r .place ≡ startOf (now (script .entry)) (now (block .entry)) .place ⌝ }
     ensures block { λ r. ⌜ now (block .exit) ≡ startOf (now (script .entry)) (now (block .entry)) .block ⌝ }
 {
-    let checked = oolong_check(script);
-    if checked.number != 0 {
-        return start_refusal(checked.number, checked.place);
-    }
-    if block.len() != Limits::BLOCK {
-        return start_refusal(numbers::lent_number(LentQuestion::BlockLength), 0);
-    }
-    areas::start(block);
-    StartReply {
-        number: 0,
-        place: 0,
-    }
+    start_call::start(script, block)
 }

@@ -25,7 +25,7 @@ use Rattle.typing.specs.Typing.{answer, andThen, orFaulty, inferred, checked}
 use Rattle.typing.proofs.Rules.{infer-type, inferred-typed}
 use Rattle.members.specs.declared.Member.{Member}
 use Rattle.members.specs.declared.Member.the-variants.{Types}
-use Rattle.members.specs.Tables.{memberOf}
+use Rattle.members.specs.Lookup.{memberOf}
 use Rattle.members.proofs.LookupLaws.{found-at}
 use Rattle.inference.specs.Walk.{EmptyEnv}
 use Rattle.inference.proofs.InferLaws.{nodeBy, type-small}

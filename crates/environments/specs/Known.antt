@@ -12,7 +12,7 @@ use Rattle.script.specs.Statements.{WithinLayout}
 use Rattle.typing.specs.declared.Answer.the-variants.{Typed}
 use Rattle.typing.specs.Published.{WfEnv}
 use Rattle.typing.specs.Typing.{inferred}
-use Rattle.members.specs.Tables.{Starts}
+use Rattle.subtypes.specs.Tables.{Starts}
 use Rattle.machine.specs.Machine.{context}
 use Rattle.environments.specs.Chains.{Chain, bindingsIn}
 

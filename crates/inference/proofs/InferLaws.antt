@@ -42,7 +42,7 @@ use Rattle.names.specs.Ranks.{slotOf, RANKS, nameIn, Names, RankOf, of-node, Ra
 use Rattle.slices.specs.Bits.{flagOf}
 use Rattle.names.specs.Facts.{Facts}
 use Rattle.names.proofs.SearchLaws.{rank-first}
-use Rattle.members.specs.Tables.{memberOf}
+use Rattle.members.specs.Lookup.{memberOf}
 use Rattle.inference.specs.Tables.{boundWord, EnvIs}
 use Rattle.inference.specs.Walk.{Target, NodeInEnv, Inferred, Checked, lockedType, Lockable}
 use Rattle.inference.specs.declared.Given.{Given}

@@ -15,7 +15,7 @@ use Rattle.typing.specs.declared.Answer.the-variants.{Typed}
 use Rattle.typing.specs.Environments.{of-lock, bodyEnv}
 use Rattle.typing.specs.Members.{typeIn}
 use Rattle.typing.specs.Typing.{andThen, orFaulty, useNo, unlessNo, inferred, checked, Body, walk}
-use Rattle.members.specs.Tables.{Starts}
+use Rattle.subtypes.specs.Tables.{Starts}
 use Rattle.names.specs.Ranks.{RANKS, Names}
 use Rattle.names.specs.Facts.{Facts}
 use Rattle.inference.specs.Tables.{EnvIs}

@@ -2,12 +2,12 @@
 use crate::Given;
 use members::Member;
 use members::field_type;
-use members::int_of;
-use members::is_below;
 use members::method_of;
 use script::Found;
 use script::Question;
 use sections::node_word;
+use subtypes::int_of;
+use subtypes::is_below;
 use typing::Answer;
 ghost use mathlib.Core.Path.{_≡_};
 ghost use Prim.Native.Nat.{_+_};
@@ -16,7 +16,7 @@ ghost use Rattle.script.specs.Syntax.{var, select, add};
 ghost use Rattle.script.specs.Reading.{programOf, exprAt};
 ghost use Rattle.script.specs.Statements.{WithinLayout};
 ghost use Rattle.typing.specs.declared.Aim.the-variants.{Checks as checks};
-ghost use Rattle.members.specs.Tables.{Starts};
+ghost use Rattle.subtypes.specs.Tables.{Starts};
 ghost use Rattle.inference.specs.Walk.{Target, NodeInEnv, Inferred, Checked, Lockable};
 ghost use Rattle.inference.specs.Given.{inferredAs, answerAs, noNull, givenBy, GivenAs};
 

@@ -33,7 +33,7 @@ use Rattle.typing.specs.Check.{namesIn, sameTypes, agreeTest, joinTest, joinsTe
 use Rattle.members.specs.Lookup.{MeaningIs, Meanings, joinOf, joinBy, FirstFault, LowestFault, placeIn}
 use Rattle.typing.proofs.Members.{signature-name}
 use Rattle.interfaces.specs.Cover.{hasTypes}
-use Rattle.members.proofs.SubtypeLaws.{reads-list, reads-join, left-earlier, right-earlier}
+use Rattle.subtypes.proofs.SubtypeLaws.{reads-list, reads-join, left-earlier, right-earlier}
 use Rattle.members.proofs.LookupLaws.{run-ends}
 use Rattle.members.proofs.MemberLaws.{no-word, word-at}
 

@@ -29,7 +29,7 @@ use Rattle.members.specs.Lookup.{ownNamed}
 use Rattle.interfaces.specs.Cover.{hasTypes, Defines, Covers, Covered}
 use Rattle.typing.proofs.Members.{found-some, found-none, msig-from, msig-by, own-found}
 use Rattle.typing.proofs.Joins.{class-one, decides-class}
-use Rattle.members.proofs.SubtypeLaws.{reads-list, reads-join, interface-declared, unmarked, marked-more}
+use Rattle.subtypes.proofs.SubtypeLaws.{reads-list, reads-join, interface-declared, unmarked, marked-more}
 use Rattle.members.proofs.LookupLaws.{found-at, found-nothing}
 use Rattle.members.proofs.MemberLaws.{own-method}
 

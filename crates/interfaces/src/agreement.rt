@@ -17,7 +17,7 @@ ghost use Rattle.script.specs.Asking.{lowestIn};
 ghost use Rattle.script.specs.Statements.{WithinLayout};
 ghost use Rattle.sections.specs.Laid.{Laid, foundOf};
 ghost use Rattle.typing.specs.Check.{sameTypes, joinsTest};
-ghost use Rattle.members.specs.Tables.{Starts};
+ghost use Rattle.subtypes.specs.Tables.{Starts};
 ghost use Rattle.members.specs.Lookup.{Meanings, NameTable, joinBy, FirstFault, placeIn};
 ghost use Rattle.interfaces.specs.Cover.{hasTypes};
 

@@ -19,7 +19,7 @@ ghost use Rattle.sections.specs.Laid.{foundOf};
 ghost use Rattle.typing.specs.Check.{classesTest};
 ghost use Rattle.typing.specs.Published.{MsigsFunction};
 ghost use Rattle.typing.specs.Refusals.{ClassIs};
-ghost use Rattle.members.specs.Tables.{Starts};
+ghost use Rattle.subtypes.specs.Tables.{Starts};
 ghost use Rattle.interfaces.specs.Cover.{Defines, Covers, Covered};
 
 // Has class c a method of signature i's name, with the same types?

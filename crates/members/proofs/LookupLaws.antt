@@ -21,14 +21,15 @@ use Rattle.script.specs.Syntax.{Slot, Declaration, a-unit, an-interface, a-clas
 use Rattle.script.specs.Reading.{ownSignatures, ownFields, ownMethods, fieldAt, classAt, programOf}
 use Rattle.script.specs.Asking.{firstOut}
 use Rattle.script.specs.Statements.{WithinLayout}
-use Rattle.sections.specs.Laid.{Laid, ownerOf, ownOf, foundOf, otherName}
+use Rattle.sections.specs.Laid.{ownerOf, ownOf, foundOf, otherName}
 use Rattle.script.proofs.Lists.{sum-more}
-use Rattle.members.specs.declared.Declared.{Declared}
-use Rattle.members.specs.declared.Declared.the-variants.{Interface as is-interface, Class as is-class, Neither as is-neither}
+use Rattle.subtypes.specs.declared.Declared.{Declared}
+use Rattle.subtypes.specs.declared.Declared.the-variants.{Interface as is-interface, Class as is-class, Neither as is-neither}
 use Rattle.typing.specs.Members.{typeIn, fieldIn, fieldFrom}
-use Rattle.members.specs.Tables.{STARTS, rowWord, RowsTo, Starts}
-use Rattle.members.specs.Lookup.{RunsTo, Memberless, DeclaredAs, RunAt, ownNamed}
-use Rattle.members.proofs.SubtypeLaws.{type-interface, type-class, type-neither}
+use Rattle.subtypes.specs.Tables.{STARTS, rowWord, RowsTo, Starts}
+use Rattle.subtypes.specs.Subtypes.{Memberless, DeclaredAs}
+use Rattle.members.specs.Lookup.{RunsTo, RunAt, ownNamed}
+use Rattle.subtypes.proofs.SubtypeLaws.{type-interface, type-class, type-neither}
 
 -- no section but these three has records of owners
 sum-none : (n : ℕ) → sumBelow (λ o. 0) n ≡ 0
@@ -37,10 +38,6 @@ sum-none zero = refl
 sum-none (suc n) = omega (arith, sum-none n)
 
 module _ {s : List ℕ} (w : WithinLayout s) where
-  -- A script that gets a yes to questions 1 to 8 got one to the first three.
-  pub laid : Laid s
-  laid = record { length-is = w .length-is; counts-are = w .counts-are; places-are = w .places-are }
-
   count-small : (k : Section) → countOf s k ≤ NODES
   count-small interfaces = omega (arith, w .counts-are .within interfaces)
   count-small signatures = omega (arith, w .counts-are .within signatures)

@@ -20,15 +20,16 @@ use Rattle.script.specs.Statements.{WithinLayout}
 use Rattle.sections.specs.Laid.{foundOf}
 use Rattle.script.proofs.Declarations.{interface-at}
 use Rattle.script.proofs.Regular.{regular}
-use Rattle.members.specs.declared.Declared.{Declared}
-use Rattle.members.specs.declared.Declared.the-variants.{Interface as is-interface, Class as is-class, Neither as is-neither}
+use Rattle.subtypes.specs.declared.Declared.{Declared}
+use Rattle.subtypes.specs.declared.Declared.the-variants.{Interface as is-interface, Class as is-class, Neither as is-neither}
 use Rattle.members.specs.declared.Member.{Member}
 use Rattle.members.specs.declared.Member.the-variants.{Types, Missing}
 use Rattle.typing.specs.Members.{orElse, meaning, ownMethod, methodIn, methodFrom}
-use Rattle.members.specs.Tables.{memberOf}
-use Rattle.members.specs.Lookup.{Memberless, DeclaredAs, ownNamed, MeaningIs, no-meaning, meaning-at, Meanings}
+use Rattle.members.specs.Lookup.{memberOf}
+use Rattle.subtypes.specs.Subtypes.{Memberless, DeclaredAs}
+use Rattle.members.specs.Lookup.{ownNamed, MeaningIs, no-meaning, meaning-at, Meanings}
 use Rattle.typing.proofs.Values.{value-lists, value-extends}
-use Rattle.members.proofs.SubtypeLaws.{reads-list, reads-join, interface-there, type-interface, type-class, type-neither, left-earlier, right-earlier}
+use Rattle.subtypes.proofs.SubtypeLaws.{reads-list, reads-join, interface-there, type-interface, type-class, type-neither, left-earlier, right-earlier}
 use Rattle.members.proofs.LookupLaws.{found-at, found-nothing, named-run, own-there}
 
 -- a join means what its left parent means, else what its right parent does

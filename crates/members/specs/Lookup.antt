@@ -1,71 +1,30 @@
--- What the code of look-ups is lent and finds: runs of records, rows, meanings of a method name, and records at fault.
-use Prim.Native.Nat.{ℕ, suc, _+_, _%_, _^_, _<_, _≤_, max}
+-- What the code of look-ups is lent and finds: runs of records, meanings of a method name, and records at fault.
+use Prim.Native.Nat.{ℕ, suc, _+_, _<_, _≤_}
 use mathlib.Core.Path.{_≡_}
 use mathlib.Core.Bool.{Bool, true, false, cond}
 use mathlib.Core.List.{List}
 use mathlib.Core.Option.{Option, none, some}
 use lib.Dec.{ltb}
-use lib.ListN.{length, getD, set}
-use lib.Bits.{bitOr}
+use lib.ListN.{length, getD}
 use Rattle.limits.specs.Limits.{INTERFACES}
 use Rattle.script.specs.declared.Section.{Section}
-use Rattle.script.specs.declared.Section.the-variants.{Interfaces as interfaces, Signatures as signatures, Classes as classes}
+use Rattle.script.specs.declared.Section.the-variants.{Interfaces as interfaces, Signatures as signatures}
 use Rattle.script.specs.Lists.{sumBelow}
 use Rattle.script.specs.Section.{countOf, recordAt}
-use Rattle.script.specs.Syntax.{Interface, lists, extends, Program, Declaration, a-unit, an-interface, a-class, an-int, no-type, declarationAt}
+use Rattle.script.specs.Syntax.{Signature, Interface, lists, extends, Program}
 use Rattle.script.specs.Reading.{signatureAt, interfaceAt, programOf}
 use Rattle.script.specs.Asking.{firstOut}
 use Rattle.sections.specs.Laid.{ownerOf, ownOf, otherName}
-use Rattle.members.specs.declared.Declared.{Declared}
-use Rattle.members.specs.declared.Declared.the-variants.{Interface as is-interface, Class as is-class, Neither as is-neither}
+use Rattle.members.specs.declared.Member.{Member}
+use Rattle.members.specs.declared.Member.the-variants.{Types, Missing}
 use Rattle.typing.specs.Members.{meaning}
 use Rattle.typing.specs.Check.{agreeTest}
-use Rattle.members.specs.Tables.{BITS, STARTS, rowWord, rowBit, RowIs}
 
 -- From base on a table holds where the runs of the first n owners of records of section k begin, and elsewhere what another table holds.
 pub record RunsTo (s : List ℕ) (k : Section) (base n : ℕ) (old table : List ℕ) : Type 0 where
   pub starts : (o : ℕ) → o < n → getD table (base + o) 0 ≡ sumBelow (ownOf s k) o
   pub before : (i : ℕ) → i < base → getD table i 0 ≡ getD old i 0
   pub after : (i : ℕ) → base + n ≤ i → getD table i 0 ≡ getD old i 0
-
--- Neither an interface nor a class.
-abbrev pub Memberless : Declaration → Type 0
-Memberless a-unit = Unit {0}
-Memberless (an-interface i) = ⊥
-Memberless (a-class c) = ⊥
-Memberless an-int = Unit {0}
-Memberless no-type = Unit {0}
-
--- What a type number is, as the code says it: the interface or the class of a record, or neither.
-pub data DeclaredAs (s : List ℕ) (t : ℕ) : Declared → Type 0 where
-  as-interface : {i : ℕ} → i < countOf s interfaces → t ≡ suc i → DeclaredAs s t (is-interface i)
-  as-class : {c : ℕ} → c < countOf s classes → t ≡ suc (countOf s interfaces + c) → DeclaredAs s t (is-class c)
-  as-neither : Memberless (declarationAt (programOf s) t) → DeclaredAs s t is-neither
-
--- The row of an interface while rows are filled: it has no bit, or the interface has been walked.
-pub data RowState (s table : List ℕ) (i : ℕ) : Type 0 where
-  no-bit : ((k : ℕ) → k < INTERFACES → rowBit table i k ≡ 0) → RowState s table i
-  filled-row : RowIs s table i → RowState s table i
-
-pub record Rows (s table : List ℕ) : Type 0 where
-  pub size : length table ≡ STARTS
-  pub states : (i : ℕ) → i < countOf s interfaces → RowState s table i
-
--- The interface of record i has been walked, and those that were before.
-pub record Climbed (s before after : List ℕ) (i : ℕ) : Type 0 where
-  pub rows : Rows s after
-  pub row : RowIs s after i
-  pub kept : (j : ℕ) → j < countOf s interfaces → RowIs s before j → RowIs s after j
-
--- The bits of row i are those of the rows l and r, and no other row has changed.
-pub record RowJoined (before after : List ℕ) (i l r : ℕ) : Type 0 where
-  pub size : length after ≡ length before
-  pub bits : (k : ℕ) → k < INTERFACES → rowBit after i k ≡ max (rowBit before l k) (rowBit before r k)
-  pub others : (j k : ℕ) → k < INTERFACES → (j ≡ i → ⊥) → rowBit after j k ≡ rowBit before j k
-
--- The table with bit i of row i, which marks the interface as walked.
-abbrev pub withOwnBit : List ℕ → ℕ → List ℕ
-withOwnBit table i = set table (rowWord i i) (bitOr (getD table (rowWord i i) 0) (2 ^ (i % BITS)))
 
 -- A table holds, at a place, where the run of owner o begins.
 pub record RunAt (s : List ℕ) (k : Section) (o : ℕ) (table : List ℕ) (at : ℕ) : Type 0 where
@@ -76,6 +35,11 @@ pub record RunAt (s : List ℕ) (k : Section) (o : ℕ) (table : List ℕ) (at :
 -- The first record of owner o's run in section k that has the name x.
 abbrev pub ownNamed : List ℕ → Section → ℕ → ℕ → Option ℕ
 ownNamed s k o x = firstOut (otherName s k x) (sumBelow (ownOf s k) o) (ownOf s k o)
+
+-- What a method look-up finds, as the code says it.
+abbrev pub memberOf : Option Signature → Member
+memberOf none = Missing
+memberOf (some g) = Types (g .param) (g .result)
 
 -- A word for what the method name m means in the interface of record i: 0 for nothing, or 1 more than the index of the signature that is its first meaning.
 pub data MeaningIs (s : List ℕ) (m i : ℕ) : ℕ → Type 0 where

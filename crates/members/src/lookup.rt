@@ -1,13 +1,13 @@
 // Look-ups of fields and methods by their names.
-use crate::Declared;
 use crate::Member;
-use crate::subtyping::declared_as;
 use limits::Limits;
 use script::Found;
 use script::Section;
 use sections::find_name;
 use sections::own_count;
 use sections::record_word;
+use subtypes::Declared;
+use subtypes::declared_as;
 ghost use mathlib.Core.Path.{_≡_};
 ghost use Prim.Native.Nat.{_-_, _<_, _≤_};
 ghost use lib.ListN.{length};
@@ -19,7 +19,8 @@ ghost use Rattle.script.specs.Statements.{WithinLayout};
 ghost use Rattle.sections.specs.Laid.{Laid, foundOf};
 ghost use Rattle.members.specs.declared.Member.the-variants.{Types};
 ghost use Rattle.typing.specs.Members.{methodIn, fieldIn};
-ghost use Rattle.members.specs.Tables.{Starts, memberOf};
+ghost use Rattle.subtypes.specs.Tables.{Starts};
+ghost use Rattle.members.specs.Lookup.{memberOf};
 ghost use Rattle.members.specs.Lookup.{RunAt, ownNamed, MeaningIs, Meanings};
 
 // The first record of owner o's run in section k that has the name x. Entry `at` of the table says where the run begins.

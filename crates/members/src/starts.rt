@@ -1,10 +1,10 @@
 // Where the runs of records begin that belong to an owner.
-use crate::subtyping::fill_rows;
 use limits::Limits;
 use script::Section;
 use sections::count_of;
 use sections::own_count;
 use sections::owner_of;
+use subtypes::fill_rows;
 ghost use mathlib.Core.Path.{_≡_};
 ghost use Prim.Native.Nat.{_+_, _≤_};
 ghost use lib.ListN.{length};
@@ -12,7 +12,7 @@ ghost use Rattle.slices.specs.Zero.{AllZero};
 ghost use Rattle.script.specs.Section.{countOf};
 ghost use Rattle.script.specs.Statements.{WithinLayout};
 ghost use Rattle.sections.specs.Laid.{ownerOf};
-ghost use Rattle.members.specs.Tables.{STARTS, Starts};
+ghost use Rattle.subtypes.specs.Tables.{STARTS, Starts};
 ghost use Rattle.members.specs.Lookup.{RunsTo};
 
 // Stores from `base` on where the run of each owner of records of section k begins.

@@ -11,7 +11,7 @@ use Rattle.script.specs.Syntax.{Slot}
 use Rattle.machine.specs.declared.Value.{Value}
 use Rattle.machine.specs.declared.Value.the-variants.{Null as nil}
 use Rattle.machine.specs.Machine.{fieldValue, setField}
-use Rattle.members.specs.Defined.{fieldNumber}
+use Rattle.classes.specs.Defined.{fieldNumber}
 
 -- F(f): what stands at the number of f, if it has one.
 value-numbered : (ds : List Slot) (l : List Value) (f : ℕ) → length l ≡ length ds → fieldValue ds l f ≡ Option·map (λ k. getD l k nil) (fieldNumber ds f)

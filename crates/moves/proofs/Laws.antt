@@ -5,10 +5,14 @@ use mathlib.Core.Logic.{⊎-elim}
 use mathlib.Core.List.{List, [], _∷_, _++_, flatMap}
 use mathlib.Core.List.{List·Memᴰ·append-cases, List·Memᴰ·cases-cons, List·Memᴰ·not-nil, List·Memᴰ·eq-of-singleton}
 use mathlib.Core.Option.{Option, none, some}
-use Prim.Native.Nat.{ℕ, suc, _+_, _-_, _<_, _≤_}
+use Prim.Native.Nat.{ℕ, suc, _-_, _<_, _≤_}
 use native.Mathlib.Omega.{arith}
+use lib.IntN.{ℤ}
 use lib.ListN.{length, length-append, replicate}
-use Rattle.words.specs.Word.{bytes}
+use Rattle.words.specs.Word.{WORD, bytes}
+use Rattle.words.specs.Integer.{integer}
+use Rattle.words.proofs.Integers.{integer-words}
+use Rattle.integers.proofs.Signed.{read, read-is}
 use Rattle.limits.specs.Limits.{OBJECTS}
 use Rattle.machine.specs.declared.Value.{Value}
 use Rattle.machine.specs.declared.Value.the-variants.{Null as nil, Ref as ref}
@@ -38,7 +42,11 @@ use Rattle.state.proofs.Seeing.{objects-counted, seen-part}
 use Rattle.state.proofs.Moves.{lies, seen-objects}
 use Rattle.moves.specs.declared.Effect.{Effect}
 use Rattle.moves.specs.Performs.{Performs}
-use Rattle.moves.specs.Initials.{withNewest, NewObject, FieldsBecome}
+use Rattle.initials.specs.Initials.{withNewest, NewObject, FieldsBecome}
+
+-- a constant, as the machine reads it back
+pub constant-read : {z : ℤ} {low high : ℕ} → low < WORD → high < WORD → z ≡ integer low high → read z ≡ integer low high
+constant-read l h e = read-is (record { sfits = rw e (integer-words l h .in-range) }) ∙ e
 
 -- the environment in the block is that of the stores
 pub scope-read : {b : List ℕ} {i : ℕ} {x : Rest} {st : Stores} {u : machine.Tree} → StateAt b i x st u → bindingsIn b ≡ st .bindings

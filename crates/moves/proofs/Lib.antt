@@ -1,9 +1,8 @@
 pub mod Laws
 pub mod TargetLaws
 pub mod ReadLaws
-pub mod LockLaws
 pub mod FieldValues
 pub mod Positions
 pub mod Ready
-pub mod InitialLaws
-pub mod SumLaws
+pub mod Shutting
+pub mod FrameLaws

@@ -18,7 +18,7 @@ use Rattle.machine.specs.declared.Frame.{Frame}
 use Rattle.machine.specs.Config.{codeOf, Code, Object, Stores, returning}
 use Rattle.typing.specs.Members.{fieldsOf}
 use Rattle.machine.specs.Machine.{object, fieldValue, still, moved, selectObject}
-use Rattle.members.specs.Defined.{fieldNumber}
+use Rattle.classes.specs.Defined.{fieldNumber}
 use Rattle.moves.proofs.FieldValues.{value-at, value-none}
 use Rattle.block.specs.declared.Area.the-variants.{Objects}
 use Rattle.block.specs.Rows.{wordOf}

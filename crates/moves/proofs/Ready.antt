@@ -18,7 +18,7 @@ use Rattle.script.proofs.Reading.{first, in-order}
 use Rattle.script.proofs.Declarations.{length-interfaces, length-classes}
 use Rattle.slices.specs.Zero.{AllZero}
 use Rattle.typing.specs.Published.{WfEnv}
-use Rattle.members.specs.Tables.{Starts}
+use Rattle.subtypes.specs.Tables.{Starts}
 use Rattle.names.specs.Ranks.{RANKS}
 use Rattle.names.specs.Facts.{Facts}
 use Rattle.inference.specs.Walk.{EmptyEnv}

@@ -1,3 +1,3 @@
 pub mod Performs
 pub mod Targets
-pub mod Initials
+pub mod AtFrame

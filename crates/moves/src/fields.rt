@@ -2,7 +2,7 @@
 use crate::Effect;
 use crate::Member;
 use crate::fails;
-use crate::steps::gives;
+use crate::gives;
 use crate::target_of;
 use block::Area;
 use block::Layout;
@@ -18,7 +18,7 @@ ghost use Rattle.words.specs.Word.{bytes};
 ghost use Rattle.limits.specs.Limits.{BLOCK, OBJECTS};
 ghost use Rattle.script.specs.Reading.{programOf};
 ghost use Rattle.script.specs.Statements.{WithinLayout};
-ghost use Rattle.members.specs.Tables.{Starts};
+ghost use Rattle.subtypes.specs.Tables.{Starts};
 ghost use Rattle.machine.specs.declared.Value.{Value};
 ghost use Rattle.machine.specs.declared.Frame.{Frame};
 ghost use Rattle.machine.specs.Config.{Object, Stores, running, codeOf};
@@ -49,7 +49,7 @@ fn field_value(s: &[u8], starts: &[u16], block: &[u8], o: u16, f: u16) -> Lookup
 {
     let i = o as usize;
     let class = areas::word(block, Area::Objects, i, Layout::CLASS);
-    let place = members::field_place(s, starts, class, f);
+    let place = classes::field_place(s, starts, class, f);
     let Found::At(k) = place else {
         return Lookup::Unbound;
     };

@@ -1,22 +1,14 @@
-// What a thread at a node does when it is chosen, and a join, in the block.
-mod control;
+// What a move comes to, its exits, the look-up of its target, and the moves that give a value: null, a constant, a variable, a field, a new object.
 mod fields;
-mod initials;
-mod locking;
 mod steps;
-mod sums;
 mod targets;
 mod values;
 
-pub use control::become_join;
-pub use control::fold_join;
-pub use control::leave_frame;
 pub use fields::read_field;
-pub use locking::enter_lock;
-pub use locking::lock_access;
 use machine::Store;
+use machine::Value;
 pub use steps::fails;
-pub use sums::add_variables;
+pub use steps::gives;
 pub use targets::target_of;
 pub use values::become_null;
 pub use values::become_number;
@@ -30,23 +22,17 @@ pub enum Effect {
     Full(Store),
 }
 
-// What a thread finds at a lock: it cannot move, the target is null, or an object that is open or that it holds.
-pub enum Access {
-    Stays,
-    Null,
-    Open(u16),
-    Held,
-}
-
-// What a variable holds that is added: a number, or nothing that can be added.
-enum Addend {
-    Number(i32),
-    Nothing,
-}
-
 // The field or method `name` of what the variable `target` holds in an environment.
 pub struct Member {
     pub env: u16,
     pub target: u16,
     pub name: u16,
+}
+
+// A value at a waiting write or call: of the field or method `member` of the variable `target`, in the environment of the frame.
+pub struct WaitingMember {
+    pub value: Value,
+    pub env: u16,
+    pub target: u16,
+    pub member: u16,
 }

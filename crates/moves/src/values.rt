@@ -1,9 +1,9 @@
-// Moves that give a value: null, a constant, a variable, a new object. A field is read in `fields`, and variables are added in `sums`.
+// Moves that give a value: null, a constant, a variable, a new object. A field is read in `fields`.
 use crate::Effect;
-use crate::initials::start_fields;
-use crate::steps::gives;
+use crate::gives;
 use block::Area;
 use environments::Lookup;
+use initials::start_fields;
 use limits::Limits;
 use machine::Store;
 use machine::Value;
@@ -12,7 +12,7 @@ ghost use Prim.Native.Nat.{ℕ, _-_};
 ghost use Rattle.limits.specs.Limits.{OBJECTS};
 ghost use Rattle.words.specs.Integer.{integer};
 ghost use Rattle.script.specs.Statements.{WithinLayout};
-ghost use Rattle.members.specs.Tables.{Starts};
+ghost use Rattle.subtypes.specs.Tables.{Starts};
 ghost use Rattle.machine.specs.declared.Value.the-variants.{Null as nil, Int as int};
 ghost use Rattle.machine.specs.declared.Frame.{Frame};
 ghost use Rattle.machine.specs.Config.{Stores, running, returning, codeOf};

@@ -7,7 +7,7 @@ ghost use Rattle.limits.specs.Limits.{BLOCK, FLAGS};
 ghost use Rattle.script.specs.Statements.{WithinLayout};
 ghost use Rattle.typing.specs.declared.Verdict.the-variants.{Accepted};
 ghost use Rattle.typing.specs.Check.{checkOf};
-ghost use Rattle.members.specs.Tables.{Starts};
+ghost use Rattle.subtypes.specs.Tables.{Starts};
 ghost use Rattle.names.specs.Facts.{Facts};
 ghost use Rattle.calls.specs.Calls.{askForm, configOf, offeredFrom};
 ghost use Rattle.calls.specs.Answers.{found};

@@ -8,7 +8,7 @@ ghost use Rattle.limits.specs.Limits.{BLOCK, CHOICES};
 ghost use Rattle.script.specs.Statements.{WithinLayout};
 ghost use Rattle.typing.specs.declared.Verdict.the-variants.{Accepted};
 ghost use Rattle.typing.specs.Check.{checkOf};
-ghost use Rattle.members.specs.Tables.{Starts};
+ghost use Rattle.subtypes.specs.Tables.{Starts};
 ghost use Rattle.names.specs.Facts.{Facts};
 ghost use Rattle.inference.specs.Walk.{EmptyEnv};
 ghost use Rattle.machine.specs.Config.{codeOf};

@@ -14,8 +14,8 @@ use Rattle.names.specs.Ranks.{slotOf, SLOTS, RankOf, of-this, of-parameter, of-
 use Rattle.names.specs.Filling.{Linked}
 use Rattle.names.proofs.KindLaws.{place-small, not-none, slot-node}
 use Rattle.names.proofs.SearchLaws.{bucketOf, within, search-moved}
-use Rattle.sharing.specs.Free.{MaskOf, Mark, met, apart, IsFork, Like}
-use Rattle.sharing.proofs.FreeLaws.{fork-nameless}
+use Rattle.masks.specs.Free.{MaskOf, Mark, met, apart, IsFork, Like}
+use Rattle.masks.proofs.FreeLaws.{fork-nameless}
 
 pub like-self : {s facts : List ℕ} → Like s facts facts
 like-self = record { size = refl; others = λ n d. refl }

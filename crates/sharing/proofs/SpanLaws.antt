@@ -19,9 +19,9 @@ use Rattle.names.specs.Ranks.{Ranked, Indexed}
 use Rattle.slices.specs.Bits.{flagOf}
 use Rattle.names.specs.Facts.{Facts}
 use Rattle.names.specs.Filling.{Nameless}
-use Rattle.sharing.specs.Free.{SPAN, FreeMask, maskAt, markAt, Along, Ahead, ForkMark, ForkMarks, IsFork, Like}
-use Rattle.sharing.proofs.MarkLaws.{mark-none, mark-done}
-use Rattle.sharing.proofs.FreeLaws.{free-ranked, fork-kind, fork-nameless, Marks}
+use Rattle.masks.specs.Free.{SPAN, FreeMask, maskAt, markAt, Along, Ahead, ForkMark, ForkMarks, IsFork, Like}
+use Rattle.masks.proofs.MarkLaws.{mark-none, mark-done}
+use Rattle.masks.proofs.FreeLaws.{free-ranked, fork-kind, fork-nameless, Marks}
 use Rattle.sharing.proofs.LikeLaws.{like-self, like-then, like-back, like-set, ranked-like, indexed-like, mask-like, mark-like}
 
 -- A store for node n, right before the nodes that are known, and one past them.

@@ -4,5 +4,4 @@ pub mod Storing
 pub mod Taking
 pub mod Putting
 pub mod Glue
-pub mod Locks
 pub mod Folding

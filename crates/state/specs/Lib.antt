@@ -1,3 +1,2 @@
 pub mod Represents
 pub mod Positions
-pub mod Holding

@@ -1,10 +1,8 @@
 // The block as one configuration, seen from a position: the thread tree lies in it all the time, and is taken out as a value only where a part is exchanged.
-mod held;
 mod part;
 mod reading;
 mod whole;
 
-pub use held::holds;
 pub use part::fail;
 pub use part::fork;
 pub use part::pop;
@@ -12,6 +10,7 @@ pub use part::push;
 pub use part::rejoin;
 pub use part::set_cell;
 pub use part::top_frame;
+pub use reading::beneath_at;
 pub use reading::fold_at;
 pub use reading::frames_before;
 pub use reading::thread_count;

@@ -13,13 +13,13 @@ ghost use Rattle.limits.specs.Limits.{BLOCK, POSITIONS};
 ghost use Rattle.block.specs.declared.Area.the-variants.{Positions};
 ghost use Rattle.block.specs.Layout.{counted};
 ghost use Rattle.tree.specs.Entries.{beneathCell, frameSum};
-ghost use Rattle.tree.specs.Parts.{Ends, FramesWithin, Leftmost};
+ghost use Rattle.tree.specs.Parts.{Ends, FramesWithin};
 ghost use Rattle.tree.specs.Phases.{FoldAt};
 ghost use Rattle.state.specs.Represents.{SomeState};
 ghost use Rattle.state.specs.Positions.{entryAt, entriesIn, ThreadsOf};
 
 // How many trees stand beneath position i.
-fn beneath_at(block: &[u8], i: usize) -> usize
+pub fn beneath_at(block: &[u8], i: usize) -> usize
     requires { ⌜ (length (now block) ≡ BLOCK) × (i < POSITIONS) ⌝ }
     ensures { λ r. ⌜ (r ≡ beneathCell (entryAt (now (block .entry)) i .cell)) × (r ≤ 2) ⌝ }
 {
@@ -100,19 +100,4 @@ pub fn thread_count(block: &[u8]) -> usize
     ensures { λ r. ⌜ ThreadsOf (now (block .entry)) r ⌝ }
 {
     areas::count(block, Area::Positions) / 2 + 1
-}
-
-// Where the joins begin of which the thread at `i` is the leftmost thread.
-pub fn leftmost_from(block: &[u8], i: usize) -> usize
-    requires { ⌜ (length (now block) ≡ BLOCK) × (i ≤ counted (now block) Positions) × (counted (now block) Positions ≤ POSITIONS) ⌝ }
-    ensures { λ r. ⌜ Leftmost (entriesIn (now (block .entry))) i r ⌝ }
-{
-    let mut k = i;
-    while 0 < k {
-        if beneath_at(block, k - 1) == 0 {
-            return k;
-        }
-        k -= 1;
-    }
-    k
 }

@@ -86,7 +86,7 @@ fn position_row(
 ) -> [u16; Layout::POSITION_WIDTH]
     ensures { λ r. ⌜ r ≡ kind ∷ node ∷ env ∷ (valueWords v ++ frames ∷ []) ⌝ }
 {
-    let w = areas::value_words(v);
+    let w = value_words::value_words(v);
     [kind, node, env, w[0], w[1], w[2], frames]
 }
 

@@ -22,12 +22,13 @@ use Rattle.script.specs.Statements.{WithinLayout}
 use Rattle.script.proofs.Lists.{length-run}
 use Rattle.script.proofs.Tests.{yes-said, no-said, decides-and, decides-lt, decides-le, and-no}
 use Rattle.script.proofs.Declarations.{a-class-at, length-interfaces, length-classes}
-use Rattle.members.specs.declared.Declared.{Declared}
-use Rattle.members.specs.declared.Declared.the-variants.{Interface as is-interface, Class as is-class, Neither as is-neither}
-use Rattle.members.specs.Tables.{Starts}
-use Rattle.members.specs.Lookup.{DeclaredAs, RunAt}
+use Rattle.subtypes.specs.declared.Declared.{Declared}
+use Rattle.subtypes.specs.declared.Declared.the-variants.{Interface as is-interface, Class as is-class, Neither as is-neither}
+use Rattle.subtypes.specs.Tables.{Starts}
+use Rattle.subtypes.specs.Subtypes.{DeclaredAs}
+use Rattle.members.specs.Lookup.{RunAt}
 use Rattle.members.proofs.LookupLaws.{fields-run}
-use Rattle.members.proofs.SubtypeLaws.{class-there, type-neither, type-interface, type-class}
+use Rattle.subtypes.proofs.SubtypeLaws.{class-there, type-neither, type-interface, type-class}
 use Rattle.machine.specs.declared.Value.{Value}
 use Rattle.machine.specs.declared.Value.the-variants.{Int as int}
 use Rattle.machine.specs.declared.Want.{Want}

@@ -2,7 +2,7 @@
 use machine::Want;
 ghost use mathlib.Core.Path.{_≡_};
 ghost use Rattle.script.specs.Statements.{WithinLayout};
-ghost use Rattle.members.specs.Tables.{Starts};
+ghost use Rattle.subtypes.specs.Tables.{Starts};
 ghost use Rattle.machine.specs.Config.{codeOf};
 ghost use Rattle.machine.specs.Decide.{meetsTest, nullMeetsTest};
 
@@ -13,7 +13,7 @@ pub fn meets(s: &[u8], starts: &[u16], t: u16, want: Want) -> bool
 {
     match want {
         Want::Any => true,
-        Want::Upto(u) => members::is_below(s, starts, t, u),
+        Want::Upto(u) => subtypes::is_below(s, starts, t, u),
     }
 }
 
@@ -24,6 +24,6 @@ pub fn null_meets(s: &[u8], want: Want) -> bool
 {
     match want {
         Want::Any => true,
-        Want::Upto(t) => t != members::int_of(s),
+        Want::Upto(t) => t != subtypes::int_of(s),
     }
 }

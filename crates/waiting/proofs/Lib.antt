@@ -1,2 +1,1 @@
-pub mod LetLaws
 pub mod WaitingLaws

@@ -24,7 +24,7 @@ use Rattle.block.proofs.Trees.{positions-threads}
 use Rattle.block.proofs.Decode.{encode-decode}
 use Rattle.representation.proofs.InOrder.{in-order-decodes}
 use Rattle.representation.proofs.Ordered.{decoded-in-order}
-use Rattle.canonical.proofs.Answers.{after-yes, after-no}
+use Rattle.in_order.proofs.Answers.{after-yes, after-no}
 use Rattle.values.specs.Objects.{ObjectsInOrder}
 use Rattle.values.proofs.StoreLaws.{ordered-asked}
 use Rattle.locks.specs.Locking.{Sized, locksTest}

@@ -1,7 +1,7 @@
 use native.Mathlib.Omega.{arith}
 use borrow.Author.Needs.{needs}
 use Rattle.block.specs.declared.Area.the-variants.{Objects, Bindings}
-use Rattle.canonical.proofs.Answers.{refused}
+use Rattle.in_order.proofs.Answers.{refused}
 use Rattle.canonical.proofs.WholeLaws as laws
 use Rattle.canonical.proofs.whole.in_order.Statement.{statement}
 use Rattle.canonical.proofs.whole.in_order.Tie as tie

@@ -1,5 +1,5 @@
 use borrow.Author.Needs.{needs}
-use Rattle.canonical.proofs.Answers.{refused}
+use Rattle.in_order.proofs.Answers.{refused}
 use Rattle.canonical.proofs.WholeLaws as laws
 use Rattle.canonical.proofs.whole.threads_in_order.Statement.{statement}
 use Rattle.canonical.proofs.whole.threads_in_order.Tie as tie

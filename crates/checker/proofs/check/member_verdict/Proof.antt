@@ -1,6 +1,6 @@
 use borrow.Author.Needs.{needs}
 use native.Mathlib.Omega.{arith}
-use Rattle.members.proofs.LookupLaws.{laid}
+use Rattle.subtypes.proofs.SubtypeLaws.{laid}
 use Rattle.checker.proofs.CheckLaws.{all-fit, place-fits, tables-filled}
 use Rattle.checker.proofs.StageLaws.{joins-no, classes-no, then-walk}
 use Rattle.typing.proofs.Exact.{joins-lowest, classes-lowest, one-meaning}

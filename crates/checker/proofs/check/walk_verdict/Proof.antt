@@ -2,7 +2,7 @@ use borrow.Author.Needs.{needs}
 use lib.ListN.{length-replicate}
 use Prim.Native.Nat.{ℕ}
 use Rattle.names.specs.Ranks.{RANKS}
-use Rattle.members.proofs.LookupLaws.{laid}
+use Rattle.subtypes.proofs.SubtypeLaws.{laid}
 use Rattle.checker.proofs.CheckLaws.{node-there, walk-is, new-zeros}
 use Rattle.checker.proofs.check.walk_verdict.Statement.{statement}
 use Rattle.checker.proofs.check.walk_verdict.Tie as tie

@@ -47,7 +47,7 @@ use Rattle.inference.proofs.expressions.lock_target.Reads as lock-targe
 use Rattle.sections.proofs.node_word.Reads as node-word-reads
 use Rattle.inference.proofs.expressions.given_fits.Reads as given-fits-reads
 use Rattle.members.proofs.method_of.Reads as method-of-reads
-use Rattle.members.proofs.int_of.Reads as int-of-reads
+use Rattle.subtypes.proofs.int_of.Reads as int-of-reads
 use Rattle.inference.proofs.expressions.+check+check_part+infer+infer_call+infer_cast+infer_fork+infer_let+infer_lock+infer_update.{
   statement,
 }

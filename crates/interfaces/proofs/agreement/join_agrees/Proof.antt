@@ -1,7 +1,7 @@
 use Rattle.interfaces.proofs.AgreementLaws.{agree-list, left-word, right-word, agree-left, agree-right, agree-both}
 use Rattle.members.proofs.MemberLaws.{word-at}
-use Rattle.members.proofs.LookupLaws.{laid}
-use Rattle.members.proofs.SubtypeLaws.{left-earlier, right-earlier}
+use Rattle.subtypes.proofs.SubtypeLaws.{laid}
+use Rattle.subtypes.proofs.SubtypeLaws.{left-earlier, right-earlier}
 use Rattle.script.specs.declared.Section.the-variants.{Signatures as signatures}
 use native.Mathlib.Omega.{arith}
 use mathlib.Core.Path.{refl}

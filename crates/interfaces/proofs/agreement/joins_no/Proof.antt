@@ -4,7 +4,7 @@ use Prim.Native.Nat.{_≤_, _-_}
 use Rattle.script.specs.declared.Section.the-variants.{Interfaces as interfaces, Signatures as signatures}
 use Rattle.script.specs.Section.{countOf, recordWord}
 use Rattle.members.specs.Lookup.{joinBy, LowestFault}
-use Rattle.members.proofs.LookupLaws.{laid}
+use Rattle.subtypes.proofs.SubtypeLaws.{laid}
 use Rattle.interfaces.proofs.AgreementLaws.{nothing-clashes, no-names, one-name-more, joins-no}
 use Rattle.interfaces.proofs.agreement.joins_no.Statement.{statement}
 use Rattle.interfaces.proofs.agreement.joins_no.Tie as tie

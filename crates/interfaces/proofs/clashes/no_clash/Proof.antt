@@ -5,7 +5,7 @@ use native.Mathlib.Omega.{arith}
 use Prim.Native.Nat.{ℕ, _<_, _-_}
 use Rattle.script.proofs.Tests.{true-false}
 use Rattle.interfaces.specs.Cover.{Unclashed}
-use Rattle.members.proofs.LookupLaws.{laid}
+use Rattle.subtypes.proofs.SubtypeLaws.{laid}
 use Rattle.interfaces.proofs.ClashLaws.{no-clashes}
 use Rattle.interfaces.proofs.clashes.no_clash.Statement.{statement}
 use Rattle.interfaces.proofs.clashes.no_clash.Tie as tie

@@ -4,8 +4,8 @@ use lib.ListN.{length-set}
 use mathlib.Core.Path.{sym, _∙_}
 use native.Mathlib.Omega.{arith}
 use Rattle.script.specs.declared.Section.the-variants.{Interfaces as interfaces}
-use Rattle.members.proofs.SubtypeLaws.{left-earlier, right-earlier, earlier-interface}
-use Rattle.members.proofs.LookupLaws.{laid}
+use Rattle.subtypes.proofs.SubtypeLaws.{left-earlier, right-earlier, earlier-interface}
+use Rattle.subtypes.proofs.SubtypeLaws.{laid}
 use Rattle.interfaces.proofs.CoverLaws.{cover-marked, cover-list, cover-left, cover-right, cover-more}
 use Prim.Native.Nat.{ℕ, _<_}
 use borrow.Fn.Kinds.{In}

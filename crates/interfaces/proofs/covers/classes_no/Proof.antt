@@ -11,7 +11,7 @@ use Rattle.script.specs.Reading.{classAt, programOf}
 use Rattle.script.specs.Asking.{firstOut}
 use Rattle.sections.proofs.Search.{search-start, search-pass, found-end, found-fail, lowest-here, lowest-none}
 use Rattle.typing.specs.Check.{classTest, classesTest}
-use Rattle.members.proofs.LookupLaws.{laid}
+use Rattle.subtypes.proofs.SubtypeLaws.{laid}
 use Rattle.interfaces.proofs.CoverLaws.{class-test}
 use Rattle.interfaces.proofs.covers.classes_no.Statement.{statement}
 use Rattle.interfaces.proofs.covers.classes_no.Tie as tie

@@ -6,7 +6,8 @@ use native.Mathlib.Omega.{arith}
 use Prim.Native.Nat.{ℕ, _≤_, _<_, _-_}
 use Rattle.script.proofs.Tests.{says-yes}
 use Rattle.interfaces.specs.Cover.{Defines}
-use Rattle.members.proofs.LookupLaws.{laid, own-ends, own-small, signatures-run}
+use Rattle.subtypes.proofs.SubtypeLaws.{laid}
+use Rattle.members.proofs.LookupLaws.{own-ends, own-small, signatures-run}
 use Rattle.interfaces.proofs.CoverLaws.{list-no, list-yes}
 use Rattle.interfaces.proofs.covers.covers_list.Statement.{statement}
 use Rattle.interfaces.proofs.covers.covers_list.Tie as tie

@@ -1,6 +1,7 @@
 use native.Mathlib.Omega.{arith}
 use Rattle.script.specs.declared.Section.the-variants.{Classes as classes, Methods as methods}
-use Rattle.members.proofs.LookupLaws.{laid, methods-run, own-there}
+use Rattle.subtypes.proofs.SubtypeLaws.{laid}
+use Rattle.members.proofs.LookupLaws.{methods-run, own-there}
 use Rattle.interfaces.proofs.CoverLaws.{defines-none, defines-typed}
 use borrow.Author.Needs.{needs}
 use Rattle.interfaces.proofs.covers.defines.Statement.{statement}

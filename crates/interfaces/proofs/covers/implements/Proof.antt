@@ -1,5 +1,5 @@
 use borrow.Author.Needs.{needs}
-use Rattle.members.proofs.SubtypeLaws.{class-interface}
+use Rattle.subtypes.proofs.SubtypeLaws.{class-interface}
 use Rattle.interfaces.proofs.CoverLaws.{no-covers, class-covers}
 use Rattle.interfaces.proofs.covers.implements.Statement.{statement}
 use Rattle.interfaces.proofs.covers.implements.Tie as tie

@@ -1,5 +1,6 @@
-use Rattle.members.proofs.LookupLaws.{laid, fields-run, own-there, field-hit, field-miss, field-interface, field-neither}
-use Rattle.members.proofs.SubtypeLaws.{class-there}
+use Rattle.subtypes.proofs.SubtypeLaws.{laid}
+use Rattle.members.proofs.LookupLaws.{fields-run, own-there, field-hit, field-miss, field-interface, field-neither}
+use Rattle.subtypes.proofs.SubtypeLaws.{class-there}
 use Rattle.script.specs.declared.Section.the-variants.{Classes as classes, Fields as fields}
 use native.Mathlib.Omega.{arith}
 use borrow.Author.Needs.{needs}

@@ -1,4 +1,5 @@
-use Rattle.members.proofs.LookupLaws.{laid, own-ends, own-small, own-found}
+use Rattle.subtypes.proofs.SubtypeLaws.{laid}
+use Rattle.members.proofs.LookupLaws.{own-ends, own-small, own-found}
 use native.Mathlib.Omega.{arith}
 use mathlib.Core.Path.{refl}
 use borrow.Author.Needs.{needs}

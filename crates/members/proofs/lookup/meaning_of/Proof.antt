@@ -1,6 +1,6 @@
 use Rattle.members.proofs.MemberLaws.{meaning-none, meaning-own, meaning-left, meaning-right}
 use Rattle.members.proofs.LookupLaws.{signatures-run, own-there}
-use Rattle.members.proofs.SubtypeLaws.{left-earlier, right-earlier}
+use Rattle.subtypes.proofs.SubtypeLaws.{left-earlier, right-earlier}
 use Rattle.script.specs.declared.Section.the-variants.{Interfaces as interfaces, Signatures as signatures}
 use native.Mathlib.Omega.{arith}
 use mathlib.Core.Path.{refl}

@@ -1,6 +1,7 @@
 use Rattle.members.proofs.MemberLaws.{word-at, meaning-missing, meaning-types, method-missing, method-types, method-neither}
-use Rattle.members.proofs.LookupLaws.{laid, methods-run, own-there}
-use Rattle.members.proofs.SubtypeLaws.{interface-there, class-there}
+use Rattle.subtypes.proofs.SubtypeLaws.{laid}
+use Rattle.members.proofs.LookupLaws.{methods-run, own-there}
+use Rattle.subtypes.proofs.SubtypeLaws.{interface-there, class-there}
 use Rattle.script.specs.declared.Section.the-variants.{Classes as classes, Methods as methods}
 use native.Mathlib.Omega.{arith}
 use borrow.Author.Needs.{needs}

@@ -1,5 +1,5 @@
 use Rattle.members.proofs.LookupLaws.{starts-filled}
-use Rattle.members.proofs.RowLaws.{no-rows}
+use Rattle.subtypes.proofs.RowLaws.{no-rows}
 use Rattle.script.specs.declared.Section.the-variants.{Interfaces as interfaces, Classes as classes}
 use native.Mathlib.Omega.{arith}
 use borrow.Author.Needs.{needs}

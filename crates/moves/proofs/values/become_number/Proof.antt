@@ -1,6 +1,6 @@
 use native.Mathlib.Omega.{arith}
 use borrow.Author.Needs.{needs}
-use Rattle.moves.proofs.SumLaws as laws
+use Rattle.moves.proofs.Laws as laws
 use Rattle.moves.proofs.values.become_number.Statement.{statement}
 use Rattle.moves.proofs.values.become_number.Tie as tie
 

@@ -3,7 +3,7 @@ use mathlib.Core.Path.{_≡_, sym, _∙_}
 use native.Mathlib.Omega.{arith}
 use lib.ListN.{length}
 use Rattle.limits.specs.Limits.{NODES}
-use Rattle.sharing.specs.Free.{ForkMarks, Like}
+use Rattle.masks.specs.Free.{ForkMarks, Like}
 use Rattle.sharing.proofs.LikeLaws.{like-self, like-then, ranked-like}
 use Rattle.sharing.proofs.SpanLaws.{marks-all}
 use Rattle.sharing.proofs.forks.fill_spans.Statement.{statement}

@@ -1,7 +1,7 @@
 use native.Mathlib.Omega.{arith}
 use Prim.Native.Nat.{_-_, _≤_}
 use Rattle.script.specs.declared.Section.the-variants.{Fields}
-use Rattle.members.proofs.LookupLaws.{laid}
+use Rattle.subtypes.proofs.SubtypeLaws.{laid}
 use Rattle.values.proofs.StoreLaws.{FieldsLeft, fields-begun, fields-no, fields-more, fields-done}
 use Rattle.values.proofs.stores.fields_fit.Statement.{statement}
 use Rattle.values.proofs.stores.fields_fit.Tie as tie

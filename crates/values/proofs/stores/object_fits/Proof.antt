@@ -1,7 +1,8 @@
 use native.Mathlib.Omega.{arith}
 use borrow.Author.Needs.{needs}
 use mathlib.Core.Path.{refl}
-use Rattle.members.proofs.LookupLaws.{laid, own-ends, own-small}
+use Rattle.subtypes.proofs.SubtypeLaws.{laid}
+use Rattle.members.proofs.LookupLaws.{own-ends, own-small}
 use Rattle.values.proofs.StoreLaws as laws
 use Rattle.values.proofs.stores.object_fits.Statement.{statement}
 use Rattle.values.proofs.stores.object_fits.Tie as tie

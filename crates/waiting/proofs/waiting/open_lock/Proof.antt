@@ -3,7 +3,7 @@ use mathlib.Core.Path.{refl}
 use Rattle.machine.specs.Config.{returning}
 use Rattle.block.specs.declared.Area.the-variants.{Objects}
 use Rattle.state.proofs.Seeing.{some-state, seen-length, seen-few}
-use Rattle.waiting.proofs.WaitingLaws.{still-waiting}
+use Rattle.moves.proofs.FrameLaws.{still-waiting}
 use Rattle.moves.specs.Performs.{performs-moved}
 use Rattle.waiting.proofs.waiting.open_lock.Statement.{statement}
 use Rattle.waiting.proofs.waiting.open_lock.Tie as tie

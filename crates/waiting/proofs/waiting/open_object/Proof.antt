@@ -1,7 +1,7 @@
 use native.Mathlib.Omega.{arith}
 use borrow.Author.Needs.{needs}
 use mathlib.Core.Bool.{false}
-use Rattle.moves.proofs.LockLaws.{shut-changes}
+use Rattle.moves.proofs.Shutting.{shut-changes}
 use Rattle.waiting.proofs.WaitingLaws.{opens-none}
 use Rattle.waiting.proofs.waiting.open_object.Statement.{statement}
 use Rattle.waiting.proofs.waiting.open_object.Tie as tie

@@ -1,0 +1,14 @@
+use borrow.Author.Needs.{needs}
+use mathlib.Core.Path.{refl}
+use Rattle.check_call.proofs.CheckReplies.{lent}
+use Rattle.check_call.proofs.check.Statement.{statement}
+use Rattle.check_call.proofs.check.Tie as tie
+
+check-script-requires : tie.Need-check-script-requires
+check-script-requires c κs = lent
+
+returns : tie.Need-returns
+returns c = let told = c .before .before .check-script .ensures in (refl, (told .0, (told .1 .0, told .1 .1 .0)))
+
+pub check-spec : {M : Type 1} → statement M
+check-spec = tie.close (tie.spec (λ c. search needs) (λ c. search needs) check-script-requires returns)

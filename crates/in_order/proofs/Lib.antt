@@ -1,0 +1,5 @@
+pub mod Answers
+pub mod ZeroLaws
+pub mod ValueLaws
+pub mod KindLaws
+pub mod EachLaws

@@ -1,0 +1,14 @@
+use native.Mathlib.Omega.{arith}
+use borrow.Author.Needs.{needs}
+use Rattle.one_tree.specs.After.{of-join, of-thread}
+use Rattle.one_tree.proofs.trees.after.Statement.{statement}
+use Rattle.one_tree.proofs.trees.after.Tie as tie
+
+returns : tie.Need-returns
+returns c = (of-join (c .if1 .taken), omega arith)
+
+returns-2 : tie.Need-returns-2
+returns-2 c = (of-thread (c .if1 .left), omega arith)
+
+pub after-spec : {M : Type 1} → statement M
+after-spec = tie.close (tie.spec (λ c. search needs) returns (λ c. search needs) returns-2)

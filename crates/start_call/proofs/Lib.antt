@@ -1,0 +1,2 @@
+pub mod StartReplies
+pub mod Initial

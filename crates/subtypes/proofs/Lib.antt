@@ -1,0 +1,2 @@
+pub mod SubtypeLaws
+pub mod RowLaws
