@@ -52,7 +52,7 @@ extern "C" {
 /* The major version changes where a call, a reply, a number's meaning or the block's layout does; the minor where something is added; the patch where neither does. */
 #define OOLONG_VERSION_MAJOR 2
 #define OOLONG_VERSION_MINOR 1
-#define OOLONG_VERSION_PATCH 0
+#define OOLONG_VERSION_PATCH 1
 #define OOLONG_VERSION (OOLONG_VERSION_MAJOR * 10000 + OOLONG_VERSION_MINOR * 100 + OOLONG_VERSION_PATCH)
 
 /* The number of the block's layout: it changes where a byte of the block changes its meaning. A block that you keep in a file is best kept with this number. */
@@ -139,8 +139,9 @@ enum oolong_stop {
 #define OOLONG_STACK OOLONG_STACK_FOR(OOLONG_NODES_MOST)
 
 /* The same for a thread that calls oolong_read, with any text: what the call keeps of a text it keeps in tables of a fixed size, so neither its length nor how deep it is nested matters. The 8,192
- * bytes for the thread itself are in it, and what is said above of your own functions goes for it too. */
-#define OOLONG_READ_STACK 700000u
+ * bytes for the thread itself are in it, and what is said above of your own functions goes for it too. A text of at most 16,384 bytes takes a third of it, and one of at most 1,024 a twentieth.
+ * In version 2.1.0 the number was 700,000, which is too few now: compile such a program again. */
+#define OOLONG_READ_STACK 830000u
 
 struct oolong_read_reply {
     uint16_t number; /* OOLONG_OK, OOLONG_NO_GRAMMAR, OOLONG_NO_DECLARATION or OOLONG_NO_ROOM */

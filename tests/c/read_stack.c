@@ -1,6 +1,6 @@
 /*
- * How much stack and time oolong_read uses. `read_stack < text` measures it on a painted stack: on no text, on the text, which is one of the usual size, on texts as long as those with small tables
- * may be, and on texts of 65,536 bytes that are as deep, as long in casts, or as rich in declarations as a text can be. None may use more than the header's OOLONG_READ_STACK, and a thread with
+ * How much stack and time oolong_read uses. `read_stack < text` measures it on a painted stack: on no text, on the text, which is one of the usual size, on texts as long as those with smaller
+ * tables may be, and on texts of 65,536 bytes that are as deep, as long in casts, or as rich in declarations as a text can be. None may use more than the header's OOLONG_READ_STACK, and a thread with
  * just so many bytes must be enough, in a process of its own. None may take more than 50 milliseconds of a processor: time that grows with the square of the text's length takes longer. Only names
  * that were chosen to have one hash may take 200.
  */
@@ -9,8 +9,8 @@
 #include "oolong.h"
 #include "stacks.h"
 
-/* A text of at most SHORT bytes is read with smaller tables. */
-enum { MOST_MS = 50, MOST_MS_CHOSEN = 200, TIMES = 3, SHORT = 4096 };
+/* A text of at most SMALL bytes is read with the smallest tables, and one of at most MIDDLE with smaller ones. */
+enum { MOST_MS = 50, MOST_MS_CHOSEN = 200, TIMES = 3, SMALL = 1024, MIDDLE = 16384 };
 
 static uint8_t text[OOLONG_TEXT_MOST + 1], file[OOLONG_FILE];
 
@@ -70,7 +70,7 @@ static void name(char *letters, unsigned i) {
 /* The hash that names have in crate tokens. */
 static unsigned hash(const char *letters) {
     unsigned h = 0;
-    for (int k = 0; k < 4; k++) h = (h * 131 + (unsigned char)letters[k]) % 2048;
+    for (int k = 0; k < 4; k++) h = (h * 131 + (unsigned char)letters[k]) % 512;
     return h;
 }
 
@@ -102,8 +102,10 @@ int main(void) {
     size_t len = fread(text, 1, sizeof text, stdin);
     holds &= within("the text", len, OOLONG_OK, 0);
     repeat("x.m(", OOLONG_TEXT_MOST);
-    holds &= within("1,024 open calls", SHORT, OOLONG_NO_GRAMMAR, SHORT);
-    holds &= within("1,024 open calls, and a name", SHORT + 1, OOLONG_NO_GRAMMAR, SHORT + 1);
+    holds &= within("256 open calls", SMALL, OOLONG_NO_GRAMMAR, SMALL);
+    holds &= within("256 open calls, and a name", SMALL + 1, OOLONG_NO_GRAMMAR, SMALL + 1);
+    holds &= within("4,096 open calls", MIDDLE, OOLONG_NO_GRAMMAR, MIDDLE);
+    holds &= within("4,096 open calls, and a name", MIDDLE + 1, OOLONG_NO_GRAMMAR, MIDDLE + 1);
     holds &= within("16,384 open calls", OOLONG_TEXT_MOST, OOLONG_NO_GRAMMAR, OOLONG_TEXT_MOST);
     repeat("(Int)", OOLONG_TEXT_MOST - 1);
     text[OOLONG_TEXT_MOST - 1] = 'x';

@@ -4,3 +4,4 @@ pub mod Outside
 pub mod Pass
 pub mod Answers
 pub mod Text
+pub mod PlaceLaws

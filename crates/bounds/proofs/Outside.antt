@@ -2,7 +2,7 @@
 use mathlib.Core.Path.{_≡_, refl, sym, ap, _∙_}
 use mathlib.Core.Bool.{Bool, true, false, not, or-false}
 use mathlib.Core.List.{List, [], _∷_}
-use Prim.Native.Nat.{ℕ, zero, suc, _+_, _≤_, _<_}
+use Prim.Native.Nat.{ℕ, zero, suc, _+_, _%_, _≤_, _<_}
 use native.Mathlib.Omega.{arith}
 use lib.Dec.{leb, ltb, leb·suc-suc}
 use lib.IntN.{pos}
@@ -11,9 +11,10 @@ use lib.Seq.{drop-cons, getD-take, length-take-le}
 use borrow.Author.Tests.{ne-eqb, leb-false, ltb-true, ltb-false, le-ltb, le-leb, lt-leb}
 use Rattle.words.specs.Integer.{HALF, rangeTest}
 use Rattle.grammar.specs.Tokens.{Lexeme, fixed, TEXT-END, decimal, decimalFrom}
-use Rattle.grammar.specs.Roles.{PLAIN, R-INTEGER, R-NEGATIVE}
+use Rattle.script.specs.declared.Section.the-variants.{Nodes as nodes}
+use Rattle.grammar.specs.Roles.{PLAIN, R-NULL, R-INTEGER, R-NEGATIVE, BINDING}
 use Rattle.grammar.specs.Files.{spellingOf, negated}
-use Rattle.grammar.specs.Faults.{Marked, markedBy, headSpelling, outsideTest}
+use Rattle.grammar.specs.Faults.{Marked, markedBy, headSpelling, beginsTest, outsideTest}
 use Rattle.tokens.specs.Runs.{digitsFrom, capped, BEYOND, cappedBy}
 use Rattle.bounds.specs.Counting.{Placed, IntegersSpelt, lexemeAt, markedAt}
 
@@ -41,6 +42,12 @@ past-minus (suc n) = go (leb (suc n) BEYOND) refl
     go : (q : Bool) → leb (suc n) BEYOND ≡ q → ltb HALF (cappedBy q (suc n)) ≡ not (ltb n HALF)
     go true e = leb-not (suc HALF) (suc n) ∙ ap not (leb·suc-suc (suc n) HALF)
     go false e = let l : BEYOND < suc n = leb-false (suc n) BEYOND e in rw (le-ltb n HALF (omega arith))
+
+-- what begins no node is no integer
+pub not-outside : (m : Marked) (after : List Marked) → beginsTest nodes (m .role) ≡ false → outsideTest m after ≡ false
+not-outside m after h =
+    let low : m .role % BINDING < R-NULL = leb-false R-NULL (m .role % BINDING) h in
+    rw (ne-eqb (m .role) R-INTEGER (λ e. omega arith), ne-eqb (m .role) R-NEGATIVE (λ e. omega arith))
 
 -- token i of a list of roles and tokens
 length-marked : (rs : List ℕ) (ls : List Lexeme) → length rs ≡ length ls → length (markedBy rs ls) ≡ length rs

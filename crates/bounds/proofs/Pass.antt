@@ -3,12 +3,11 @@ use mathlib.Core.Path.{_≡_, refl, sym, ap, _∙_}
 use mathlib.Core.Bool.{Bool, true, false, _&&_, _||_, or-false, or-true}
 use mathlib.Core.List.{List, [], _∷_, _++_}
 use mathlib.Core.Option.{none, some}
-use mathlib.Core.Logic.{⊎-elim}
 use Prim.Native.Nat.{ℕ, zero, suc, _+_, _≤_, _<_}
 use native.Mathlib.Omega.{arith}
 use native.Mathlib.Numerals.{add-one}
 use lib.Dec.{eqb, leb, ltb}
-use lib.ListN.{length, getD, set, take, drop, replicate, List·getD-eq-default, drop-of-length-le}
+use lib.ListN.{length, getD, set, take, drop, replicate, drop-of-length-le}
 use lib.Seq.{take-suc, drop-cons, length-take-le, take-all, getD-set-same, getD-set-other}
 use borrow.Author.Tests.{eqb-true, eqb-false, leb-false, lt-ltb}
 use Rattle.limits.specs.Limits.{NODES}
@@ -16,7 +15,7 @@ use Rattle.script.specs.declared.Section.{Section}
 use Rattle.script.specs.declared.Section.the-variants.{Interfaces as interfaces, Signatures as signatures, Classes as classes}
 use Rattle.script.specs.declared.Section.the-variants.{Fields as fields, Methods as methods, Nodes as nodes}
 use Rattle.script.specs.Section.{sections, entryOf, mostOf}
-use Rattle.script.proofs.Lists.{lt-or-le, zeros}
+use Rattle.script.proofs.Lists.{zeros}
 use Rattle.grammar.specs.Tokens.{fixed, TEXT-END}
 use Rattle.grammar.specs.Roles.{PLAIN}
 use Rattle.grammar.specs.Faults.{Marked, beginsTest, oneMoreIf, begunIn, tooManyTest, outsideTest, firstIf, firstFault, limitFault}
@@ -28,7 +27,7 @@ pub record Passed (ms : List Marked) (counts : List ℕ) (i : ℕ) : Type 0 wher
   pub counted : (k : Section) → getD counts (entryOf k) 0 ≡ begunIn k (take i ms)
   pub left : limitFault ms ≡ firstFault limitTest (take i ms) (drop i ms)
 
-entry-below : (k : Section) → entryOf k < SECTIONS
+pub entry-below : (k : Section) → entryOf k < SECTIONS
 entry-below interfaces = omega arith
 entry-below signatures = omega arith
 entry-below classes = omega arith
@@ -36,7 +35,7 @@ entry-below fields = omega arith
 entry-below methods = omega arith
 entry-below nodes = omega arith
 
-most-at : (k : Section) → getD mosts (entryOf k) 0 ≡ mostOf k
+pub most-at : (k : Section) → getD mosts (entryOf k) 0 ≡ mostOf k
 unfolding mosts
 most-at interfaces = refl
 most-at signatures = refl
@@ -56,16 +55,12 @@ mosts-fit (suc (suc (suc (suc (suc zero))))) = omega arith
 mosts-fit (suc (suc (suc (suc (suc (suc e)))))) = omega arith
 
 -- a counter that is not full has room
-room : (counts : List ℕ) (e : ℕ) → e < SECTIONS → fullTest counts e ≡ false → getD counts e 0 < getD mosts e 0
+pub room : (counts : List ℕ) (e : ℕ) → e < SECTIONS → fullTest counts e ≡ false → getD counts e 0 < getD mosts e 0
 unfolding fullTest
 room counts e l f = leb-false _ _ (rw (lt-ltb e SECTIONS l) at f)
 
-pub fits : (counts : List ℕ) (e : ℕ) → length counts ≡ SECTIONS → fullTest counts e ≡ false → getD counts e 0 < NODES
-fits counts e l f =
-    ⊎-elim
-    (λ (h : e < SECTIONS). omega (arith, room counts e h f, mosts-fit e))
-    (λ (h : SECTIONS ≤ e). let z : length counts ≤ e = omega arith in omega (arith, List·getD-eq-default counts 0 z))
-    (lt-or-le e SECTIONS)
+pub fits : (counts : List ℕ) (e : ℕ) → e < SECTIONS → fullTest counts e ≡ false → getD counts e 0 < NODES
+fits counts e l f = omega (arith, room counts e l f, mosts-fit e)
 
 -- of six tests the one at e
 one-of : (e : ℕ) (f : ℕ → Bool) → e ≤ SECTIONS
@@ -81,7 +76,7 @@ one-of (suc (suc (suc (suc (suc (suc zero)))))) f l = refl
 one-of (suc (suc (suc (suc (suc (suc (suc e))))))) f l = absurd (omega arith)
 
 -- what counting one does to each counter
-one-counted :
+pub one-counted :
     (counts : List ℕ) (e : ℕ) (k : Section)
     → length counts ≡ SECTIONS
     → getD (set counts e (getD counts e 0 + 1)) (entryOf k) 0 ≡ oneMoreIf (eqb e (entryOf k)) (getD counts (entryOf k) 0)

@@ -2,16 +2,21 @@
 use limits::Limits;
 use tokens::magnitude_at;
 ghost use mathlib.Core.Path.{_≡_};
+ghost use mathlib.Core.Bool.{false};
 ghost use mathlib.Core.List.{List};
 ghost use Prim.Native.Nat.{_+_, _<_, _≤_};
 ghost use lib.Dec.{eqb};
 ghost use lib.ListN.{length, getD, set, take, drop};
+ghost use Rattle.words.specs.Word.{WORD};
 ghost use Rattle.limits.specs.Limits.{NODES};
 ghost use Rattle.grammar.specs.Tokens.{Lexeme};
 ghost use Rattle.grammar.specs.Faults.{markedBy, beginsTest, outsideTest};
 ghost use Rattle.script.specs.declared.Section.{Section};
+ghost use Rattle.script.specs.declared.Section.the-variants.{Interfaces as interfaces, Signatures as signatures, Classes as classes};
+ghost use Rattle.script.specs.declared.Section.the-variants.{Fields as fields, Methods as methods, Nodes as nodes};
 ghost use Rattle.script.specs.Section.{entryOf};
-ghost use Rattle.bounds.specs.Counting.{SECTIONS, fullTest, Placed, IntegersSpelt, countedOf, CountedAs, markedAt};
+ghost use Rattle.bounds.specs.Places.{indexOf, RECORDS, indexStart, IndexIs};
+ghost use Rattle.bounds.specs.Counting.{SECTIONS, mosts, fullTest, Placed, IntegersSpelt, countedOf, CountedAs, markedAt};
 
 // Roles of tokens: the first tokens of records, and among those of nodes, which begin with that of `null`, the first tokens of integers.
 const INTERFACE: u8 = 1;
@@ -36,17 +41,38 @@ const BINDING: u8 = 32;
 // Minus this is the least integer.
 const HALF: u32 = 2147483648;
 
-// The sections, and how many records each has at most.
+// The sections.
 const SECTIONS: usize = 6;
 
-const MOST: [usize; 6] = [
-    Limits::INTERFACES,
-    Limits::SIGNATURES,
-    Limits::CLASSES,
-    Limits::FIELDS,
-    Limits::METHODS,
-    Limits::NODES,
-];
+// An index of records: for each section, from its place here on, the tokens at which its records begin.
+pub struct Index {}
+
+impl Index {
+    pub const INTERFACES: usize = 0;
+
+    pub const SIGNATURES: usize = Limits::INTERFACES;
+
+    pub const CLASSES: usize = Self::SIGNATURES + Limits::SIGNATURES;
+
+    pub const FIELDS: usize = Self::CLASSES + Limits::CLASSES;
+
+    pub const METHODS: usize = Self::FIELDS + Limits::FIELDS;
+
+    pub const NODES: usize = Self::METHODS + Limits::METHODS;
+
+    pub const RECORDS: usize = Self::NODES + Limits::NODES;
+}
+
+// The constants and the definitions are the same numbers.
+pub fn agreed()
+    ensures { λ r. do ⌜ (← ⟦Index::INTERFACES⟧ .entry) ≡ indexOf interfaces ⌝ }
+    ensures { λ r. do ⌜ (← ⟦Index::SIGNATURES⟧ .entry) ≡ indexOf signatures ⌝ }
+    ensures { λ r. do ⌜ (← ⟦Index::CLASSES⟧ .entry) ≡ indexOf classes ⌝ }
+    ensures { λ r. do ⌜ (← ⟦Index::FIELDS⟧ .entry) ≡ indexOf fields ⌝ }
+    ensures { λ r. do ⌜ (← ⟦Index::METHODS⟧ .entry) ≡ indexOf methods ⌝ }
+    ensures { λ r. do ⌜ (← ⟦Index::NODES⟧ .entry) ≡ indexOf nodes ⌝ }
+    ensures { λ r. do ⌜ (← ⟦Index::RECORDS⟧ .entry) ≡ RECORDS ⌝ }
+{}
 
 // How many records of each section begin in a text; or the token at fault, which is otherwise the number of tokens.
 pub struct Counted {
@@ -76,25 +102,59 @@ fn entry_begun(role: u8) -> usize
     }
 }
 
-// Has the section of this entry no room for a record more?
-fn is_full(counts: &[usize; 6], entry: usize) -> bool
-    requires { ⌜ entry ≤ SECTIONS ⌝ }
-    ensures { λ r. ⌜ r ≡ fullTest (now (counts .entry)) entry ⌝ }
+// "Most records" of the section of this entry.
+fn most_at(entry: usize) -> usize
+    requires { ⌜ entry < SECTIONS ⌝ }
+    ensures { λ r. ⌜ r ≡ getD mosts entry 0 ⌝ }
 {
-    if entry == SECTIONS {
-        return false;
+    match entry {
+        0 => Limits::INTERFACES,
+        1 => Limits::SIGNATURES,
+        2 => Limits::CLASSES,
+        3 => Limits::FIELDS,
+        4 => Limits::METHODS,
+        _ => Limits::NODES,
     }
-    MOST[entry] <= counts[entry]
 }
 
-// One record more of the section of this entry, if it is one.
+// Where the places of the section of this entry begin in the index.
+fn start_at(entry: usize) -> usize
+    requires { ⌜ entry < SECTIONS ⌝ }
+    ensures { λ r. ⌜ r ≡ indexStart entry ⌝ }
+{
+    match entry {
+        0 => Index::INTERFACES,
+        1 => Index::SIGNATURES,
+        2 => Index::CLASSES,
+        3 => Index::FIELDS,
+        4 => Index::METHODS,
+        _ => Index::NODES,
+    }
+}
+
+// Has the section of this entry no room for a record more?
+fn is_full(counts: &[usize; 6], entry: usize) -> bool
+    requires { ⌜ entry < SECTIONS ⌝ }
+    ensures { λ r. ⌜ r ≡ fullTest (now (counts .entry)) entry ⌝ }
+{
+    most_at(entry) <= counts[entry]
+}
+
+// Puts the place i of the next record of the section of this entry into the index.
+fn put_place(counts: &[usize; 6], index: &mut [u16], entry: usize, i: usize)
+    requires { ⌜ (entry < SECTIONS) × (i < WORD) × (length (now index) ≡ RECORDS) ⌝ }
+    requires { ⌜ fullTest (now counts) entry ≡ false ⌝ }
+    ensures { λ r. ⌜ now (index .exit) ≡ set (now (index .entry)) (indexStart entry + getD (now (counts .entry)) entry 0) i ⌝ }
+{
+    index[start_at(entry) + counts[entry]] = i as u16;
+}
+
+// One record more of the section of this entry.
 fn count_one(counts: &mut [usize; 6], entry: usize)
-    requires { ⌜ (length (now counts) ≡ SECTIONS) × (getD (now counts) entry 0 < NODES) ⌝ }
+    requires { ⌜ (entry < SECTIONS) × (getD (now counts) entry 0 < NODES) ⌝ }
     ensures { λ r. ⌜ now (counts .exit) ≡ set (now (counts .entry)) entry (getD (now (counts .entry)) entry 0 + 1) ⌝ }
 {
-    if entry < SECTIONS {
-        counts[entry] += 1;
-    }
+    counts[entry] += 1;
 }
 
 // Does token i begin an integer outside the range?
@@ -147,22 +207,34 @@ fn faultless(n: usize, counts: &[usize; 6]) -> Counted
     }
 }
 
-// The first of the n tokens that is at fault, or the counts of all sections.
-pub fn count_records(text: &[u8], roles: &[u8], offsets: &[u16], n: usize) -> Counted
-    requires { ⌜ Placed (now text) (now roles) (now offsets) n ⌝ }
+// The first of the n tokens that is at fault; or the counts of all sections, and the index of all records.
+pub fn count_records(
+    text: &[u8],
+    roles: &[u8],
+    offsets: &[u16],
+    n: usize,
+    index: &mut [u16],
+) -> Counted
+    requires { ⌜ Placed (now text) (now roles) (now offsets) n × (n ≤ WORD) × (length (now index) ≡ RECORDS) ⌝ }
     ensures { λ r. ⌜ ((ls : List Lexeme) → IntegersSpelt (now (text .entry)) (now (roles .entry)) (now (offsets .entry)) n ls →
         CountedAs n (markedBy (take n (now (roles .entry))) ls) r) ⌝ }
+    ensures { λ r. ⌜ (r .fault ≡ n → IndexIs (take n (now (roles .entry))) (now (index .exit))) ⌝ }
 {
     let mut counts = [0usize; 6];
     let mut i = 0;
     while i < n {
         let entry = entry_begun(roles[i]);
+        if entry == SECTIONS {
+            i += 1;
+            continue;
+        }
         if is_full(&counts, entry) {
             return fault_at(i);
         }
         if is_outside(text, roles, offsets, n, i) {
             return fault_at(i);
         }
+        put_place(&counts, index, entry, i);
         count_one(&mut counts, entry);
         i += 1;
     }

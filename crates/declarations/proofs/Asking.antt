@@ -9,19 +9,20 @@ use borrow.Author.Tests.{eq-eqb, ne-eqb, lt-ltb, le-ltb, not-false}
 use lib.ListN.{length, getD, take, set}
 use Rattle.script.proofs.Tests.{true-false}
 use Rattle.grammar.specs.Tokens.{Spelling, name-token}
-use Rattle.grammar.specs.Roles.{R-TYPE}
 use Rattle.grammar.specs.Files.{rankIn, declaredRole}
 use Rattle.spellings.specs.Table.{nameFrom, Holds}
 use Rattle.numbering.specs.Numbers.{namesAt, numbered, Tokens}
-use Rattle.declarations.specs.Declaring.{FirstOf, oneMore, declaredIn, againBy, againAt, typeNamed, nowhereAt, TypedTo, TypeAsked, TypesAsked}
+use Rattle.numbering.specs.Chains.{FirstFrom}
+use Rattle.declarations.specs.Declaring.{FirstOf, oneMore, declaredIn, againAt, typeNamed, nowhereAt, TypedTo, TypeAsked, TypesAsked}
+use Rattle.numbering.proofs.Chains.{skipped}
 use Rattle.numbering.proofs.NumberLaws.{numbered-past, numbered-with, roles-more, names-more, roles-length, as-many}
 
 -- The search for the first of n stops, or comes to the end.
-pub first-stop : {test : ℕ → Bool} {n : ℕ} (i : ℕ) → i < n → ((k : ℕ) → k < i → test k ≡ false) → test i ≡ true → FirstOf test n i
-first-stop i h f p = record { within = omega arith; before = f; there = λ l. p }
+first-stop : {test : ℕ → Bool} {n : ℕ} (i : ℕ) → i < n → ((k : ℕ) → k < i → test k ≡ false) → test i ≡ true → FirstOf test n i
+first-stop i h f p = record { reached = omega arith; within = omega arith; before = λ k a. f k; there = λ l. p }
 
 pub first-end : {test : ℕ → Bool} (n i : ℕ) → i ≤ n → n ≤ i → ((k : ℕ) → k < i → test k ≡ false) → FirstOf test n n
-first-end n i a b f = record { within = omega arith; before = λ k l. f k (omega arith); there = λ l. absurd (omega arith) }
+first-end n i a b f = record { reached = omega arith; within = omega arith; before = λ k z l. f k (omega arith); there = λ l. absurd (omega arith) }
 
 -- The declarations before a token are counted.
 pub declared-with : (rs : List ℕ) (r : ℕ) → declaredIn (rs ++ (r ∷ [])) ≡ oneMore (declaredRole r) (declaredIn rs)
@@ -34,47 +35,59 @@ declared-with (q ∷ rs) r = rw (declared-with rs r) (two-more (declaredRole q) 
     two-more true false n = refl
     two-more false b n = refl
 
--- What the loop over the declarations keeps.
+-- What the search along the declarations keeps, at any token.
 pub record Counting (roles values : List ℕ) (n seen i : ℕ) : Type 0 where
   pub upto : i ≤ n
   pub fewer : seen ≤ i
   pub seen-is : seen ≡ declaredIn (take i roles)
   pub none-before : (k : ℕ) → k < i → againAt roles values k ≡ false
 
-module _ (roles values : List ℕ) (n : ℕ) where
-  pub counting-none : Counting roles values n 0 0
+module _ (roles values : List ℕ) (n : ℕ) (room : n ≤ length roles) where
+  counting-none : Counting roles values n 0 0
   unfolding declaredIn
   counting-none = record { upto = omega arith; fewer = omega arith; seen-is = refl; none-before = λ k h. absurd (omega arith) }
 
-  module _ (seen i : ℕ) (so-far : Counting roles values n seen i) (h : i < n) (b : Bool) (asked : b ≡ againBy (getD roles i 0) (getD values i 0) seen) where
-    again-here : b ≡ againAt roles values i
-    again-here = rw (so-far .seen-is) at asked
+  counting-more : (seen i : ℕ) (b : Bool) → i < n → declaredRole (getD roles i 0) ≡ b → againAt roles values i ≡ false → Counting roles values n seen i → Counting roles values n (oneMore b seen) (i + 1)
+  counting-more seen i b h d p so-far =
+      record {
+        upto = omega arith;
+        fewer = at-most b (so-far .fewer);
+        seen-is =
+            ap (oneMore b) (so-far .seen-is)
+            ∙ sym (ap declaredIn (roles-more [] roles roles i (omega arith) (omega arith)) ∙ (declared-with (take i roles) (getD roles i 0) ∙ rw d));
+        none-before = below-more (λ k. againAt roles values k ≡ false) i (so-far .none-before) p;
+      }
+    where
+      at-most : (a : Bool) → seen ≤ i → oneMore a seen ≤ i + 1
+      at-most true u = omega arith
+      at-most false u = omega arith
 
-    pub counting-stop : b ≡ true → FirstOf (againAt roles values) n i
-    counting-stop p = first-stop i h (so-far .none-before) (sym again-here ∙ p)
+  -- Tokens before the next declaration are none.
+  counting-on :
+      {seen from i : ℕ}
+      → FirstFrom (λ k. declaredRole (getD roles k 0)) from n i
+      → Counting roles values n seen from
+      → Counting roles values n seen i × (i < n → declaredRole (getD roles i 0) ≡ true)
+  counting-on {seen} f w = (skipped (Counting roles values n seen) f (λ k h p v. counting-more seen k false h p (rw p) v) w, f .there)
 
-    pub counting-more : (r : ℕ) → n ≤ length roles → b ≡ false → r ≡ oneMore (declaredRole (getD roles i 0)) seen → Counting roles values n r (i + 1)
-    counting-more r l p q =
-        record {
-          upto = omega arith;
-          fewer = rw q (at-most (declaredRole (getD roles i 0)) (so-far .fewer));
-          seen-is =
-              q
-              ∙ (ap (oneMore (declaredRole (getD roles i 0))) (so-far .seen-is)
-              ∙ sym (ap declaredIn (roles-more [] roles roles i (omega arith) (omega arith)) ∙ declared-with (take i roles) (getD roles i 0)));
-          none-before = below-more (λ k. againAt roles values k ≡ false) i (so-far .none-before) (sym again-here ∙ p);
-        }
-      where
-        at-most : (a : Bool) → seen ≤ i → oneMore a seen ≤ i + 1
-        at-most true u = omega arith
-        at-most false u = omega arith
+  pub counting-first : {i : ℕ} → FirstFrom (λ k. declaredRole (getD roles k 0)) 0 n i → Counting roles values n 0 i × (i < n → declaredRole (getD roles i 0) ≡ true)
+  counting-first f = counting-on f counting-none
 
--- What is said of a token that may name a type.
-module _ (text roles offsets values firsts links : List ℕ) (i : ℕ) (room : Tokens text roles offsets values firsts links (i + 1)) (names : List Spelling) where
+  module _ (seen i : ℕ) (so-far : Counting roles values n seen i) (h : i < n) (d : declaredRole (getD roles i 0) ≡ true) where
+    pub counting-stop : (getD values i 0 ≡ seen → ⊥) → FirstOf (againAt roles values) n i
+    counting-stop p = first-stop i h (so-far .none-before) (rw (d, ← so-far .seen-is, ne-eqb (getD values i 0) seen p))
+
+    pub counting-next :
+        {next : ℕ}
+        → getD values i 0 ≡ seen
+        → FirstFrom (λ k. declaredRole (getD roles k 0)) (i + 1) n next
+        → Counting roles values n (seen + 1) next × (next < n → declaredRole (getD roles next 0) ≡ true)
+    counting-next p f = counting-on f (counting-more seen i true h d (rw (d, ← so-far .seen-is, eq-eqb (getD values i 0) seen p)) so-far)
+
+-- What is said of a token that names a type.
+module _ (text roles offsets values : List ℕ) (i : ℕ) (a : i < length roles) (b : i < length offsets) (names : List Spelling) where
   typed-past : typeNamed (getD roles i 0) ≡ false → (before : List ℕ) → TypedTo names text roles offsets before i values → TypedTo names text roles offsets before (i + 1) values
   typed-past p before w =
-      let a : i < length roles = omega (arith, room .in-roles) in
-      let b : i < length offsets = omega (arith, room .in-offsets) in
       rw (roles-more text roles offsets i a b, names-more text roles offsets i a b)
       (w ∙ sym (numbered-past typeNamed names (getD roles i 0) (name-token (nameFrom text (getD offsets i 0))) p (take i roles) (namesAt text (take i offsets)) before (as-many text roles offsets i a b)))
 
@@ -86,43 +99,27 @@ module _ (text roles offsets values firsts links : List ℕ) (i : ℕ) (room : T
       → TypedTo names text roles offsets before i values
       → TypedTo names text roles offsets before (i + 1) (set values i e)
   typed-with e p q before w =
-      let a : i < length roles = omega (arith, room .in-roles) in
-      let b : i < length offsets = omega (arith, room .in-offsets) in
       rw (roles-more text roles offsets i a b, names-more text roles offsets i a b, w, q)
       (sym (numbered-with typeNamed names (getD roles i 0) (name-token (nameFrom text (getD offsets i 0))) p (take i roles) (namesAt text (take i offsets)) before (as-many text roles offsets i a b)
       ∙ rw (roles-length text roles offsets i a b)))
 
-  pub type-other : (getD roles i 0 ≡ R-TYPE → ⊥) → TypeAsked names text roles offsets values i values true
-  type-other d =
-      let p : typeNamed (getD roles i 0) ≡ false = ne-eqb (getD roles i 0) R-TYPE d in
-      record { says = rw p; valued = λ e. typed-past p }
+module _ (text roles offsets values firsts links : List ℕ) (i : ℕ) (room : Tokens text roles offsets values firsts links (i + 1)) (p : typeNamed (getD roles i 0) ≡ true)
+    (names : List Spelling) (e count : ℕ) (q : e ≡ rankIn names (nameFrom text (getD offsets i 0))) (l : length names ≡ count) where
+  pub type-known : e < count → TypeAsked names text roles offsets values i (set values i e) true
+  type-known h =
+      record {
+        says = rw (p, lt-ltb (rankIn names (nameFrom text (getD offsets i 0))) (length names) (omega arith));
+        valued = λ z. typed-with text roles offsets values i (omega (arith, room .in-roles)) (omega (arith, room .in-offsets)) names e p q;
+      }
 
-  pub type-known :
-      (e count : ℕ)
-      → getD roles i 0 ≡ R-TYPE
-      → e ≡ rankIn names (nameFrom text (getD offsets i 0))
-      → length names ≡ count
-      → e < count
-      → TypeAsked names text roles offsets values i (set values i e) true
-  type-known e count d q l h =
-      let p : typeNamed (getD roles i 0) ≡ true = eq-eqb (getD roles i 0) R-TYPE d in
-      record { says = rw (p, lt-ltb (rankIn names (nameFrom text (getD offsets i 0))) (length names) (omega arith)); valued = λ z. typed-with e p q }
-
-  pub type-nowhere :
-      (e count : ℕ)
-      → getD roles i 0 ≡ R-TYPE
-      → e ≡ rankIn names (nameFrom text (getD offsets i 0))
-      → length names ≡ count
-      → count ≤ e
-      → TypeAsked names text roles offsets values i values false
-  type-nowhere e count d q l h =
-      let p : typeNamed (getD roles i 0) ≡ true = eq-eqb (getD roles i 0) R-TYPE d in
+  pub type-nowhere : count ≤ e → TypeAsked names text roles offsets values i values false
+  type-nowhere h =
       record {
         says = rw (p, le-ltb (rankIn names (nameFrom text (getD offsets i 0))) (length names) (omega arith));
         valued = λ z. absurd (true-false (sym z));
       }
 
--- What the loop over the names of types keeps.
+-- What the search along the names of types keeps, at any token.
 pub record Asking (text roles offsets firsts links heads : List ℕ) (n count : ℕ) (before values : List ℕ) (i : ℕ) : Type 0 where
   pub upto : i ≤ n
   pub values-long : length values ≡ length before
@@ -132,10 +129,35 @@ pub record Asking (text roles offsets firsts links heads : List ℕ) (n count : 
       → length names ≡ count
       → ((k : ℕ) → k < i → nowhereAt names text roles offsets k ≡ false) × TypedTo names text roles offsets before i values
 
-module _ (text roles offsets firsts links heads : List ℕ) (n count : ℕ) (before : List ℕ) where
-  pub asking-none : Asking text roles offsets firsts links heads n count before before 0
+module _ (text roles offsets firsts links heads : List ℕ) (n count : ℕ) (before : List ℕ) (room : Tokens text roles offsets before firsts links n) where
+  asking-past :
+      (values : List ℕ) (i : ℕ)
+      → i < n
+      → typeNamed (getD roles i 0) ≡ false
+      → Asking text roles offsets firsts links heads n count before values i
+      → Asking text roles offsets firsts links heads n count before values (i + 1)
+  asking-past values i h p so-far =
+      record {
+        upto = omega arith;
+        values-long = so-far .values-long;
+        asked =
+            λ names k l. (
+              below-more (λ j. nowhereAt names text roles offsets j ≡ false) i (so-far .asked names k l .0) (rw p),
+              typed-past text roles offsets values i (omega (arith, room .in-roles)) (omega (arith, room .in-offsets)) names p before (so-far .asked names k l .1),
+            );
+      }
+
+  -- Tokens before the next name of a type are none.
+  asking-on :
+      {values : List ℕ} {from i : ℕ}
+      → FirstFrom (λ k. typeNamed (getD roles k 0)) from n i
+      → Asking text roles offsets firsts links heads n count before values from
+      → Asking text roles offsets firsts links heads n count before values i × (i < n → typeNamed (getD roles i 0) ≡ true)
+  asking-on {values} f w = (skipped (Asking text roles offsets firsts links heads n count before values) f (asking-past values) w, f .there)
+
+  pub asking-first : {i : ℕ} → FirstFrom (λ k. typeNamed (getD roles k 0)) 0 n i → Asking text roles offsets firsts links heads n count before before i × (i < n → typeNamed (getD roles i 0) ≡ true)
   unfolding numbered
-  asking-none = record { upto = omega arith; values-long = refl; asked = λ names h l. (λ k b. absurd (omega arith), refl) }
+  asking-first f = asking-on f (record { upto = omega arith; values-long = refl; asked = λ names h l. (λ k b. absurd (omega arith), refl) })
 
   module _ (values : List ℕ) (i : ℕ) (so-far : Asking text roles offsets firsts links heads n count before values i) where
     pub asking-end : n ≤ i → (names : List Spelling) → Holds text firsts links heads names → length names ≡ count → TypesAsked names text roles offsets before n values n
@@ -153,9 +175,15 @@ module _ (text roles offsets firsts links heads : List ℕ) (n count : ℕ) (bef
             valued = λ z. absurd (omega arith);
           }
 
-      pub asking-more : not b ≡ false → length values′ ≡ length values → Asking text roles offsets firsts links heads n count before values′ (i + 1)
-      asking-more p e =
-          record {
+      pub asking-next :
+          {next : ℕ}
+          → not b ≡ false
+          → length values′ ≡ length values
+          → FirstFrom (λ k. typeNamed (getD roles k 0)) (i + 1) n next
+          → Asking text roles offsets firsts links heads n count before values′ next × (next < n → typeNamed (getD roles next 0) ≡ true)
+      asking-next p e f =
+          asking-on f
+          (record {
             upto = omega arith;
             values-long = e ∙ so-far .values-long;
             asked =
@@ -163,4 +191,4 @@ module _ (text roles offsets firsts links heads : List ℕ) (n count : ℕ) (bef
                   below-more (λ j. nowhereAt names text roles offsets j ≡ false) i (so-far .asked names k l .0) (sym (told names k l .says) ∙ p),
                   told names k l .valued (not-false b p) before (so-far .asked names k l .1),
                 );
-          }
+          })

@@ -19,7 +19,7 @@ use Rattle.spelt.proofs.Spelt.{spelt}
 use Rattle.declarations.proofs.Exact.{or-right}
 use Rattle.numbering.specs.Numbers.{roleTest, namesAt, numbered, namesTo}
 use Rattle.numbering.specs.declared.Sort.{Sort}
-use Rattle.numbering.specs.declared.Sort.the-variants.{Methods, Fields, Variables, Declared}
+use Rattle.numbering.specs.declared.Sort.the-variants.{Methods, Fields, Variables, Declared, Types}
 use Rattle.declarations.specs.Declaring.{typeNamed, marksTo}
 
 -- Two tokens of a role that is numbered have the same name.
@@ -64,7 +64,7 @@ module _ (test : ℕ → Bool) (among : (r : ℕ) → test r ≡ true → namedR
       go true e f = rw (e, f, s (among r e))
       go false e f = rw (e, f)
 
--- The roles of each sort are numbered, and those of types.
+-- The roles of each sort are numbered.
 or-left : (a b : Bool) → a ≡ true → a || b ≡ true
 or-left a b e = rw e
 
@@ -74,10 +74,7 @@ sort-named Methods r e = or-left (methodRole r) _ e
 sort-named Fields r e = or-right (methodRole r) _ (or-left (fieldRole r) _ e)
 sort-named Variables r e = or-right (methodRole r) _ (or-right (fieldRole r) _ (or-left (otherRole r) _ e))
 sort-named Declared r e = or-right (methodRole r) _ (or-right (fieldRole r) _ (or-right (otherRole r) _ (or-left (declaredRole r) _ e)))
-
-type-named : (r : ℕ) → typeNamed r ≡ true → namedRole r ≡ true
-unfolding namedRole
-type-named r e = or-right (methodRole r) _ (or-right (fieldRole r) _ (or-right (otherRole r) _ (or-right (declaredRole r) _ e)))
+sort-named Types r e = or-right (methodRole r) _ (or-right (fieldRole r) _ (or-right (otherRole r) _ (or-right (declaredRole r) _ e)))
 
 -- Tokens with their roles that have the same names have the same fault.
 record AlikeMarks (m o : Marked) : Type 0 where
@@ -119,7 +116,7 @@ module _ {text text′ : List Marked} (whole : Alike text text′) where
   test-alike {l} {k} w a =
       ap₂ _||_
       (named-alike declaredRole (sort-named Declared) (λ z. declaredAmong z l) (λ z. declaredAmong z k) (λ z. among-alike z w) a)
-      (named-alike typeNamed type-named (λ z. not (declaredAmong z text)) (λ z. not (declaredAmong z text′)) (λ z. ap not (among-alike z whole)) a)
+      (named-alike typeNamed (sort-named Types) (λ z. not (declaredAmong z text)) (λ z. not (declaredAmong z text′)) (λ z. ap not (among-alike z whole)) a)
 
   faults-alike : {b c l k : List Marked} → Alike b c → Alike l k → firstFault (λ x m y. againTest x m || nowhereTest text m) b l ≡ firstFault (λ x m y. againTest x m || nowhereTest text′ m) c k
   unfolding firstFault
@@ -144,7 +141,7 @@ module _ (text roles offsets : List ℕ) (n : ℕ) (d : Derivation)
   numbered-derived s l vs = rw (← roles-are) (sym (numbered-alike (roleTest s) (sort-named s) l vs same-there))
 
   pub types-derived : (l : List Spelling) (vs : List ℕ) → numbered typeNamed l (take n roles) (namesAt text (take n offsets)) vs ≡ numbered typeNamed l (rolesText d) (spelledText d) vs
-  types-derived l vs = rw (← roles-are) (sym (numbered-alike typeNamed type-named l vs same-there))
+  types-derived = numbered-derived Types
 
   pub fault-derived : declarationFault (marksTo text roles offsets n) ≡ declarationFault (markedText d)
   unfolding declarationFault

@@ -35,8 +35,9 @@ pub first-as :
     → FirstOf Q n r
 first-as {P} {Q} {n} {r} same f =
     record {
+      reached = omega arith;
       within = f .within;
-      before = none-to r (omega arith);
+      before = λ k z. none-to r (omega arith) k;
       there = λ h. sym (same r h (none-to r (omega arith))) ∙ f .there h;
     }
   where
@@ -44,7 +45,7 @@ first-as {P} {Q} {n} {r} same f =
     none-to zero h = λ k l. absurd (omega arith)
     none-to (suc m) h =
         let rest : (k : ℕ) → k < m → Q k ≡ false = none-to m (omega arith) in
-        rw (← add-one m) (below-more (λ k. Q k ≡ false) m rest (sym (same m (omega (arith, f .within)) rest) ∙ f .before m (omega arith)))
+        rw (← add-one m) (below-more (λ k. Q k ≡ false) m rest (sym (same m (omega (arith, f .within)) rest) ∙ f .before m (omega arith) (omega arith)))
 
 -- The lower of two firsts.
 or-no : (a b : Bool) → a ≡ false → b ≡ false → a || b ≡ false
@@ -57,16 +58,18 @@ or-right false b p = p
 pub lower-first : {P Q : ℕ → Bool} {n a b : ℕ} → FirstOf P n a → FirstOf Q n b → a < b → FirstOf (λ k. P k || Q k) n a
 lower-first {P} {Q} {n} {a} {b} f g h =
     record {
+      reached = omega arith;
       within = f .within;
-      before = λ k l. or-no (P k) (Q k) (f .before k l) (g .before k (omega arith));
+      before = λ k z l. or-no (P k) (Q k) (f .before k z l) (g .before k z (omega arith));
       there = λ l. rw (f .there l);
     }
 
 pub lower-second : {P Q : ℕ → Bool} {n a b : ℕ} → FirstOf P n a → FirstOf Q n b → b ≤ a → FirstOf (λ k. P k || Q k) n b
 lower-second {P} {Q} {n} {a} {b} f g h =
     record {
+      reached = omega arith;
       within = g .within;
-      before = λ k l. or-no (P k) (Q k) (f .before k (omega arith)) (g .before k l);
+      before = λ k z l. or-no (P k) (Q k) (f .before k z (omega arith)) (g .before k z l);
       there = λ l. or-right (P b) (Q b) (g .there l);
     }
 
@@ -126,10 +129,10 @@ module _ (text roles offsets : List ℕ) (n : ℕ) (a : n ≤ length roles) (b :
         go true e =
             let h : r < n = ltb-true r n e in
             let s : r + 1 + (n - (r + 1)) ≡ n = omega arith in
-            rw (e, ← s) (fault-some r (n - (r + 1)) (omega arith) (f .before) (f .there h))
+            rw (e, ← s) (fault-some r (n - (r + 1)) (omega arith) (λ k. f .before k (omega arith)) (f .there h))
         go false e =
             let h : r ≡ n = omega (arith, ltb-false r n e, f .within) in
-            rw e (fault-none n (omega arith) (rw h at (f .before)))
+            rw e (fault-none n (omega arith) (λ k l. f .before k (omega arith) (omega arith)))
 
   -- Names that are known stay so, at their places.
   names-stay : (k : ℕ) (z : Spelling) → Among (known k) z → (m : ℕ) → k + m ≤ n → Among (known (k + m)) z × (rankIn (known (k + m)) z ≡ rankIn (known k) z)

@@ -1,5 +1,5 @@
 -- Declarations: which names of types are declared again, and which nowhere.
-use Prim.Native.Nat.{ℕ, _+_, _<_, _≤_}
+use Prim.Native.Nat.{ℕ, _+_, _≤_}
 use mathlib.Core.Path.{_≡_}
 use mathlib.Core.Bool.{Bool, true, false, not, _&&_}
 use mathlib.Core.List.{List, [], _∷_}
@@ -7,17 +7,16 @@ use mathlib.Core.Option.{Option, none, some}
 use lib.Dec.{eqb, ltb}
 use lib.ListN.{length, getD, take}
 use Rattle.grammar.specs.Tokens.{Spelling}
-use Rattle.grammar.specs.Roles.{R-TYPE}
 use Rattle.grammar.specs.Files.{rankIn, declaredRole}
 use Rattle.grammar.specs.Faults.{Marked, markedBy, declarationFault}
 use Rattle.spellings.specs.Table.{nameFrom}
-use Rattle.numbering.specs.Numbers.{namesAt, numbered, namesTo}
+use Rattle.numbering.specs.Numbers.{roleTest, namesAt, numbered, namesTo}
+use Rattle.numbering.specs.Chains.{FirstFrom}
+use Rattle.numbering.specs.declared.Sort.the-variants.{Types}
 
 -- The first of n that passes a test, or n.
-pub record FirstOf (test : ℕ → Bool) (n r : ℕ) : Type 0 where
-  pub within : r ≤ n
-  pub before : (k : ℕ) → k < r → test k ≡ false
-  pub there : r < n → test r ≡ true
+abbrev pub FirstOf : (ℕ → Bool) → ℕ → ℕ → Type 0
+FirstOf test n r = FirstFrom test 0 n r
 
 abbrev pub someIf : Bool → ℕ → Option ℕ
 someIf true r = some r
@@ -37,15 +36,12 @@ declaredIn [] = 0
 declaredIn (r ∷ rs) = oneMore (declaredRole r) (declaredIn rs)
 
 -- A declaration whose number is not that of the declarations before it.
-abbrev pub againBy : ℕ → ℕ → ℕ → Bool
-againBy role value seen = declaredRole role && not (eqb value seen)
-
 abbrev pub againAt : List ℕ → List ℕ → ℕ → Bool
-againAt roles values k = againBy (getD roles k 0) (getD values k 0) (declaredIn (take k roles))
+againAt roles values k = declaredRole (getD roles k 0) && not (eqb (getD values k 0) (declaredIn (take k roles)))
 
 -- A name of a type.
 abbrev pub typeNamed : ℕ → Bool
-typeNamed r = eqb r R-TYPE
+typeNamed r = roleTest Types r
 
 -- A name of a type that is in no list of names.
 abbrev pub nowhereAt : List Spelling → List ℕ → List ℕ → List ℕ → ℕ → Bool

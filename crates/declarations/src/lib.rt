@@ -1,58 +1,39 @@
 // Error 35: a name of a type that is declared again, or nowhere.
+use numbering::Firsts;
 use numbering::Sort;
+use numbering::next_in;
 use numbering::number_names;
 ghost use mathlib.Core.Path.{_≡_};
+ghost use mathlib.Core.Bool.{true};
 ghost use mathlib.Core.List.{List, []};
-ghost use Prim.Native.Nat.{_+_, _<_, _≤_};
-ghost use lib.ListN.{length};
-ghost use Rattle.words.specs.Word.{WORD};
+ghost use Prim.Native.Nat.{_+_, _≤_};
+ghost use lib.ListN.{length, getD};
 ghost use Rattle.grammar.specs.Tokens.{Spelling};
 ghost use Rattle.grammar.specs.Files.{declaredRole};
 ghost use Rattle.spellings.specs.Table.{Held, Holds};
 ghost use Rattle.numbering.specs.Numbers.{Tokens};
-ghost use Rattle.declarations.specs.Declaring.{FirstOf, oneMore, againBy, againAt, TypeAsked, TypesAsked, Declarations};
-
-// Roles: a name that is declared, and a name of a type.
-const DECLARED: u8 = 6;
-
-const TYPE: u8 = 7;
-
-// Does a token declare, with a value that is not the number of declarations before it?
-fn is_again(role: u8, value: u16, seen: usize) -> bool
-    ensures { λ r. ⌜ r ≡ againBy role value seen ⌝ }
-{
-    (role == DECLARED) & (value as usize != seen)
-}
-
-// The number of declarations with a token of this role.
-fn seen_with(role: u8, seen: usize) -> usize
-    requires { ⌜ seen < WORD ⌝ }
-    ensures { λ r. ⌜ r ≡ oneMore (declaredRole role) seen ⌝ }
-{
-    if role == DECLARED {
-        return seen + 1;
-    }
-    seen
-}
+ghost use Rattle.numbering.specs.Chains.{LinkedSort, ChainsAre};
+ghost use Rattle.declarations.specs.Declaring.{FirstOf, againAt, typeNamed, TypeAsked, TypesAsked, Declarations};
 
 // The first of n tokens that declares a name declared before, or n. The names that are declared have been numbered.
-fn first_again(roles: &[u8], values: &[u16], n: usize) -> usize
-    requires { ⌜ (n ≤ WORD) × (n ≤ length (now roles)) × (n ≤ length (now values)) ⌝ }
+fn first_again(roles: &[u8], values: &[u16], n: usize, chain: &[u16], first: usize) -> usize
+    requires { ⌜ (n ≤ length (now roles)) × (n ≤ length (now values)) ⌝ }
+    requires { ⌜ LinkedSort declaredRole (now roles) n (now chain) first ⌝ }
     ensures { λ r. ⌜ FirstOf (againAt (now (roles .entry)) (now (values .entry))) n r ⌝ }
 {
     let mut seen = 0;
-    let mut i = 0;
+    let mut i = first;
     while i < n {
-        if is_again(roles[i], values[i], seen) {
+        if values[i] as usize != seen {
             return i;
         }
-        seen = seen_with(roles[i], seen);
-        i += 1;
+        seen += 1;
+        i = next_in(chain, i, n);
     }
     n
 }
 
-// If token i names a type, gives it the number of its declaration, or answers no.
+// Gives token i, which names a type, the number of its declaration, or answers no.
 fn type_token(
     text: &[u8],
     roles: &[u8],
@@ -66,14 +47,12 @@ fn type_token(
 ) -> bool
     requires { ⌜ Tokens (now text) (now roles) (now offsets) (now values) (now firsts) (now links) (i + 1) ⌝ }
     requires { ⌜ Held (now text) (now firsts) (now links) (now heads) count ⌝ }
+    requires { ⌜ typeNamed (getD (now roles) i 0) ≡ true ⌝ }
     ensures { λ r. ⌜
         ((names : List Spelling) → Holds (now (text .entry)) (now (firsts .entry)) (now (links .entry)) (now (heads .entry)) names → length names ≡ count
         → TypeAsked names (now (text .entry)) (now (roles .entry)) (now (offsets .entry)) (now (values .entry)) i (now (values .exit)) r)
         ⌝ }
 {
-    if roles[i] != TYPE {
-        return true;
-    }
     let e = spellings::find(text, firsts, links, heads, count, offsets[i]);
     if e < count {
         values[i] = e as u16;
@@ -88,6 +67,8 @@ fn first_nowhere(
     roles: &[u8],
     offsets: &[u16],
     n: usize,
+    chain: &[u16],
+    first: usize,
     values: &mut [u16],
     firsts: &[u16],
     links: &[u16],
@@ -96,17 +77,18 @@ fn first_nowhere(
 ) -> usize
     requires { ⌜ Tokens (now text) (now roles) (now offsets) (now values) (now firsts) (now links) n ⌝ }
     requires { ⌜ Held (now text) (now firsts) (now links) (now heads) count ⌝ }
+    requires { ⌜ LinkedSort typeNamed (now roles) n (now chain) first ⌝ }
     ensures { λ r. ⌜
         ((names : List Spelling) → Holds (now (text .entry)) (now (firsts .entry)) (now (links .entry)) (now (heads .entry)) names → length names ≡ count
         → TypesAsked names (now (text .entry)) (now (roles .entry)) (now (offsets .entry)) (now (values .entry)) n (now (values .exit)) r)
         ⌝ }
 {
-    let mut i = 0;
+    let mut i = first;
     while i < n {
         if !type_token(text, roles, offsets, i, values, firsts, links, heads, count) {
             return i;
         }
-        i += 1;
+        i = next_in(chain, i, n);
     }
     n
 }
@@ -117,6 +99,8 @@ pub fn declaration_fault(
     roles: &[u8],
     offsets: &[u16],
     n: usize,
+    chain: &[u16],
+    f: Firsts,
     values: &mut [u16],
     firsts: &mut [u16],
     links: &mut [u16],
@@ -124,6 +108,7 @@ pub fn declaration_fault(
 ) -> usize
     requires { ⌜ Tokens (now text) (now roles) (now offsets) (now values) (now firsts) (now links) n ⌝ }
     requires { ⌜ Holds (now text) (now firsts) (now links) (now heads) [] ⌝ }
+    requires { ⌜ ChainsAre (now roles) n (now chain) f ⌝ }
     ensures { λ r. ⌜
         Declarations (now (text .entry)) (now (roles .entry)) (now (offsets .entry)) (now (values .entry)) n (now (values .exit)) r
         ⌝ }
@@ -133,14 +118,28 @@ pub fn declaration_fault(
         roles,
         offsets,
         n,
+        chain,
+        f.declared,
         Sort::Declared,
         values,
         firsts,
         links,
         heads,
     );
-    let again = first_again(roles, values, n);
-    let nowhere = first_nowhere(text, roles, offsets, n, values, firsts, links, heads, count);
+    let again = first_again(roles, values, n, chain, f.declared);
+    let nowhere = first_nowhere(
+        text,
+        roles,
+        offsets,
+        n,
+        chain,
+        f.types,
+        values,
+        firsts,
+        links,
+        heads,
+        count,
+    );
     if again < nowhere {
         return again;
     }

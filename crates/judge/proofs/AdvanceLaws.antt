@@ -1,25 +1,27 @@
 -- Laws of a token's turn, and of the verdict at the text's end.
-use Prim.Native.Nat.{ℕ, _+_, _/_, _≤_}
+use Prim.Native.Nat.{ℕ, _+_, _*_, _/_, _%_, _<_, _≤_}
 use mathlib.Core.Path.{_≡_, refl, sym, ap, _∙_}
 use mathlib.Core.Bool.{Bool, true, false, _||_, cond}
 use mathlib.Core.List.{List, [], _∷_}
 use native.Mathlib.Omega.{arith}
 use native.Mathlib.Numerals.{add-one}
 use lib.Dec.{eqb}
-use lib.ListN.{length, drop}
+use lib.ListN.{length, drop, set}
 use borrow.Author.Tests.{eq-eqb, ne-eqb}
 use Rattle.grammar.specs.Tokens.{fixed, TEXT-END}
+use Rattle.grammar.specs.Roles.{BINDING}
 use Rattle.tokens.specs.Next.{lexemeOf}
 use Rattle.tokens.specs.Runs.{wordFrom}
 use Rattle.flat.specs.declared.Turn.{Turn}
-use Rattle.flat.specs.Flat.{turnAt, topOf, ownTest, parameterBy, CLOSE, BINDS, POINTS}
-use Rattle.flat.specs.Flat.{Flat, rolesBy, closersBy, startBy, popsTest, turned, emptyTest}
-use Rattle.table.specs.Table.{TurnIs, Tight}
+use Rattle.flat.specs.Flat.{turnAt, topOf, ownTest, parameterBy, GO, CLOSE, BINDS, POINTS}
+use Rattle.flat.specs.Flat.{Flat, rolesBy, closersBy, startBy, popsTest, turnOf, turned, emptyTest}
+use Rattle.table.specs.Table.{TurnIs, Tight, Plain, unpacked}
 use Rattle.tokens.specs.declared.Next.{Next}
 use Rattle.turns.specs.Stacks.{Pushed, Closers, ParameterIs}
+use Rattle.turns.proofs.StackLaws.{pushed}
 use Rattle.judge.specs.declared.Standing.{Standing}
 use Rattle.judge.specs.declared.Judged.{Judged}
-use Rattle.judge.specs.Standing.{Shown, Advanced, EndedAs, tokenHere}
+use Rattle.judge.specs.Standing.{Shown, Advanced, Gone, EndedAs, tokenHere}
 
 -- A token has taken its turn.
 pub advances :
@@ -60,6 +62,24 @@ advances text s t m top roles closers own depth parameter visible start roles′
           roles-are = rw own-is (r (f .roles) rest (h .roles-are));
           start-is = n ∙ rw (add-one (s .tokens), h .roles-are .high, h .start-is);
         }
+
+-- A token that does nothing besides has taken its turn.
+pub advances-plainly :
+    (s : Standing) (t : Next) (e start : ℕ) (roles : List ℕ)
+    → Plain e
+    → Tight (t .kind) (unpacked e)
+    → s .tokens < length roles
+    → start ≡ startBy (e % 64) (s .tokens + 1) (s .start)
+    → Gone s t (unpacked e) roles
+    (record { point = e % 64; depth = s .depth; parameter = s .parameter; visible = s .visible; tokens = s .tokens + 1; start = start })
+    (set roles (s .tokens) (e / 1024))
+advances-plainly s t e start roles p tight low n text closers top within =
+    let own = ownTest (wordFrom (drop (s .parameter) text)) (s .visible) (tokenHere text t) in
+    let role-is : e / 1024 + BINDING * 0 ≡ e / 1024 = omega arith in
+    rw p
+    (advances text s t (turnOf GO (e % 64) (e / 1024)) top roles closers own (s .depth) (s .parameter) (s .visible) start (set roles (s .tokens) (e / 1024)) closers
+    (rw p at tight) refl (λ l rest h. rw role-is (pushed roles (s .tokens) (e / 1024) l rest low h)) (omega arith) (λ cs h. h)
+    (record { within = within; spells = refl }) refl n)
 
 -- The verdict at the text's end.
 end-turn : (p : ℕ) (m : Turn) → TurnIs p 0 m → m ≡ turnAt p (fixed TEXT-END)

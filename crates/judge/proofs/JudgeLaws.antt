@@ -18,14 +18,16 @@ use Rattle.tokens.specs.declared.Next.{Next}
 use Rattle.tokens.specs.Next.{NAME, DIGITS, lexemeOf, tokensAt, NextIs}
 use Rattle.tokens.specs.Runs.{wordFrom, digitsFrom, byteRun}
 use Rattle.flat.specs.declared.Turn.{Turn}
-use Rattle.flat.specs.Flat.{flat-stuck, flat-goes, flatBy, flatEnds, turnUnder, turned, topOf, STUCK, POINTS}
+use Rattle.flat.specs.Flat.{flat-stuck, flat-goes, flatBy, flatEnds, turnUnder, turned, topOf, STUCK, GO, POINTS}
 use Rattle.flat.proofs.Flatten.{flatten}
 use Rattle.flat.proofs.Walks.{flattened, accepts-end}
 use Rattle.flat.proofs.Simulation.{simulates, Ended, ends}
+use Rattle.table.specs.Table.{TurnIs, Plain, unpacked}
 use Rattle.turns.specs.Stacks.{Stacked, TurnUnder}
+use Rattle.turns.proofs.TurnLaws.{under-own}
 use Rattle.judge.specs.declared.Standing.{Standing}
 use Rattle.judge.specs.declared.Judged.{Judged}
-use Rattle.judge.specs.Standing.{Shown, Advanced, EndedAs, tokenHere}
+use Rattle.judge.specs.Standing.{Shown, Advanced, Gone, EndedAs, tokenHere}
 use Rattle.judge.specs.Judging.{lexemesOf, offsetsOf, JudgedAs, JudgedText, Room}
 
 -- Laws of lists.
@@ -39,12 +41,11 @@ offsetOf t = t .offset
 abbrev lexemeIn : Token → Lexeme
 lexemeIn t = t .lexeme
 
--- In the loop: the tokens `read` have brought the parser to a state, which the code shows without its trees; t is the next one from byte `at` on.
-pub record Going (text roles₀ offsets₀ closers₀ : List ℕ) (s : Standing) (t : Next) (roles offsets closers : List ℕ) : Type 0 where
+-- In the loop: the tokens `read`, up to byte `at`, have brought the parser to a state, which the code shows without its trees.
+pub record Going (text roles₀ offsets₀ closers₀ : List ℕ) (s : Standing) (at : ℕ) (roles offsets closers : List ℕ) : Type 0 where
   pub state : State
   pub read : List Token
-  pub at : ℕ
-  pub next : NextIs text at t
+  pub within : at ≤ length text
   pub shown : Shown text (flatten state) s roles closers (drop (s .tokens) roles₀)
   pub split : tokensOf text ≡ read ++ tokensAt text at
   pub counted : length read ≡ s .tokens
@@ -62,14 +63,13 @@ pub record Going (text roles₀ offsets₀ closers₀ : List ℕ) (s : Standing)
 abbrev pub unread : List ℕ → Standing
 unread text = record { point = 0; depth = 0; parameter = length text; visible = false; tokens = 0; start = 0 }
 
-pub begun : (text roles offsets closers : List ℕ) (t : Next) → NextIs text 0 t → Going text roles offsets closers (unread text) t roles offsets closers
+pub begun : (text roles offsets closers : List ℕ) → Going text roles offsets closers (unread text) 0 roles offsets closers
 unfolding flatten rolesAll byteRun
-begun text roles offsets closers t n =
+begun text roles offsets closers =
     record {
       state = at-top [];
       read = [];
-      at = 0;
-      next = n;
+      within = omega arith;
       shown =
           record {
             point-is = refl;
@@ -103,14 +103,14 @@ not-end k s n h = go (eqb k NAME) (eqb k DIGITS) h
     go false false e = n (cc)
 
 module _
-    (text roles₀ offsets₀ closers₀ : List ℕ) (s : Standing) (t : Next) (roles offsets closers : List ℕ)
-    (g : Going text roles₀ offsets₀ closers₀ s t roles offsets closers) (more : t .kind ≡ TEXT-END → ⊥)
+    {text roles₀ offsets₀ closers₀ : List ℕ} {s : Standing} {at : ℕ} {roles offsets closers : List ℕ} {t : Next}
+    (g : Going text roles₀ offsets₀ closers₀ s at roles offsets closers) (next : NextIs text at t) (more : t .kind ≡ TEXT-END → ⊥)
   where
-    first-is : tokensAt text (g .at) ≡ tokenAt (t .start) (tokenHere text t) ∷ tokensAt text (t .end)
-    first-is = g .next .token more .first
+    first-is : tokensAt text at ≡ tokenAt (t .start) (tokenHere text t) ∷ tokensAt text (t .end)
+    first-is = next .token more .first
 
     pub starts-below : t .start < length text
-    starts-below = omega (arith, g .next .token more .some, g .next .within)
+    starts-below = omega (arith, next .token more .some, next .within)
 
     -- A token has at least a byte, and a closer a token.
     pub record RoomHere : Type 0 where
@@ -120,7 +120,7 @@ module _
 
     pub room-here : Room text roles₀ offsets₀ closers₀ → RoomHere
     room-here room =
-        let below : s .tokens < length text = omega (arith, g .few, g .next .from, starts-below) in
+        let below : s .tokens < length text = omega (arith, g .few, next .from, starts-below) in
         record {
           roles-room = omega (arith, room .for-roles, g .roles-long);
           offsets-room = omega (arith, room .for-offsets, g .offsets-long);
@@ -150,9 +150,9 @@ module _
         (e ∙ ap (λ (p : ℕ). turnUnder p (flatten (g .state) .closers) (tokenHere text t)) (g .shown .point-is)) ∙
         simulates (g .state) (tokenHere text t)
 
-    -- What the code says of the innermost closer, and that it is the machine's.
-    abbrev TopIs : ℕ → Type 0
-    TopIs top = (cs rest : List ℕ) → Stacked closers (s .depth) cs rest → top ≡ topOf cs
+    -- The innermost closer is the machine's.
+    pub top-here : {top : ℕ} → ((cs rest : List ℕ) → Stacked closers (s .depth) cs rest → top ≡ topOf cs) → top ≡ topOf (flatten (g .state) .closers)
+    top-here is = is (flatten (g .state) .closers) (g .shown .closers-are .rest) (g .shown .closers-are .stacked)
 
     -- The token fits nowhere.
     place-here : getD (offsetsOf text) (s .tokens) (length text) ≡ t .start
@@ -164,15 +164,12 @@ module _
     pub refused-here :
         (m : Turn) (top : ℕ) (r : Judged)
         → TurnUnder (s .point) (s .depth) top (t .kind) m
-        → TopIs top
+        → top ≡ topOf (flatten (g .state) .closers)
         → m .deed ≡ STUCK
         → (r .ok ≡ false) × (r .place ≡ t .start)
         → JudgedText text roles₀ offsets₀ r roles offsets
-    refused-here m top r u is d h = go (shift (g .state) (tokenHere text t)) refl
+    refused-here m top r u o d h = go (shift (g .state) (tokenHere text t)) refl
       where
-        o : top ≡ topOf (flatten (g .state) .closers)
-        o = is (flatten (g .state) .closers) (g .shown .closers-are .rest) (g .shown .closers-are .stacked)
-
         still : flat-stuck ≡ flattened (shift (g .state) (tokenHere text t))
         still = rw (eq-eqb (m .deed) STUCK d) at (stepped m top u o)
 
@@ -203,9 +200,9 @@ module _
         )
 
     pub goes-on :
-        (m : Turn) (top : ℕ) (s′ : Standing) (t′ : Next) (roles′ offsets′ closers′ : List ℕ)
+        (m : Turn) (top : ℕ) (s′ : Standing) (roles′ offsets′ closers′ : List ℕ)
         → TurnUnder (s .point) (s .depth) top (t .kind) m
-        → TopIs top
+        → top ≡ topOf (flatten (g .state) .closers)
         → (m .deed ≡ STUCK → ⊥)
         → s .tokens < length offsets
         → Advanced text s t m top roles closers s′ roles′ closers′
@@ -213,17 +210,13 @@ module _
         → length roles′ ≡ length roles
         → length offsets′ ≡ length offsets
         → length closers′ ≡ length closers
-        → NextIs text (t .end) t′
-        → Going text roles₀ offsets₀ closers₀ s′ t′ roles′ offsets′ closers′
-    goes-on m top s′ t′ roles′ offsets′ closers′ u is d low a w lr lo lc n = go (shift (g .state) (tokenHere text t)) refl
+        → Going text roles₀ offsets₀ closers₀ s′ (t .end) roles′ offsets′ closers′
+    goes-on m top s′ roles′ offsets′ closers′ u o d low a w lr lo lc = go (shift (g .state) (tokenHere text t)) refl
       where
-        o : top ≡ topOf (flatten (g .state) .closers)
-        o = is (flatten (g .state) .closers) (g .shown .closers-are .rest) (g .shown .closers-are .stacked)
-
         moved : flat-goes (turned m (tokenHere text t) (flatten (g .state))) ≡ flattened (shift (g .state) (tokenHere text t))
         moved = rw (ne-eqb (m .deed) STUCK d) at (stepped m top u o)
 
-        go : (x : Shifted) → shift (g .state) (tokenHere text t) ≡ x → Going text roles₀ offsets₀ closers₀ s′ t′ roles′ offsets′ closers′
+        go : (x : Shifted) → shift (g .state) (tokenHere text t) ≡ x → Going text roles₀ offsets₀ closers₀ s′ (t .end) roles′ offsets′ closers′
         go stuck e = absurd (let q : flat-goes (turned m (tokenHere text t) (flatten (g .state))) ≡ flat-stuck = rw e at moved in let z : _≡_ {A = ℕ} 0 1 = cc in omega arith)
         go (accepts v) e = absurd (not-end (t .kind) (drop (t .start) text) more (accepts-end (tokenHere text t) (ways (g .state)) v e))
         go (goes v) e =
@@ -233,14 +226,13 @@ module _
             record {
               state = v;
               read = g .read ++ (tokenAt (t .start) (tokenHere text t) ∷ []);
-              at = t .end;
-              next = n;
+              within = next .within;
               shown = rw (← f, ← k) (a .shows (flatten (g .state)) (drop (s .tokens) roles₀) o (g .shown));
               split = split-here ∙ sym (append-assoc (g .read) (tokenAt (t .start) (tokenHere text t) ∷ []) (tokensAt text (t .end)));
               counted = length-append (g .read) (tokenAt (t .start) (tokenHere text t) ∷ []) ∙ ap (λ (i : ℕ). i + 1) (g .counted) ∙ sym (a .one-more);
               offsets-are = rw (a .one-more) (one-offset offsets′ low w);
               verdict = rw (a .one-more) (rw e at read-on);
-              few = omega (arith, a .one-more, g .few, g .next .from, g .next .token more .some);
+              few = omega (arith, a .one-more, g .few, next .from, next .token more .some);
               shallow = omega (arith, a .one-more, a .depth-low, g .shallow);
               point-low = a .point-low;
               parameter-within = a .parameter-within;
@@ -249,23 +241,40 @@ module _
               closers-long = lc ∙ g .closers-long;
             }
 
+    -- The turn of an entry that is plain, under whatever closers.
+    pub goes-plainly :
+        (e : ℕ) (s′ : Standing) (roles′ offsets′ : List ℕ)
+        → TurnIs (s .point) (t .kind) (unpacked e)
+        → Plain e
+        → s .tokens < length offsets
+        → Gone s t (unpacked e) roles s′ roles′
+        → offsets′ ≡ set offsets (s .tokens) (t .start)
+        → length roles′ ≡ length roles
+        → length offsets′ ≡ length offsets
+        → Going text roles₀ offsets₀ closers₀ s′ (t .end) roles′ offsets′ closers
+    goes-plainly e s′ roles′ offsets′ i p low a w lr lo =
+        let top = topOf (flatten (g .state) .closers) in
+        let deed-is : unpacked e .deed ≡ GO = ap (λ m. m .deed) p in
+        goes-on (unpacked e) top s′ roles′ offsets′ closers (under-own (s .point) (s .depth) top (t .kind) (unpacked e) i (λ h. omega arith)) refl (λ h. omega arith) low
+        (a text closers top (g .parameter-within)) w lr lo refl
+
 begins-with : (d : Derivation) → length (rolesBefore d) ≤ length (rolesText d)
 unfolding rolesText
 begins-with d = omega (arith, length-append (rolesBefore d) (roles none (d .start)))
 
 -- The text has ended.
 pub ended-here :
-    (text roles₀ offsets₀ closers₀ : List ℕ) (s : Standing) (t : Next) (roles offsets closers : List ℕ)
-    → Going text roles₀ offsets₀ closers₀ s t roles offsets closers
+    {text roles₀ offsets₀ closers₀ : List ℕ} {s : Standing} {at : ℕ} {roles offsets closers : List ℕ} {t : Next} {r : Judged}
+    → Going text roles₀ offsets₀ closers₀ s at roles offsets closers
+    → NextIs text at t
     → t .kind ≡ TEXT-END
-    → (r : Judged)
     → EndedAs text s r
     → JudgedText text roles₀ offsets₀ r roles offsets
 unfolding parse
-ended-here text roles₀ offsets₀ closers₀ s t roles offsets closers g last r h = go (shift (g .state) (fixed TEXT-END)) refl (ends (g .state))
+ended-here {text} {roles₀} {offsets₀} {closers₀} {s} {at} {roles} {offsets} {closers} {t} {r} g next last h = go (shift (g .state) (fixed TEXT-END)) refl (ends (g .state))
   where
-    none-left : tokensAt text (g .at) ≡ []
-    none-left = g .next .ended last .none
+    none-left : tokensAt text at ≡ []
+    none-left = next .ended last .none
 
     all-read : tokensOf text ≡ g .read
     all-read = g .split ∙ ap (λ l. g .read ++ l) none-left ∙ append-nil (g .read)
@@ -300,7 +309,7 @@ ended-here text roles₀ offsets₀ closers₀ s t roles offsets closers g last 
           yes = yes;
           tokens-are = h .counted yes .0 ∙ sym all-counted;
           start-is = h .counted yes .1 ∙ g .shown .start-is ∙ y .2;
-          few = omega (arith, h .counted yes .0, g .few, g .next .from, g .next .ended last .start-is);
+          few = omega (arith, h .counted yes .0, g .few, next .from, next .ended last .start-is);
           start-low =
               omega (
                 arith,

@@ -42,6 +42,11 @@ pub record Advanced
     pub depth-low : r .depth ≤ s .depth + 1
     pub parameter-within : r .parameter ≤ length text
 
+-- A token that does nothing besides has taken its turn: what the text and the closers are does not count.
+abbrev pub Gone : Standing → Next → Turn → List ℕ → Standing → List ℕ → Type 0
+Gone s t m roles r roles′ =
+    (text closers : List ℕ) (top : ℕ) → s .parameter ≤ length text → Advanced text s t m top roles closers r roles′ closers
+
 -- At the text's end: a text is derived where an expression may have ended and no closer is waited for.
 pub record EndedAs (text : List ℕ) (s : Standing) (r : Judged) : Type 0 where
   pub verdict : (f : Flat) → s .point ≡ f .point → s .depth ≡ length (f .closers) → r .ok ≡ flatEnds f

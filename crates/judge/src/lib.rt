@@ -1,9 +1,12 @@
 // Judges a text: is it derived by the grammar, and if not, where is the first token that fits nowhere? One pass over the tokens, with a stack of closers, that
 // leaves each token's role and offset.
 use flat::Turn;
-use table::table;
+use table::entry_at;
+use table::fill_table;
+use table::is_plain;
 use table::turn_at;
 use tokens::Next;
+use tokens::byte_kinds;
 use tokens::next_token;
 use turns::is_own;
 use turns::parameter_after;
@@ -18,9 +21,10 @@ ghost use mathlib.Core.Bool.{false};
 ghost use Prim.Native.Nat.{_+_, _<_, _≤_};
 ghost use lib.ListN.{length, set};
 ghost use Rattle.limits.specs.Limits.{TEXT};
+ghost use Rattle.tokens.specs.Kinds.{byteKinds};
 ghost use Rattle.flat.specs.Flat.{POINTS};
-ghost use Rattle.table.specs.Table.{Tight, entries};
-ghost use Rattle.judge.specs.Standing.{Advanced, EndedAs};
+ghost use Rattle.table.specs.Table.{Tight, Plain, entries, unpacked};
+ghost use Rattle.judge.specs.Standing.{Advanced, Gone, EndedAs};
 ghost use Rattle.judge.specs.Judging.{Room, JudgedText};
 
 // The verdict: whether the text is derived. If not, the place of the token that fits nowhere, or of the text's end; else how many tokens there are, and how
@@ -74,6 +78,27 @@ fn advance(
     }
 }
 
+// Takes the turn of a token t that does nothing besides, of which e is the entry. Most tokens are such ones, and this is the least that `advance` would do.
+fn go(roles: &mut [u8], offsets: &mut [u16], s: Standing, t: Next, e: u32) -> Standing
+    requires { ⌜ (s .tokens < length (now roles)) × (s .tokens < length (now offsets)) × Tight (t .kind) (unpacked e) ⌝ }
+    requires { ⌜ (t .start < TEXT) × Plain e ⌝ }
+    ensures { λ r. ⌜ Gone s t (unpacked e) (now (roles .entry)) r (now (roles .exit)) ⌝ }
+    ensures { λ r. ⌜ now (offsets .exit) ≡ set (now (offsets .entry)) (s .tokens) (t .start) ⌝ }
+{
+    let n = s.tokens;
+    let next = (e % 64) as u8;
+    roles[n] = (e / 1024) as u8;
+    offsets[n] = t.start as u16;
+    Standing {
+        point: next,
+        depth: s.depth,
+        parameter: s.parameter,
+        visible: s.visible,
+        tokens: n + 1,
+        start: start_after(next, n + 1, s.start),
+    }
+}
+
 // The text is not derived: a token at this place fits nowhere, or the text's end.
 fn refused(place: usize) -> Judged
     ensures { λ r. ⌜ (r .ok ≡ false) × (r .place ≡ place) ⌝ }
@@ -106,15 +131,16 @@ fn ended(table: &[u32; 2048], text: &[u8], s: Standing) -> Judged
     }
 }
 
-// The pass, with the table at hand.
+// The pass, with the two tables at hand.
 fn judge_by(
+    kinds: &[u8; 256],
     table: &[u32; 2048],
     text: &[u8],
     roles: &mut [u8],
     offsets: &mut [u16],
     closers: &mut [u8],
 ) -> Judged
-    requires { ⌜ (now table ≡ entries) × Room (now text) (now roles) (now offsets) (now closers) ⌝ }
+    requires { ⌜ (now kinds ≡ byteKinds) × (now table ≡ entries) × Room (now text) (now roles) (now offsets) (now closers) ⌝ }
     ensures { λ r. ⌜ JudgedText (now (text .entry)) (now (roles .entry)) (now (offsets .entry)) r (now (roles .exit)) (now (offsets .exit)) ⌝ }
 {
     let mut s = Standing {
@@ -125,17 +151,25 @@ fn judge_by(
         tokens: 0,
         start: 0,
     };
-    let mut t = next_token(text, 0);
-    while t.kind != 0 {
+    let mut at = 0;
+    loop {
+        let t = next_token(kinds, text, at);
+        if t.kind == 0 {
+            return ended(table, text, s);
+        }
+        at = t.end;
+        let e = entry_at(table, s.point, t.kind);
+        if is_plain(e) {
+            s = go(roles, offsets, s, t, e);
+            continue;
+        }
         let top = top_of(closers, s.depth);
         let m = turn_under(table, s.point, s.depth, top, t.kind);
         if m.deed == flat::STUCK {
             return refused(t.start);
         }
         s = advance(text, roles, offsets, closers, s, t, m, top);
-        t = next_token(text, t.end);
     }
-    ended(table, text, s)
 }
 
 // Judges a text. Each of the arrays is at least as long as the text; what they held before does not count.
@@ -143,6 +177,8 @@ pub fn judge(text: &[u8], roles: &mut [u8], offsets: &mut [u16], closers: &mut [
     requires { ⌜ Room (now text) (now roles) (now offsets) (now closers) ⌝ }
     ensures { λ r. ⌜ JudgedText (now (text .entry)) (now (roles .entry)) (now (offsets .entry)) r (now (roles .exit)) (now (offsets .exit)) ⌝ }
 {
-    let entries = table();
-    judge_by(&entries, text, roles, offsets, closers)
+    let kinds = byte_kinds();
+    let mut entries = [0u32; 2048];
+    fill_table(&mut entries);
+    judge_by(&kinds, &entries, text, roles, offsets, closers)
 }

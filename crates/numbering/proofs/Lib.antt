@@ -1,2 +1,4 @@
+pub mod Chains
 pub mod Distinct
 pub mod NumberLaws
+pub mod Sorts

@@ -1,18 +1,19 @@
 -- Values of tokens, one token after another.
 use Prim.Native.Nat.{ℕ, zero, suc, _+_, _<_, _≤_}
 use mathlib.Core.Path.{_≡_, refl, sym, ap, _∙_}
-use mathlib.Core.Bool.{Bool, true, false, not}
+use mathlib.Core.Bool.{Bool, true, false}
 use mathlib.Core.List.{List, [], _∷_, _++_, map-append}
 use native.Mathlib.Omega.{arith}
 use native.Mathlib.Numerals.{add-one}
 use lib.ListN.{length, getD, take, set, length-map}
 use lib.Seq.{take-suc, length-take-le}
-use borrow.Author.Tests.{not-true, not-false}
 use Rattle.grammar.specs.Tokens.{Spelling, Lexeme, name-token}
 use Rattle.grammar.specs.Files.{spellingOf, namesWith, distinct, rankIn}
 use Rattle.spellings.specs.Table.{nameFrom, Holds, Held, grown, PlaceIs, Grows}
 use Rattle.spellings.proofs.Places.{Among, place-le}
 use Rattle.numbering.specs.Numbers.{namesAt, numbered, chosenNumber, namesTo, NumberedTo, Numbers, Tokens}
+use Rattle.numbering.specs.Chains.{FirstFrom}
+use Rattle.numbering.proofs.Chains.{skipped}
 use Rattle.numbering.proofs.Distinct.{distinct-more, place-grown, place-own, among-first, among-behind, distinct-has, distinct-few}
 
 module _ (test : ℕ → Bool) where
@@ -80,24 +81,6 @@ module _ (test : ℕ → Bool) where
   numbered-at l d (r ∷ rs) (t ∷ ts) [] k e h w = absurd (omega arith)
   numbered-at l d (r ∷ rs) (t ∷ ts) (v ∷ vs) zero e h w = refl
   numbered-at l d (r ∷ rs) (t ∷ ts) (v ∷ vs) (suc k) e h w = numbered-at l d rs ts vs k (omega arith) (omega arith) (omega arith)
-
-  pub numbered-most :
-      (l : List Spelling) (m : ℕ)
-      → length l ≤ m
-      → (rs : List ℕ) (ts : List Lexeme) (vs : List ℕ)
-      → ((k : ℕ) → getD vs k 0 ≤ m)
-      → (k : ℕ)
-      → getD (numbered test l rs ts vs) k 0 ≤ m
-  unfolding numbered
-  numbered-most l m h [] ts vs f k = f k
-  numbered-most l m h (r ∷ rs) [] vs f k = f k
-  numbered-most l m h (r ∷ rs) (t ∷ ts) [] f k = f k
-  numbered-most l m h (r ∷ rs) (t ∷ ts) (v ∷ vs) f zero = go (test r)
-    where
-      go : (b : Bool) → chosenNumber b (rankIn l (spellingOf t)) v ≤ m
-      go true = omega (arith, place-le l (spellingOf t))
-      go false = f 0
-  numbered-most l m h (r ∷ rs) (t ∷ ts) (v ∷ vs) f (suc k) = numbered-most l m h rs ts vs (λ j. f (suc j)) k
 
   -- A list that grows changes no value that is given.
   pub numbered-grown :
@@ -193,24 +176,20 @@ pub held-of : {test : ℕ → Bool} {text roles offsets before values firsts lin
 held-of {test} {text} {roles} {offsets} {n = n} w = record { names = namesTo test text roles offsets n; holds = w .holds; counted = w .counted }
 
 -- What the code makes of token i.
-module _ (test : ℕ → Bool) (text roles offsets values firsts links heads : List ℕ) (i count : ℕ) (room : Tokens text roles offsets values firsts links (i + 1))
-    (of : Bool) (asked : of ≡ test (getD roles i 0)) where
-  pub token-past : not of ≡ true → Numbers test text roles offsets i values firsts links heads count values firsts links heads count
-  token-past q before w = number-past text roles offsets i (omega (arith, room .in-roles)) (omega (arith, room .in-offsets)) test before values firsts links heads count w (sym asked ∙ not-true of q)
-
-  pub token-with :
-      (e count′ : ℕ) (values′ firsts′ links′ heads′ : List ℕ)
-      → not of ≡ false
-      → PlaceIs text firsts links heads count (nameFrom text (getD offsets i 0)) e
-      → Grows text firsts links heads count (nameFrom text (getD offsets i 0)) firsts′ links′ heads′
-      → values′ ≡ set values i e
-      → ((l : List Spelling) (y : Spelling) → length l ≡ count → e ≡ rankIn l y → length (grown l y) ≡ count′)
-      → Numbers test text roles offsets i values firsts links heads count values′ firsts′ links′ heads′ count′
-  token-with e count′ values′ firsts′ links′ heads′ q place grows v size before w =
-      let known = namesTo test text roles offsets i in
-      let p = place known (w .holds) (w .counted) in
-      number-with text roles offsets i (omega (arith, room .in-roles)) (omega (arith, room .in-offsets)) test before values firsts links heads count w e values′ firsts′ links′ heads′ count′
-      (sym asked ∙ not-false of q) p v (grows known (w .holds) (w .counted)) (size known (nameFrom text (getD offsets i 0)) (w .counted) p)
+pub token-with :
+    (test : ℕ → Bool) (text roles offsets values firsts links heads : List ℕ) (i count : ℕ) (e count′ : ℕ) (values′ firsts′ links′ heads′ : List ℕ)
+    → Tokens text roles offsets values firsts links (i + 1)
+    → test (getD roles i 0) ≡ true
+    → PlaceIs text firsts links heads count (nameFrom text (getD offsets i 0)) e
+    → Grows text firsts links heads count (nameFrom text (getD offsets i 0)) firsts′ links′ heads′
+    → values′ ≡ set values i e
+    → ((l : List Spelling) (y : Spelling) → length l ≡ count → e ≡ rankIn l y → length (grown l y) ≡ count′)
+    → Numbers test text roles offsets i values firsts links heads count values′ firsts′ links′ heads′ count′
+token-with test text roles offsets values firsts links heads i count e count′ values′ firsts′ links′ heads′ room q place grows v size before w =
+    let known = namesTo test text roles offsets i in
+    let p = place known (w .holds) (w .counted) in
+    number-with text roles offsets i (omega (arith, room .in-roles)) (omega (arith, room .in-offsets)) test before values firsts links heads count w e values′ firsts′ links′ heads′ count′
+    q p v (grows known (w .holds) (w .counted)) (size known (nameFrom text (getD offsets i 0)) (w .counted) p)
 
 -- There are at most as many names as tokens.
 pub number-few :
@@ -245,10 +224,35 @@ room-still m h a b d t =
       inside = λ k l. t .inside k (omega arith);
     }
 
--- What the loop over the tokens keeps.
+-- What the loop along the chain keeps.
 pub record Going (test : ℕ → Bool) (text roles offsets values₀ firsts₀ links₀ : List ℕ) (n : ℕ) (values firsts links heads : List ℕ) (count i : ℕ) : Type 0 where
   pub upto : i ≤ n
+  pub named : i < n → test (getD roles i 0) ≡ true
   pub values-long : length values ≡ length values₀
   pub firsts-long : length firsts ≡ length firsts₀
   pub links-long : length links ≡ length links₀
   pub so-far : NumberedTo test text roles offsets values₀ i values firsts links heads count
+
+module _ (test : ℕ → Bool) (text roles offsets values₀ firsts₀ links₀ : List ℕ) (n : ℕ) (room : Tokens text roles offsets values₀ firsts₀ links₀ n)
+    (values firsts links heads : List ℕ) (count : ℕ) where
+  -- The tokens before the next name of the sort are passed over.
+  pub going-on :
+      {from i : ℕ}
+      → length values ≡ length values₀
+      → length firsts ≡ length firsts₀
+      → length links ≡ length links₀
+      → FirstFrom (λ k. test (getD roles k 0)) from n i
+      → NumberedTo test text roles offsets values₀ from values firsts links heads count
+      → Going test text roles offsets values₀ firsts₀ links₀ n values firsts links heads count i
+  going-on a b d f w =
+      record {
+        upto = f .within;
+        named = f .there;
+        values-long = a;
+        firsts-long = b;
+        links-long = d;
+        so-far =
+            skipped (λ k. NumberedTo test text roles offsets values₀ k values firsts links heads count) f
+            (λ k h p v. number-past text roles offsets k (omega (arith, room .in-roles)) (omega (arith, room .in-offsets)) test values₀ values firsts links heads count v p)
+            w;
+      }

@@ -3,20 +3,23 @@ use Prim.Native.Nat.{ℕ, _+_, _<_, _≤_}
 use mathlib.Core.Path.{_≡_}
 use mathlib.Core.Bool.{Bool, true, false}
 use mathlib.Core.List.{List, [], _∷_, map}
+use lib.Dec.{eqb}
 use lib.ListN.{length, getD, take}
 use Rattle.words.specs.Word.{WORD}
 use Rattle.grammar.specs.Tokens.{Spelling, Lexeme, name-token}
+use Rattle.grammar.specs.Roles.{R-TYPE}
 use Rattle.grammar.specs.Files.{spellingOf, namesWith, distinct, rankIn, methodRole, fieldRole, otherRole, declaredRole}
 use Rattle.spellings.specs.Table.{nameFrom, Holds}
 use Rattle.numbering.specs.declared.Sort.{Sort}
-use Rattle.numbering.specs.declared.Sort.the-variants.{Methods, Fields, Variables, Declared}
+use Rattle.numbering.specs.declared.Sort.the-variants.{Methods, Fields, Variables, Declared, Types}
 
--- The roles of the names that are numbered together.
+-- The roles of the names of a sort.
 abbrev pub roleTest : Sort → ℕ → Bool
 roleTest Methods r = methodRole r
 roleTest Fields r = fieldRole r
 roleTest Variables r = otherRole r
 roleTest Declared r = declaredRole r
+roleTest Types r = eqb r R-TYPE
 
 -- What stands at each offset, taken as a name.
 abbrev pub namesAt : List ℕ → List ℕ → List Lexeme

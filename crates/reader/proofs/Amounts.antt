@@ -1,19 +1,18 @@
 -- What the digits in a text say, where no integer is outside the range.
-use Prim.Native.Nat.{ℕ, zero, suc, _≤_, _<_}
-use mathlib.Core.Path.{_≡_, refl, sym, ap, _∙_}
-use mathlib.Core.Bool.{true}
-use mathlib.Core.List.{List, [], _∷_, _++_, map, append-assoc}
+use Prim.Native.Nat.{ℕ, zero, suc, _≤_}
+use mathlib.Core.Path.{_≡_, refl}
+use mathlib.Core.List.{List, [], _∷_, _++_, map}
 use native.Mathlib.Omega.{arith}
 use borrow.Author.Tests.{le-leb}
 use lib.IntN.{pos}
 use lib.ListN.{drop}
 use Rattle.words.specs.Integer.{InRange}
 use Rattle.script.specs.Lists.{Every}
-use Rattle.grammar.specs.Tokens.{Spelling, Lexeme, fixed, name-token, digits-token, decimalFrom, decimal, Token, W-IN, W-ASYNC, W-DEF, W-CLASS, W-IMPLEMENTS, S-BRACE, S-UNBRACE, S-OPEN, S-CLOSE, S-COLON, S-SEMICOLON}
+use Rattle.grammar.specs.Tokens.{Lexeme, fixed, name-token, digits-token, decimalFrom, decimal, Token, W-IN, W-ASYNC, S-BRACE, S-UNBRACE, S-CLOSE, S-SEMICOLON}
 use Rattle.grammar.specs.Grammar.{X, x-this, x-name, T, t-unit, t-int, t-name, E, e-null, e-variable, e-select, e-update, e-call, e-let, e-new, e-cast}
 use Rattle.grammar.specs.Grammar.{e-fork, e-lock, e-digits, e-minus, e-sum, e-sum-in, Msig, Id, id-list, id-join, Fd, Md, Cd, Derivation}
 use Rattle.grammar.specs.Grammar.{variableToken, typeToken, spelled, spelledMsig, spelledAll, spelledId, spelledFd, spelledMd, spelledCd, spelledText}
-use Rattle.grammar.specs.Files.{negated, joined, mdsOf}
+use Rattle.grammar.specs.Files.{negated, joined}
 use Rattle.grammar.proofs.Written.{every-append}
 use Rattle.tokens.specs.Runs.{digitsFrom, BEYOND, capped}
 use Rattle.spelt.specs.Spelt.{digitsIn, Spelt}

@@ -1,54 +1,51 @@
 -- From one pass to the next.
 use Prim.Native.Nat.{ℕ, _+_, _-_, _<_, _≤_}
 use mathlib.Core.Path.{_≡_, refl, sym, ap, _∙_}
-use mathlib.Core.Bool.{Bool, true, false}
-use mathlib.Core.List.{List, [], _∷_, _++_, map}
-use mathlib.Core.Option.{Option, none, some}
+use mathlib.Core.List.{List, _++_, map}
+use mathlib.Core.Option.{none, some}
 use native.Mathlib.Omega.{arith}
-use lib.Dec.{ltb}
 use lib.ListN.{length, getD, take, replicate, replicate-append-replicate}
 use borrow.Author.Tests.{lt-ltb, le-ltb}
-use Rattle.limits.specs.Limits.{FILE, TEXT}
-use Rattle.script.specs.declared.Section.{Section}
-use Rattle.grammar.specs.Tokens.{Lexeme, tokensOf}
-use Rattle.grammar.specs.Grammar.{Derivation, spelledText}
+use Rattle.grammar.specs.Tokens.{Lexeme}
+use Rattle.grammar.specs.Grammar.{spelledText}
 use Rattle.grammar.specs.Roles.{rolesText}
 use Rattle.grammar.specs.Files.{numberingOf, declaredRole}
-use Rattle.grammar.specs.Faults.{markedBy, markedText, declarationFault, limitFault}
+use Rattle.grammar.specs.Faults.{markedBy, markedText, declarationFault}
 use Rattle.grammar.specs.Read.{NO-DECLARATION, NO-ROOM, readOf}
-use Rattle.tokens.specs.Runs.{HASHES}
 use Rattle.numbering.specs.declared.Sort.the-variants.{Methods, Fields, Variables, Declared}
+use Rattle.numbering.specs.declared.Firsts.{Firsts}
+use Rattle.numbering.specs.Chains.{ChainsAre}
 use Rattle.numbering.specs.Numbers.{roleTest, namesAt, numbered, namesTo}
-use Rattle.declarations.specs.Declaring.{typeNamed, foundOf, someIf, Declarations}
+use Rattle.declarations.specs.Declaring.{typeNamed, foundOf, Declarations}
 use Rattle.declarations.proofs.Derived.{names-derived, numbered-derived, types-derived, fault-derived}
 use Rattle.bounds.specs.declared.Counted.{Counted}
-use Rattle.bounds.specs.Counting.{countedOf, IntegersSpelt, CountedAs}
-use Rattle.bounds.proofs.Text.{spelt-text, marked-text, counted-text}
-use Rattle.capacity.specs.Extent.{recordsOf, WithinLimits}
+use Rattle.bounds.specs.Counting.{IntegersSpelt, CountedAs}
+use Rattle.bounds.specs.Places.{IndexIs}
+use Rattle.bounds.proofs.Text.{spelt-text, counted-text}
 use Rattle.capacity.proofs.Roles.{text-spelled}
 use Rattle.rows.specs.Items.{itemsText}
 use Rattle.rows.proofs.Zipped.{text-by}
 use Rattle.reader.specs.declared.Read.{Read}
 use Rattle.reader.specs.Reading.{ReadAs}
 use Rattle.reader.specs.Numbers.{sortNumbered}
-use Rattle.reader.specs.Derived.{Derived, Roomy, Typed, JudgedDerived, DeclaredText, NumberedText}
+use Rattle.reader.specs.Derived.{Roomy, JudgedDerived, DeclaredText, NumberedText}
 use Rattle.reader.proofs.Laws.{read-undeclared, read-beyond}
 use Rattle.reader.proofs.Values.{values-numbered}
-use Rattle.reader.proofs.PassLaws.{derives, roles-all, roles-taken, offsets-taken, in-text, offset-place, refusal-as}
+use Rattle.reader.proofs.PassLaws.{derives, roles-all, roles-taken, offsets-taken, offset-place, refusal-as}
 
 -- Arrays of the same lengths have the same room.
 pub roomy-still :
-    {text file values firsts links heads values′ firsts′ links′ heads′ : List ℕ}
+    {n : ℕ} {chain values firsts links heads chain′ values′ firsts′ links′ heads′ : List ℕ}
+    → length chain′ ≡ length chain
     → length values′ ≡ length values
     → length firsts′ ≡ length firsts
     → length links′ ≡ length links
     → length heads′ ≡ length heads
-    → Roomy text file values firsts links heads
-    → Roomy text file values′ firsts′ links′ heads′
-roomy-still a b c d h =
+    → Roomy n chain values firsts links heads
+    → Roomy n chain′ values′ firsts′ links′ heads′
+roomy-still z a b c d h =
     record {
-      short = h .short;
-      whole = h .whole;
+      for-chain = omega (arith, z, h .for-chain);
       for-values = omega (arith, a, h .for-values);
       for-firsts = omega (arith, b, h .for-firsts);
       for-links = omega (arith, c, h .for-links);
@@ -62,10 +59,10 @@ found-none : (n r : ℕ) → n ≤ r → foundOf n r ≡ none
 found-none n r h = rw (le-ltb r n h) refl
 
 -- 35.
-module _ {text roles offsets : List ℕ} {n start : ℕ} {values firsts links heads file : List ℕ} (j : JudgedDerived text roles offsets n start values firsts links heads file) where
-  fault-of : {values′ : List ℕ} {r : ℕ} → Declarations text roles offsets values n values′ r → declarationFault (markedText (j .derived-text .derivation)) ≡ foundOf n r
+module _ {text roles offsets : List ℕ} {n start : ℕ} {chain values firsts links heads file : List ℕ} (j : JudgedDerived text roles offsets n start chain values firsts links heads file) where
+  fault-of : {values′ : List ℕ} {r : ℕ} → Declarations text roles offsets values n values′ r → declarationFault (markedText (j .judged .derived-text .derivation)) ≡ foundOf n r
   fault-of a =
-      sym (fault-derived text roles offsets n (j .derived-text .derivation) (sym (derives (j .derived-text))) (roles-taken (j .derived-text)) (offsets-taken (j .derived-text)))
+      sym (fault-derived text roles offsets n (j .judged .derived-text .derivation) (sym (derives (j .judged .derived-text))) (roles-taken (j .judged .derived-text)) (offsets-taken (j .judged .derived-text)))
       ∙ a .fault
 
   pub declaration-refused :
@@ -77,37 +74,40 @@ module _ {text roles offsets : List ℕ} {n start : ℕ} {values firsts links he
       → reply ≡ record { number = NO-DECLARATION; length = 0; place = place }
       → ReadAs reply file (readOf text file)
   declaration-refused {values′} {r} reply a h place q e =
-      let d = j .derived-text .derivation in
+      let d = j .judged .derived-text .derivation in
       refusal-as NO-DECLARATION place file reply (readOf text file) e
-      (read-undeclared text file (j .roomy .short) (j .roomy .whole) d (j .derived-text .is-derived) r (fault-of a ∙ found-there n r h)
-      ∙ ap (λ p. record { number = NO-DECLARATION; place = p; length = 0; buffer = file }) (offset-place (j .derived-text) r h ∙ sym q))
+      (read-undeclared text file (j .judged .short) (j .judged .whole) d (j .judged .derived-text .is-derived) r (fault-of a ∙ found-there n r h)
+      ∙ ap (λ p. record { number = NO-DECLARATION; place = p; length = 0; buffer = file }) (offset-place (j .judged .derived-text) r h ∙ sym q))
 
-  first-zeros : _≡_ {A = List ℕ} (replicate (length values) 0) (replicate (length (rolesText (j .derived-text .derivation))) 0 ++ replicate (length values - n) 0)
+  first-zeros : _≡_ {A = List ℕ} (replicate (length values) 0) (replicate (length (rolesText (j .judged .derived-text .derivation))) 0 ++ replicate (length values - n) 0)
   first-zeros =
-      let m = length (rolesText (j .derived-text .derivation)) in
-      let e : length values ≡ m + (length values - n) = omega (arith, in-text (j .derived-text), j .roomy .for-values, roles-all (j .derived-text)) in
+      let m = length (rolesText (j .judged .derived-text .derivation)) in
+      let e : length values ≡ m + (length values - n) = omega (arith, j .roomy .for-values, roles-all (j .judged .derived-text)) in
       ap (λ m. replicate {A = ℕ} m 0) e
-      ∙ sym (replicate-append-replicate (length (rolesText (j .derived-text .derivation))) (length values - n) 0)
+      ∙ sym (replicate-append-replicate (length (rolesText (j .judged .derived-text .derivation))) (length values - n) 0)
 
   pub declaration-passed :
-      {values′ firsts′ links′ heads′ : List ℕ} {r : ℕ}
+      {chain′ values′ firsts′ links′ heads′ : List ℕ} {f : Firsts} {r : ℕ}
+      → length chain′ ≡ length chain
+      → ChainsAre roles n chain′ f
       → Declarations text roles offsets values n values′ r
       → n ≤ r
       → length values′ ≡ length values
       → length firsts′ ≡ length firsts
       → length links′ ≡ length links
       → length heads′ ≡ length heads
-      → DeclaredText text roles offsets n start values′ firsts′ links′ heads′ file
-  declaration-passed {values′} {firsts′} {links′} {heads′} {r} a h p q s t =
-      let d = j .derived-text .derivation in
-      let x = sym (derives (j .derived-text)) in
-      let y = roles-taken (j .derived-text) in
-      let z = offsets-taken (j .derived-text) in
+      → DeclaredText text roles offsets n start chain′ f values′ firsts′ links′ heads′ file
+  declaration-passed {chain′} {values′} {firsts′} {links′} {heads′} {f} {r} b linked a h p q s t =
+      let d = j .judged .derived-text .derivation in
+      let x = sym (derives (j .judged .derived-text)) in
+      let y = roles-taken (j .judged .derived-text) in
+      let z = offsets-taken (j .judged .derived-text) in
       let e : r ≡ n = omega (arith, h, a .within) in
       let names = names-derived text roles offsets n d x y z Declared in
       record {
-        derived-text = j .derived-text;
-        roomy = roomy-still p q s t (j .roomy);
+        judged = j .judged;
+        roomy = roomy-still b p q s t (j .roomy);
+        linked = linked;
         typed =
             record {
               rest = replicate (length values - n) 0;
@@ -122,17 +122,17 @@ module _ {text roles offsets : List ℕ} {n start : ℕ} {values firsts links he
       }
 
 -- 36.
-module _ {text roles offsets : List ℕ} {n start : ℕ} {values firsts links heads file : List ℕ} (j : DeclaredText text roles offsets n start values firsts links heads file) where
+module _ {text roles offsets : List ℕ} {n start : ℕ} {chain : List ℕ} {f : Firsts} {values firsts links heads file : List ℕ} (j : DeclaredText text roles offsets n start chain f values firsts links heads file) where
   counted :
       {c : Counted}
       → ((ls : List Lexeme) → IntegersSpelt text roles offsets n ls → CountedAs n (markedBy (take n roles) ls) c)
-      → CountedAs n (markedText (j .derived-text .derivation)) c
-  counted {c} f =
-      let k = j .derived-text in
+      → CountedAs n (markedText (j .judged .derived-text .derivation)) c
+  counted {c} g =
+      let k = j .judged .derived-text in
       let d = k .derivation in
       let s = spelt-text text d roles offsets (k .others) (k .more) (derives k) (k .roles-are) (k .offsets-are) in
       let m : markedBy (take n roles) (spelledText d) ≡ markedText d = ap (λ rs. markedBy rs (spelledText d)) (roles-taken k) in
-      rw m at (f (spelledText d) (rw (k .all-tokens) s))
+      rw m at (g (spelledText d) (rw (k .all-tokens) s))
 
   pub limit-refused :
       {c : Counted} (reply : Read)
@@ -142,18 +142,18 @@ module _ {text roles offsets : List ℕ} {n start : ℕ} {values firsts links he
       → place ≡ getD offsets (c .fault) 0
       → reply ≡ record { number = NO-ROOM; length = 0; place = place }
       → ReadAs reply file (readOf text file)
-  limit-refused {c} reply f h place q e =
-      let d = j .derived-text .derivation in
+  limit-refused {c} reply g h place q e =
+      let d = j .judged .derived-text .derivation in
       refusal-as NO-ROOM place file reply (readOf text file) e
-      (read-beyond text file (j .roomy .short) (j .roomy .whole) d (j .derived-text .is-derived) (j .typed .no-fault) (c .fault) (counted f .faulty h)
-      ∙ ap (λ p. record { number = NO-ROOM; place = p; length = 0; buffer = file }) (offset-place (j .derived-text) (c .fault) h ∙ sym q))
+      (read-beyond text file (j .judged .short) (j .judged .whole) d (j .judged .derived-text .is-derived) (j .typed .no-fault) (c .fault) (counted g .faulty h)
+      ∙ ap (λ p. record { number = NO-ROOM; place = p; length = 0; buffer = file }) (offset-place (j .judged .derived-text) (c .fault) h ∙ sym q))
 
   numbers-all :
       sortNumbered (roleTest Variables) text roles offsets n
       (sortNumbered (roleTest Fields) text roles offsets n (sortNumbered (roleTest Methods) text roles offsets n values))
-      ≡ map (λ e. e .value) (itemsText (numberingOf (j .derived-text .derivation)) (j .derived-text .derivation)) ++ j .typed .rest
+      ≡ map (λ e. e .value) (itemsText (numberingOf (j .judged .derived-text .derivation)) (j .judged .derived-text .derivation)) ++ j .typed .rest
   numbers-all =
-      let k = j .derived-text in
+      let k = j .judged .derived-text in
       let d = k .derivation in
       let x = sym (derives k) in
       let y = roles-taken k in
@@ -174,24 +174,24 @@ module _ {text roles offsets : List ℕ} {n start : ℕ} {values firsts links he
       ∙ ap (λ es. map (λ e. e .value) es ++ j .typed .rest) (text-by (numberingOf d) d))
 
   pub limits-passed :
-      {c : Counted} {values′ : List ℕ}
+      {c : Counted} {index values′ : List ℕ}
       → ((ls : List Lexeme) → IntegersSpelt text roles offsets n ls → CountedAs n (markedBy (take n roles) ls) c)
+      → (c .fault ≡ n → IndexIs (take n roles) index)
       → n ≤ c .fault
       → values′
       ≡ sortNumbered (roleTest Variables) text roles offsets n
       (sortNumbered (roleTest Fields) text roles offsets n (sortNumbered (roleTest Methods) text roles offsets n values))
-      → NumberedText text roles offsets values′ n start c file
-  limits-passed {c} {values′} f h v =
-      let d = j .derived-text .derivation in
-      let a = counted f in
+      → NumberedText text roles offsets values′ index n start c file
+  limits-passed {c} {index} {values′} g i h v =
+      let d = j .judged .derived-text .derivation in
+      let a = counted g in
       let e : c .fault ≡ n = omega (arith, h, a .among) in
       record {
-        derived-text = j .derived-text;
-        short = j .roomy .short;
-        whole = j .roomy .whole;
+        judged = j .judged;
         no-fault = j .typed .no-fault;
         no-limit = a .faultless e;
         counts-are = counted-text d n c a e .1;
+        indexed = i e;
         rest = j .typed .rest;
         values-are = v ∙ numbers-all;
       }

@@ -6,16 +6,15 @@ use mathlib.Core.List.{List, [], _∷_, _++_, map, append-nil}
 use mathlib.Core.Logic.{⊎-elim}
 use mathlib.Core.Option.{none, some}
 use native.Mathlib.Omega.{arith}
-use lib.Dec.{eqb}
 use lib.ListN.{length}
 use lib.Seq.{append-snoc}
 use borrow.Author.Tests.{ne-eqb}
 use Rattle.script.specs.Asking.{Decides, holds, fails}
 use Rattle.script.proofs.Tests.{true-false}
 use Rattle.script.proofs.Lists.{lt-or-le}
-use Rattle.grammar.specs.Grammar.{X, T, t-unit, t-int, t-name, E, e-null, e-variable, e-select, e-update, e-call, e-let, e-new, e-cast}
+use Rattle.grammar.specs.Grammar.{T, t-unit, t-int, t-name, E, e-null, e-variable, e-select, e-update, e-call, e-let, e-new, e-cast}
 use Rattle.grammar.specs.Grammar.{e-fork, e-lock, e-digits, e-minus, e-sum, e-sum-in, Msig, Id, id-list, id-join, Fd, Md, Cd, Derivation}
-use Rattle.grammar.specs.Roles.{PLAIN, R-DECLARED, R-SIGNATURE, R-METHOD-NAME, R-OPERAND, R-VARIABLE, R-SELECT, R-UPDATE, R-CALL, R-SUM, BINDING, Scope, under, bindingBy, bound, typeRole}
+use Rattle.grammar.specs.Roles.{PLAIN, R-DECLARED, R-SIGNATURE, R-METHOD-NAME, R-OPERAND, R-VARIABLE, R-SELECT, R-UPDATE, R-CALL, R-SUM, BINDING, Scope, under, bindingBy, typeRole}
 use Rattle.grammar.specs.Roles.{roles, rolesMsig, rolesAll, rolesId, rolesFd, rolesMd, rolesCd, rolesBefore, rolesText}
 use Rattle.grammar.specs.Tokens.{Spelling, Lexeme}
 use Rattle.grammar.specs.Grammar.{spelledText}

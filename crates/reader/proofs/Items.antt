@@ -1,22 +1,20 @@
 -- What the writer is handed is what it must be, and what it writes is the derivation's file.
-use Prim.Native.Nat.{ℕ, zero, suc, _+_, _-_, _<_, _≤_}
+use Prim.Native.Nat.{ℕ, zero, suc, _+_, _-_, _≤_}
 use mathlib.Core.Path.{_≡_, refl, sym, ap, _∙_}
 use mathlib.Core.Bool.{Bool, true, false, cond}
-use mathlib.Core.List.{List, [], _∷_, _++_, map}
-use mathlib.Core.Option.{none}
+use mathlib.Core.List.{List, [], _∷_, map}
 use native.Mathlib.Omega.{arith}
 use lib.Dec.{eqb}
-use lib.ListN.{length, getD, take, drop, replicate, length-append, length-map}
+use lib.ListN.{length, getD, drop, length-map}
 use Rattle.script.specs.declared.Section.{Section}
-use Rattle.script.specs.Lists.{Every}
-use Rattle.grammar.specs.Tokens.{Spelling, Lexeme, decimal, Token, tokensOf}
+use Rattle.grammar.specs.Tokens.{Spelling, Lexeme, decimal, tokensOf}
 use Rattle.grammar.specs.Grammar.{Derivation, spelledText}
-use Rattle.grammar.specs.Roles.{R-TYPE, rolesText, rolesBefore}
+use Rattle.grammar.specs.Roles.{R-TYPE, rolesText}
 use Rattle.grammar.specs.Files.{Numbering, numberingOf, spellingOf, keptIf, rankIn, distinct, namesWith, methodRole, fieldRole, otherRole, declaredRole}
-use Rattle.grammar.specs.Faults.{markedBy, markedText, beginsTest, oneMoreIf, begunIn}
+use Rattle.grammar.specs.Faults.{markedBy, beginsTest, oneMoreIf, begunIn}
 use Rattle.tokens.specs.Runs.{digitsFrom, capped}
-use Rattle.rows.specs.Rows.{Item, oneMore}
-use Rattle.rows.specs.Items.{item, itemsText}
+use Rattle.rows.specs.Rows.{oneMore}
+use Rattle.rows.specs.Items.{itemsText}
 use Rattle.rows.specs.Zipped.{valueBy, amountBy, itemsBy}
 use Rattle.rows.proofs.Zipped.{text-by}
 use Rattle.row_words.specs.Items.{amountAt, itemsOf}

@@ -12,15 +12,15 @@ use Rattle.limits.specs.Limits.{FILE, TEXT}
 use Rattle.script.specs.Lists.{Every}
 use Rattle.grammar.specs.Tokens.{Token, tokensOf}
 use Rattle.grammar.specs.Parse.{Verdict, refused-at, derived, parsed}
-use Rattle.grammar.specs.Read.{NO-GRAMMAR, NO-ROOM, textRefused, tokenPlace, readOf}
+use Rattle.grammar.specs.Read.{NO-GRAMMAR, NO-ROOM, textRefused, readOf}
 use Rattle.grammar.proofs.Splitting.{splits}
 use Rattle.bounds.proofs.Text.{begins-within}
 use Rattle.tokens.specs.Runs.{HASHES}
 use Rattle.judge.specs.declared.Judged.{Judged}
-use Rattle.judge.specs.Judging.{lexemesOf, offsetsOf, JudgedAs, JudgedText, Room}
+use Rattle.judge.specs.Judging.{lexemesOf, JudgedAs, JudgedText}
 use Rattle.reader.specs.declared.Read.{Read}
 use Rattle.reader.specs.Reading.{ReadAs, Lent, zeros}
-use Rattle.reader.specs.Derived.{JudgedDerived}
+use Rattle.reader.specs.Derived.{DerivedText, JudgedDerived}
 use Rattle.reader.proofs.Laws.{place-at, read-lengths, read-stuck}
 use Rattle.reader.proofs.PassLaws.{refusal-as}
 
@@ -54,10 +54,7 @@ pub judged-place :
     → j .place ≤ length text
 judged-place text roles offsets roles′ offsets′ j a h = place-by text roles offsets roles′ offsets′ j (parsed (lexemesOf text)) a h
 
-module _ {text roles offsets closers values firsts links heads file : List ℕ} (l : Lent text roles offsets closers values firsts links heads file) where
-  pub room-lent : Room text roles offsets closers
-  room-lent = record { short = l .short; for-roles = l .for-roles; for-offsets = l .for-offsets; for-closers = l .for-closers }
-
+module _ {text roles offsets closers file : List ℕ} (l : Lent text roles offsets closers file) where
   refused-by :
       (roles′ offsets′ : List ℕ) (j : Judged) (reply : Read) (v : Verdict)
       → parsed (lexemesOf text) ≡ v
@@ -84,7 +81,7 @@ module _ {text roles offsets closers values firsts links heads file : List ℕ} 
       → parsed (lexemesOf text) ≡ v
       → JudgedAs text roles offsets j roles′ offsets′ v
       → j .ok ≡ true
-      → JudgedDerived text roles′ offsets′ (j .tokens) (j .start) values firsts links heads file
+      → DerivedText text roles′ offsets′ (j .tokens) (j .start) file
   passed-by roles′ offsets′ j (refused-at k) e a h = absurd (true-false (sym h ∙ a .no))
   passed-by roles′ offsets′ j (derived d) e a h =
       record {
@@ -99,24 +96,15 @@ module _ {text roles offsets closers values firsts links heads file : List ℕ} 
               roles-are = a .roles-are;
               offsets-are = a .offsets-are;
             };
-        roomy =
-            record {
-              short = l .short;
-              whole = l .whole;
-              for-values = l .for-values;
-              for-firsts = l .for-firsts;
-              for-links = l .for-links;
-              for-heads = ap length (l .no-heads) ∙ length-replicate {A = ℕ} HASHES 0;
-            };
-        no-values = l .no-values;
-        no-heads = l .no-heads;
+        short = l .short;
+        whole = l .whole;
       }
 
   pub judged-passed :
       (roles′ offsets′ : List ℕ) (j : Judged)
       → JudgedText text roles offsets j roles′ offsets′
       → j .ok ≡ true
-      → JudgedDerived text roles′ offsets′ (j .tokens) (j .start) values firsts links heads file
+      → DerivedText text roles′ offsets′ (j .tokens) (j .start) file
   judged-passed roles′ offsets′ j a h = passed-by roles′ offsets′ j (parsed (lexemesOf text)) refl a h
 
 -- Arrays of zeros.
@@ -128,30 +116,29 @@ zeros-are : (n : ℕ) → _≡_ {A = List ℕ} (zeros n) (replicate n 0)
 unfolding zeros
 zeros-are n = refl
 
-pub lent-zeros :
-    {text roles offsets closers values firsts links heads file : List ℕ} (n : ℕ)
-    → length text ≤ n
-    → length text ≤ TEXT
-    → length file ≡ FILE
-    → roles ≡ zeros n
-    → offsets ≡ zeros n
-    → closers ≡ zeros n
-    → values ≡ zeros n
-    → firsts ≡ zeros n
-    → links ≡ zeros n
+-- Arrays of zeros with room for all tokens.
+pub roomy-zeros :
+    {text roles offsets chain values firsts links heads file : List ℕ} {n start : ℕ} (m : ℕ)
+    → n ≤ m
+    → DerivedText text roles offsets n start file
+    → chain ≡ zeros m
+    → values ≡ zeros m
+    → firsts ≡ zeros m
+    → links ≡ zeros m
     → heads ≡ zeros HASHES
-    → Lent text roles offsets closers values firsts links heads file
-lent-zeros n h short whole r o c v f l e =
+    → JudgedDerived text roles offsets n start chain values firsts links heads file
+roomy-zeros m h j c v f l e =
     record {
-      short = short;
-      whole = whole;
-      for-roles = omega (arith, h, ap length r, zeros-long n);
-      for-offsets = omega (arith, h, ap length o, zeros-long n);
-      for-closers = omega (arith, h, ap length c, zeros-long n);
-      for-values = omega (arith, h, ap length v, zeros-long n);
-      for-firsts = omega (arith, h, ap length f, zeros-long n);
-      for-links = omega (arith, h, ap length l, zeros-long n);
-      no-values = v ∙ zeros-are n ∙ ap (λ m. replicate {A = ℕ} m 0) (sym (ap length v ∙ zeros-long n));
+      judged = j;
+      roomy =
+          record {
+            for-chain = omega (arith, h, ap length c, zeros-long m);
+            for-values = omega (arith, h, ap length v, zeros-long m);
+            for-firsts = omega (arith, h, ap length f, zeros-long m);
+            for-links = omega (arith, h, ap length l, zeros-long m);
+            for-heads = ap length e ∙ zeros-long HASHES;
+          };
+      no-values = v ∙ zeros-are m ∙ ap (λ k. replicate {A = ℕ} k 0) (sym (ap length v ∙ zeros-long m));
       no-heads = e ∙ zeros-are HASHES;
     }
 

@@ -1,20 +1,19 @@
 -- What each pass finds is what Read answers.
-use Prim.Native.Nat.{ℕ, zero, suc, _+_, _-_, _≤_, _<_}
-use mathlib.Core.Path.{_≡_, refl, sym, ap, _∙_}
-use mathlib.Core.Bool.{Bool, true, false, _&&_}
-use mathlib.Core.List.{List, [], _∷_, _++_, map}
-use mathlib.Core.Option.{Option, none, some}
+use Prim.Native.Nat.{ℕ, zero, suc, _-_, _≤_, _<_}
+use mathlib.Core.Path.{_≡_, refl, ap, _∙_}
+use mathlib.Core.Bool.{false, _&&_}
+use mathlib.Core.List.{List, [], _∷_, map}
+use mathlib.Core.Option.{none, some}
 use native.Mathlib.Omega.{arith}
-use lib.Dec.{eqb, leb, ltb}
-use lib.ListN.{length, getD, replicate}
+use lib.Dec.{eqb, leb}
+use lib.ListN.{length, getD}
 use borrow.Author.Tests.{eq-eqb, le-leb}
 use Rattle.limits.specs.Limits.{FILE, TEXT}
 use Rattle.grammar.specs.Tokens.{Token, tokensOf}
 use Rattle.grammar.specs.Grammar.{Derivation}
-use Rattle.grammar.specs.Parse.{Verdict, refused-at, derived, parsed}
-use Rattle.grammar.specs.Files.{fileText}
+use Rattle.grammar.specs.Parse.{refused-at, derived, parsed}
 use Rattle.grammar.specs.Faults.{markedText, declarationFault, limitFault}
-use Rattle.grammar.specs.Read.{TextRead, NO-GRAMMAR, NO-DECLARATION, NO-ROOM, textRefused, fileRead, tokenPlace, askedLimits, askedDeclarations, askedGrammar, askedLengths, readOf}
+use Rattle.grammar.specs.Read.{NO-GRAMMAR, NO-DECLARATION, NO-ROOM, textRefused, fileRead, tokenPlace, askedLimits, askedDeclarations, askedGrammar, readOf}
 
 -- A token's place is its offset.
 pub place-at : (text : List ℕ) (ts : List Token) (i : ℕ) → tokenPlace text ts i ≡ getD (map (λ t. t .offset) ts) i (length text)

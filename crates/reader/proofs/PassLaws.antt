@@ -1,40 +1,27 @@
 -- What each pass needs of the one before, and what its answer comes to.
-use Prim.Native.Nat.{ℕ, zero, suc, _+_, _-_, _<_, _≤_}
+use Prim.Native.Nat.{ℕ, _-_, _<_, _≤_}
 use mathlib.Core.Path.{_≡_, refl, sym, ap, _∙_}
-use mathlib.Core.Bool.{Bool, true, false}
-use mathlib.Core.List.{List, [], _∷_, _++_, map}
-use mathlib.Core.Option.{Option, none, some}
+use mathlib.Core.List.{List, map}
+use mathlib.Core.Option.{none}
 use native.Mathlib.Omega.{arith}
-use lib.Dec.{ltb}
-use lib.ListN.{length, getD, take, drop, replicate, length-append, length-map, length-replicate, List·getD-append}
+use lib.ListN.{length, getD, take, length-append, length-map, List·getD-append}
 use lib.Seq.{take-at}
-use borrow.Author.Tests.{lt-ltb, le-ltb}
-use Rattle.limits.specs.Limits.{FILE, TEXT}
-use Rattle.words.specs.Word.{WORD}
-use Rattle.script.specs.Lists.{Every}
-use Rattle.script.specs.declared.Section.{Section}
+use Rattle.limits.specs.Limits.{TEXT}
 use Rattle.grammar.specs.Tokens.{Spelling, Lexeme, Token, Spells, spells-word, spells-digits, spells-sign, Splits, splits-end, splits-blank, splits-token, tokensOf}
 use Rattle.grammar.specs.Grammar.{Derivation, spelledText}
-use Rattle.grammar.specs.Parse.{Verdict, refused-at, derived, parsed}
 use Rattle.grammar.specs.Roles.{roles as exprRoles, rolesText, rolesBefore}
-use Rattle.grammar.specs.Files.{numberingOf, declaredRole, fileText}
-use Rattle.grammar.specs.Faults.{markedText, declarationFault, limitFault}
-use Rattle.grammar.specs.Read.{TextRead, textRefused, fileRead, tokenPlace, readOf}
+use Rattle.grammar.specs.Read.{TextRead, textRefused, tokenPlace}
 use Rattle.grammar.proofs.Splitting.{splits}
 use Rattle.grammar.proofs.Written.{splits-written}
 use Rattle.grammar.proofs.Place.{parsed-derived}
-use Rattle.tokens.specs.Runs.{HASHES}
-use Rattle.numbering.specs.Numbers.{Tokens, namesAt, numbered, namesTo}
-use Rattle.declarations.specs.Declaring.{typeNamed, foundOf, someIf, Declarations}
-use Rattle.declarations.proofs.Derived.{names-derived, numbered-derived, types-derived, fault-derived}
-use Rattle.bounds.proofs.Text.{placed-text, spelt-text, marked-text, counted-text}
-use Rattle.bounds.specs.Counting.{Placed, IntegersSpelt, CountedAs}
-use Rattle.bounds.specs.declared.Counted.{Counted}
+use Rattle.numbering.specs.Numbers.{Tokens}
+use Rattle.bounds.proofs.Text.{placed-text}
+use Rattle.bounds.specs.Counting.{Placed}
 use Rattle.capacity.proofs.Roles.{text-spelled}
 use Rattle.reader.specs.declared.Read.{Read}
 use Rattle.reader.specs.Reading.{ReadAs}
-use Rattle.reader.specs.Derived.{Derived, Roomy, Typed, JudgedDerived, DeclaredText, NumberedText}
-use Rattle.reader.proofs.Laws.{place-within, read-undeclared, read-beyond, read-whole}
+use Rattle.reader.specs.Derived.{Derived, Roomy}
+use Rattle.reader.proofs.Laws.{place-within}
 
 -- A token has a byte or more.
 spelling-some : {l : Lexeme} {w : Spelling} → Spells l w → 0 < length w
@@ -82,17 +69,18 @@ module _ {text roles offsets : List ℕ} {n start : ℕ} (k : Derived text roles
   placed = rw (k .all-tokens) (placed-text text (k .derivation) roles offsets (k .others) (k .more) derives (k .roles-are) (k .offsets-are))
 
   pub tokens-there :
-      (values firsts links heads file : List ℕ)
-      → Roomy text file values firsts links heads
+      (chain values firsts links heads : List ℕ)
+      → length text ≤ TEXT
+      → Roomy n chain values firsts links heads
       → Tokens text roles offsets values firsts links n
-  tokens-there values firsts links heads file h =
+  tokens-there chain values firsts links heads short h =
       record {
-        few = omega (arith, in-text, h .short);
+        few = omega (arith, in-text);
         in-roles = in-roles;
         in-offsets = in-offsets;
-        in-values = omega (arith, in-text, h .for-values);
-        in-firsts = omega (arith, in-text, h .for-firsts);
-        in-links = omega (arith, in-text, h .for-links);
+        in-values = h .for-values;
+        in-firsts = h .for-firsts;
+        in-links = h .for-links;
         inside = placed .within;
       }
 

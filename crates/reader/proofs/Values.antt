@@ -1,15 +1,14 @@
 -- The values that the passes leave are the numbers of the derivation's items.
-use Prim.Native.Nat.{ℕ, _≤_, _<_}
-use mathlib.Core.Path.{_≡_, refl, sym, ap, _∙_}
+use Prim.Native.Nat.{ℕ}
+use mathlib.Core.Path.{_≡_, refl, ap, _∙_}
 use mathlib.Core.Bool.{Bool, true, false, cond}
 use mathlib.Core.List.{List, [], _∷_, _++_, map}
 use native.Mathlib.Omega.{arith}
 use lib.Dec.{eqb}
 use lib.ListN.{length, replicate}
-use Rattle.grammar.specs.Tokens.{Spelling, Lexeme}
-use Rattle.grammar.specs.Files.{Numbering, numberingOf, spellingOf, rankIn, distinct, namesWith, namesOf, methodRole, fieldRole, otherRole, declaredRole}
+use Rattle.grammar.specs.Tokens.{Lexeme}
+use Rattle.grammar.specs.Files.{Numbering, spellingOf, rankIn, methodRole, fieldRole, otherRole, declaredRole}
 use Rattle.grammar.specs.Roles.{R-TYPE}
-use Rattle.rows.specs.Rows.{Item}
 use Rattle.rows.specs.Zipped.{valueBy, itemsBy}
 use Rattle.numbering.specs.declared.Sort.the-variants.{Methods, Fields, Variables}
 use Rattle.numbering.specs.Numbers.{roleTest, numbered, chosenNumber}

@@ -1,31 +1,28 @@
 -- What the writer is handed is writable, and what it writes is what Read answers.
 use Prim.Native.Nat.{ℕ, _+_, _-_, _<_, _≤_}
 use mathlib.Core.Path.{_≡_, refl, sym, ap, _∙_}
-use mathlib.Core.List.{List, [], _∷_, _++_, map}
+use mathlib.Core.List.{List, _++_, map}
 use mathlib.Core.Logic.{⊎-elim}
-use mathlib.Core.Option.{none}
 use native.Mathlib.Omega.{arith}
 use lib.ListN.{length, getD, take, replicate, length-append, length-map, List·getD-append, List·getD-eq-default}
 use lib.Seq.{take-at}
-use Rattle.limits.specs.Limits.{FILE, TEXT}
-use Rattle.words.specs.Word.{WORD, bytes}
+use Rattle.limits.specs.Limits.{FILE}
+use Rattle.words.specs.Word.{bytes}
 use Rattle.script.specs.declared.Section.{Section}
 use Rattle.script.specs.declared.Section.the-variants.{Interfaces as interfaces, Signatures as signatures, Classes as classes}
 use Rattle.script.specs.declared.Section.the-variants.{Fields as fields, Methods as methods, Nodes as nodes}
 use Rattle.script.proofs.Lists.{lt-or-le}
 use Rattle.grammar.specs.Tokens.{tokensOf}
-use Rattle.grammar.specs.Grammar.{Derivation, spelledText}
-use Rattle.grammar.specs.Roles.{roles, rolesText, rolesBefore}
+use Rattle.grammar.specs.Grammar.{spelledText}
+use Rattle.grammar.specs.Roles.{roles, rolesText}
 use Rattle.grammar.specs.Files.{numberingOf, fileText}
-use Rattle.grammar.specs.Read.{TextRead, fileRead, readOf}
+use Rattle.grammar.specs.Read.{readOf}
 use Rattle.capacity.specs.Extent.{recordsOf, WithinLimits}
 use Rattle.capacity.proofs.Roles.{text-spelled}
 use Rattle.capacity.proofs.Begun.{begun-records}
 use Rattle.capacity.proofs.Within.{within-limits}
 use Rattle.capacity.proofs.Few.{tokens-few}
-use Rattle.rows.specs.Rows.{sectionsWords, contentsWords}
-use Rattle.rows.specs.Items.{itemsText, itemsBefore}
-use Rattle.rows.specs.Zipped.{itemsBy}
+use Rattle.rows.specs.Items.{itemsText}
 use Rattle.rows.proofs.Whole.{file-words}
 use Rattle.rows.proofs.Zipped.{text-by, before-length, items-length}
 use Rattle.row_words.specs.Items.{itemsOf}
@@ -36,11 +33,11 @@ use Rattle.writer.specs.Records.{begunAmong}
 use Rattle.writer.specs.Counted.{countIn, Writable, contentsOf, fileWords, FileIs}
 use Rattle.reader.specs.declared.Read.{Read}
 use Rattle.reader.specs.Reading.{ReadAs}
-use Rattle.reader.specs.Derived.{Derived, NumberedText}
+use Rattle.reader.specs.Derived.{NumberedText}
 use Rattle.reader.proofs.Laws.{read-whole}
 use Rattle.reader.proofs.DeclaredCount.{types-counted}
 use Rattle.reader.proofs.Items.{begun-roles, items-derived, values-small}
-use Rattle.reader.proofs.PassLaws.{derives, roles-all, offsets-all, roles-taken, offsets-taken, in-roles, in-offsets, in-text, placed, before-first}
+use Rattle.reader.proofs.PassLaws.{derives, roles-all, offsets-all, roles-taken, offsets-taken, in-text, placed, before-first}
 
 -- The six counts, one by one.
 pub counts-same :
@@ -56,31 +53,31 @@ counts-same c fields = refl
 counts-same c methods = refl
 counts-same c nodes = refl
 
-module _ {text roles offsets values : List ℕ} {n start : ℕ} {c : Counted} {file : List ℕ} (j : NumberedText text roles offsets values n start c file) where
-  limited : WithinLimits (j .derived-text .derivation)
-  limited = within-limits (j .derived-text .derivation) (j .no-limit)
+module _ {text roles offsets values index : List ℕ} {n start : ℕ} {c : Counted} {file : List ℕ} (j : NumberedText text roles offsets values index n start c file) where
+  limited : WithinLimits (j .judged .derived-text .derivation)
+  limited = within-limits (j .judged .derived-text .derivation) (j .no-limit)
 
-  values-all : length (map (λ e. e .value) (itemsText (numberingOf (j .derived-text .derivation)) (j .derived-text .derivation))) ≡ n
+  values-all : length (map (λ e. e .value) (itemsText (numberingOf (j .judged .derived-text .derivation)) (j .judged .derived-text .derivation))) ≡ n
   values-all =
-      let d = j .derived-text .derivation in
+      let d = j .judged .derived-text .derivation in
       length-map (itemsText (numberingOf d) d) (λ e. e .value)
       ∙ ap length (sym (text-by (numberingOf d) d))
       ∙ items-length (numberingOf d) (rolesText d) (spelledText d) (text-spelled d)
-      ∙ roles-all (j .derived-text)
+      ∙ roles-all (j .judged .derived-text)
 
-  values-taken : take n values ≡ map (λ e. e .value) (itemsText (numberingOf (j .derived-text .derivation)) (j .derived-text .derivation))
+  values-taken : take n values ≡ map (λ e. e .value) (itemsText (numberingOf (j .judged .derived-text .derivation)) (j .judged .derived-text .derivation))
   values-taken =
-      let d = j .derived-text .derivation in
+      let d = j .judged .derived-text .derivation in
       ap (take n) (j .values-are) ∙ take-at (map (λ e. e .value) (itemsText (numberingOf d) d)) (j .rest) n values-all
 
   pub in-values : n ≤ length values
   in-values =
-      let d = j .derived-text .derivation in
+      let d = j .judged .derived-text .derivation in
       omega (arith, ap length (j .values-are), length-append (map (λ e. e .value) (itemsText (numberingOf d) d)) (j .rest), values-all)
 
   offsets-within : (i : ℕ) → getD (take n offsets) i 0 ≤ length text
   offsets-within i =
-      let k = j .derived-text in
+      let k = j .judged .derived-text in
       let os = map (λ t. t .offset) (tokensOf text) in
       rw (offsets-taken k)
       (⊎-elim
@@ -91,7 +88,7 @@ module _ {text roles offsets values : List ℕ} {n start : ℕ} {c : Counted} {f
 
   pub writable : {c′ : Counts} → ((s : Section) → countIn c′ s ≡ countedOf c s) → Writable text (take n roles) (take n offsets) (take n values) start c′
   writable {c′} e =
-      let k = j .derived-text in
+      let k = j .judged .derived-text in
       let d = k .derivation in
       let all : length (take n roles) ≡ n = ap length (roles-taken k) ∙ roles-all k in
       record {
@@ -99,7 +96,7 @@ module _ {text roles offsets values : List ℕ} {n start : ℕ} {c : Counted} {f
             record {
               small = record { fits = λ i. rw values-taken (omega (arith, values-small text d (derives k) i, tokens-few d limited)) };
               within-text = record { within = offsets-within };
-              few-tokens = omega (arith, all, in-text k, j .short);
+              few-tokens = omega (arith, all, in-text k, j .judged .short);
               starts = rw (roles-taken k) (before-first k);
               offset-each = ap length (offsets-taken k) ∙ offsets-all k ∙ sym all;
               value-each = ap length values-taken ∙ values-all ∙ sym all;
@@ -118,10 +115,10 @@ module _ {text roles offsets values : List ℕ} {n start : ℕ} {c : Counted} {f
       }
 
   -- The words are the file's.
-  words-are : {c′ : Counts} → ((s : Section) → countIn c′ s ≡ countedOf c s) → bytes (fileWords c′ start (itemsOf text (take n roles) (take n offsets) (take n values))) ≡ fileText (j .derived-text .derivation)
+  words-are : {c′ : Counts} → ((s : Section) → countIn c′ s ≡ countedOf c s) → bytes (fileWords c′ start (itemsOf text (take n roles) (take n offsets) (take n values))) ≡ fileText (j .judged .derived-text .derivation)
   unfolding contentsOf
   words-are {c′} e =
-      let k = j .derived-text in
+      let k = j .judged .derived-text in
       let d = k .derivation in
       let es = itemsText (numberingOf d) d in
       let count : (s : Section) → countIn c′ s ≡ recordsOf s d = λ s. e s ∙ j .counts-are s in
@@ -155,10 +152,10 @@ module _ {text roles offsets values : List ℕ} {n start : ℕ} {c : Counted} {f
       → reply ≡ record { number = 0; length = r; place = 0 }
       → ReadAs reply file′ (readOf text file)
   file-read {c′} {r} {file′} reply e f h =
-      let d = j .derived-text .derivation in
+      let d = j .judged .derived-text .derivation in
       let w = words-are e in
       let n′ : r ≡ length (fileText d) = f .length-is ∙ ap length w in
-      rw (h, read-whole text file (j .short) (j .whole) d (j .derived-text .is-derived) (j .no-fault) (j .no-limit))
+      rw (h, read-whole text file (j .judged .short) (j .judged .whole) d (j .judged .derived-text .is-derived) (j .no-fault) (j .no-limit))
       (record {
         number-is = refl;
         length-is = n′;

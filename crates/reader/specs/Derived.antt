@@ -3,7 +3,7 @@ use Prim.Native.Nat.{ℕ, _≤_}
 use mathlib.Core.Path.{_≡_}
 use mathlib.Core.List.{List, _++_, map}
 use mathlib.Core.Option.{none}
-use lib.ListN.{length, replicate}
+use lib.ListN.{length, replicate, take}
 use Rattle.limits.specs.Limits.{TEXT, FILE}
 use Rattle.grammar.specs.Tokens.{tokensOf}
 use Rattle.grammar.specs.Grammar.{Derivation, spelledText}
@@ -16,7 +16,10 @@ use Rattle.capacity.specs.Extent.{recordsOf}
 use Rattle.rows.specs.Items.{itemsText}
 use Rattle.bounds.specs.declared.Counted.{Counted}
 use Rattle.bounds.specs.Counting.{countedOf}
+use Rattle.bounds.specs.Places.{IndexIs}
 use Rattle.tokens.specs.Runs.{HASHES}
+use Rattle.numbering.specs.declared.Firsts.{Firsts}
+use Rattle.numbering.specs.Chains.{ChainsAre}
 use Rattle.numbering.specs.Numbers.{numbered}
 use Rattle.declarations.specs.Declaring.{typeNamed}
 
@@ -31,13 +34,18 @@ pub record Derived (text roles offsets : List ℕ) (n start : ℕ) : Type 0 wher
   pub roles-are : roles ≡ rolesText derivation ++ others
   pub offsets-are : offsets ≡ map (λ t. t .offset) (tokensOf text) ++ more
 
--- A text and a buffer in length, and arrays with room for all tokens.
-pub record Roomy (text file values firsts links heads : List ℕ) : Type 0 where
+-- It is of a text and for a buffer in length.
+pub record DerivedText (text roles offsets : List ℕ) (n start : ℕ) (file : List ℕ) : Type 0 where
+  pub derived-text : Derived text roles offsets n start
   pub short : length text ≤ TEXT
   pub whole : length file ≡ FILE
-  pub for-values : length text ≤ length values
-  pub for-firsts : length text ≤ length firsts
-  pub for-links : length text ≤ length links
+
+-- Arrays with room for all tokens.
+pub record Roomy (n : ℕ) (chain values firsts links heads : List ℕ) : Type 0 where
+  pub for-chain : n ≤ length chain
+  pub for-values : n ≤ length values
+  pub for-firsts : n ≤ length firsts
+  pub for-links : n ≤ length links
   pub for-heads : length heads ≡ HASHES
 
 -- The names of types have their numbers, and no other token has one.
@@ -50,26 +58,26 @@ pub record Typed (d : Derivation) (values : List ℕ) : Type 0 where
       (numbered declaredRole (numberingOf d .type-names) (rolesText d) (spelledText d) (replicate (length (rolesText d)) 0 ++ rest))
 
 -- Before the names of types are asked: no token has a number yet, and the table is empty.
-pub record JudgedDerived (text roles offsets : List ℕ) (n start : ℕ) (values firsts links heads file : List ℕ) : Type 0 where
-  pub derived-text : Derived text roles offsets n start
-  pub roomy : Roomy text file values firsts links heads
+pub record JudgedDerived (text roles offsets : List ℕ) (n start : ℕ) (chain values firsts links heads file : List ℕ) : Type 0 where
+  pub judged : DerivedText text roles offsets n start file
+  pub roomy : Roomy n chain values firsts links heads
   pub no-values : values ≡ replicate (length values) 0
   pub no-heads : heads ≡ replicate HASHES 0
 
 -- Before the limits are asked: no name of a type is at fault.
-pub record DeclaredText (text roles offsets : List ℕ) (n start : ℕ) (values firsts links heads file : List ℕ) : Type 0 where
-  pub derived-text : Derived text roles offsets n start
-  pub roomy : Roomy text file values firsts links heads
-  pub typed : Typed (derived-text .derivation) values
+pub record DeclaredText (text roles offsets : List ℕ) (n start : ℕ) (chain : List ℕ) (f : Firsts) (values firsts links heads file : List ℕ) : Type 0 where
+  pub judged : DerivedText text roles offsets n start file
+  pub roomy : Roomy n chain values firsts links heads
+  pub linked : ChainsAre roles n chain f
+  pub typed : Typed (judged .derived-text .derivation) values
 
--- Before the file is written: nothing is at fault, records are counted and names numbered.
-pub record NumberedText (text roles offsets values : List ℕ) (n start : ℕ) (c : Counted) (file : List ℕ) : Type 0 where
-  pub derived-text : Derived text roles offsets n start
-  pub short : length text ≤ TEXT
-  pub whole : length file ≡ FILE
-  pub no-fault : declarationFault (markedText (derived-text .derivation)) ≡ none
-  pub no-limit : limitFault (markedText (derived-text .derivation)) ≡ none
-  pub counts-are : (k : Section) → countedOf c k ≡ recordsOf k (derived-text .derivation)
+-- Before the file is written: nothing is at fault, records are counted and indexed, and names numbered.
+pub record NumberedText (text roles offsets values index : List ℕ) (n start : ℕ) (c : Counted) (file : List ℕ) : Type 0 where
+  pub judged : DerivedText text roles offsets n start file
+  pub no-fault : declarationFault (markedText (judged .derived-text .derivation)) ≡ none
+  pub no-limit : limitFault (markedText (judged .derived-text .derivation)) ≡ none
+  pub counts-are : (k : Section) → countedOf c k ≡ recordsOf k (judged .derived-text .derivation)
+  pub indexed : IndexIs (take n roles) index
   pub rest : List ℕ
   pub values-are :
-      values ≡ map (λ e. e .value) (itemsText (numberingOf (derived-text .derivation)) (derived-text .derivation)) ++ rest
+      values ≡ map (λ e. e .value) (itemsText (numberingOf (judged .derived-text .derivation)) (judged .derived-text .derivation)) ++ rest

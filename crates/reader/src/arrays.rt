@@ -1,19 +1,31 @@
-// Arrays of zeros, in the two lengths.
+// Arrays of zeros, in the three lengths.
 ghost use mathlib.Core.Path.{_≡_};
 ghost use Rattle.limits.specs.Limits.{TEXT};
 ghost use Rattle.tokens.specs.Runs.{HASHES};
-ghost use Rattle.reader.specs.Reading.{SHORT, zeros};
+ghost use Rattle.reader.specs.Reading.{SMALL, MIDDLE, zeros};
 
-pub fn short_bytes() -> [u8; 4096]
-    ensures { λ r. ⌜ r ≡ zeros SHORT ⌝ }
+pub fn small_bytes() -> [u8; 1024]
+    ensures { λ r. ⌜ r ≡ zeros SMALL ⌝ }
 {
-    [0; 4096]
+    [0; 1024]
 }
 
-pub fn short_words() -> [u16; 4096]
-    ensures { λ r. ⌜ r ≡ zeros SHORT ⌝ }
+pub fn small_words() -> [u16; 1024]
+    ensures { λ r. ⌜ r ≡ zeros SMALL ⌝ }
 {
-    [0; 4096]
+    [0; 1024]
+}
+
+pub fn middle_bytes() -> [u8; 16384]
+    ensures { λ r. ⌜ r ≡ zeros MIDDLE ⌝ }
+{
+    [0; 16384]
+}
+
+pub fn middle_words() -> [u16; 16384]
+    ensures { λ r. ⌜ r ≡ zeros MIDDLE ⌝ }
+{
+    [0; 16384]
 }
 
 pub fn long_bytes() -> [u8; 65536]
@@ -28,8 +40,8 @@ pub fn long_words() -> [u16; 65536]
     [0; 65536]
 }
 
-pub fn no_heads() -> [u32; 2048]
+pub fn no_heads() -> [u32; 512]
     ensures { λ r. ⌜ r ≡ zeros HASHES ⌝ }
 {
-    [0; 2048]
+    [0; 512]
 }

@@ -2,24 +2,28 @@
 mod arrays;
 mod numbers;
 mod passes;
+mod room;
 
 use crate::arrays::long_bytes;
 use crate::arrays::long_words;
-use crate::arrays::no_heads;
-use crate::arrays::short_bytes;
-use crate::arrays::short_words;
-use crate::passes::ask_grammar;
+use crate::arrays::middle_bytes;
+use crate::arrays::middle_words;
+use crate::arrays::small_bytes;
+use crate::arrays::small_words;
 use crate::passes::refusal;
+use crate::room::ask_grammar;
 use limits::Limits;
 ghost use mathlib.Core.Path.{_≡_};
-ghost use Prim.Native.Nat.{_≤_};
+ghost use Prim.Native.Nat.{_<_, _≤_};
 ghost use lib.ListN.{length};
 ghost use Rattle.limits.specs.Limits.{FILE, TEXT};
 ghost use Rattle.grammar.specs.Read.{readOf};
-ghost use Rattle.reader.specs.Reading.{ReadAs, SHORT};
+ghost use Rattle.reader.specs.Reading.{ReadAs, SMALL, MIDDLE};
 
-// A text of at most so many bytes is read with arrays of that length, a longer one with arrays for the longest.
-const SHORT: usize = 4096;
+// Arrays have room for so many bytes of a text, or so many tokens: the first of these that is enough, or the longest text's. Clearing them takes time.
+const SMALL: usize = 1024;
+
+const MIDDLE: usize = 16 * SMALL;
 
 // What Read answers: the number of the error and its place, or 0 and 0; and how many bytes the file has.
 pub struct Read {
@@ -28,28 +32,24 @@ pub struct Read {
     pub place: u32,
 }
 
-fn read_short(text: &[u8], file: &mut [u8]) -> Read
-    requires { ⌜ (length (now text) ≤ SHORT) × (length (now file) ≡ FILE) ⌝ }
+fn read_small(text: &[u8], file: &mut [u8]) -> Read
+    requires { ⌜ (length (now text) ≤ SMALL) × (length (now file) ≡ FILE) ⌝ }
     ensures { λ r. ⌜ ReadAs r (now (file .exit)) (readOf (now (text .entry)) (now (file .entry))) ⌝ }
 {
-    let mut roles = short_bytes();
-    let mut offsets = short_words();
-    let mut closers = short_bytes();
-    let mut values = short_words();
-    let mut firsts = short_words();
-    let mut links = short_words();
-    let mut heads = no_heads();
-    ask_grammar(
-        text,
-        &mut roles,
-        &mut offsets,
-        &mut closers,
-        &mut values,
-        &mut firsts,
-        &mut links,
-        &mut heads,
-        file,
-    )
+    let mut roles = small_bytes();
+    let mut offsets = small_words();
+    let mut closers = small_bytes();
+    ask_grammar(text, &mut roles, &mut offsets, &mut closers, file)
+}
+
+fn read_middle(text: &[u8], file: &mut [u8]) -> Read
+    requires { ⌜ (length (now text) ≤ MIDDLE) × (length (now file) ≡ FILE) ⌝ }
+    ensures { λ r. ⌜ ReadAs r (now (file .exit)) (readOf (now (text .entry)) (now (file .entry))) ⌝ }
+{
+    let mut roles = middle_bytes();
+    let mut offsets = middle_words();
+    let mut closers = middle_bytes();
+    ask_grammar(text, &mut roles, &mut offsets, &mut closers, file)
 }
 
 fn read_long(text: &[u8], file: &mut [u8]) -> Read
@@ -59,21 +59,25 @@ fn read_long(text: &[u8], file: &mut [u8]) -> Read
     let mut roles = long_bytes();
     let mut offsets = long_words();
     let mut closers = long_bytes();
-    let mut values = long_words();
-    let mut firsts = long_words();
-    let mut links = long_words();
-    let mut heads = no_heads();
-    ask_grammar(
-        text,
-        &mut roles,
-        &mut offsets,
-        &mut closers,
-        &mut values,
-        &mut firsts,
-        &mut links,
-        &mut heads,
-        file,
-    )
+    ask_grammar(text, &mut roles, &mut offsets, &mut closers, file)
+}
+
+// Reads a text with arrays that have this room, or more if the text is longer. It calls itself, since into a function that does the compiler takes over no
+// other's arrays: the frame of a short text's call then has no room for a long one's, whose pages would be touched each time.
+fn read_within(text: &[u8], room: usize, file: &mut [u8]) -> Read
+    requires { ⌜ (length (now text) ≤ TEXT) × (length (now file) ≡ FILE) × (0 < room) ⌝ }
+    ensures { λ r. ⌜ ReadAs r (now (file .exit)) (readOf (now (text .entry)) (now (file .entry))) ⌝ }
+{
+    if room < text.len() {
+        return read_within(text, room * 16, file);
+    }
+    if room == SMALL {
+        return read_small(text, file);
+    }
+    if room == MIDDLE {
+        return read_middle(text, file);
+    }
+    read_long(text, file)
 }
 
 // Reads a text into a buffer of exactly the longest file's bytes.
@@ -86,8 +90,5 @@ pub fn read_text(text: &[u8], file: &mut [u8]) -> Read
     if file.len() != Limits::FILE {
         return refusal(36, 0);
     }
-    if text.len() <= SHORT {
-        return read_short(text, file);
-    }
-    read_long(text, file)
+    read_within(text, SMALL, file)
 }

@@ -1,9 +1,11 @@
 // The numbers of names, a sort after another, with one table for all.
+use numbering::Firsts;
 use numbering::Sort;
 use numbering::number_names;
 ghost use mathlib.Core.Path.{_≡_};
 ghost use lib.ListN.{length, replicate};
 ghost use Rattle.tokens.specs.Runs.{HASHES};
+ghost use Rattle.numbering.specs.Chains.{ChainsAre, LinkedSort};
 ghost use Rattle.numbering.specs.Numbers.{roleTest, Tokens};
 ghost use Rattle.numbering.specs.declared.Sort.the-variants.{Methods, Fields, Variables};
 ghost use Rattle.reader.specs.Numbers.{SortNumbered, sortNumbered};
@@ -25,6 +27,8 @@ fn number_sort(
     roles: &[u8],
     offsets: &[u16],
     n: usize,
+    chain: &[u16],
+    first: usize,
     sort: Sort,
     values: &mut [u16],
     firsts: &mut [u16],
@@ -32,6 +36,7 @@ fn number_sort(
     heads: &mut [u32],
 )
     requires { ⌜ Tokens (now text) (now roles) (now offsets) (now values) (now firsts) (now links) n × (length (now heads) ≡ HASHES) ⌝ }
+    requires { ⌜ LinkedSort (roleTest sort) (now roles) n (now chain) first ⌝ }
     ensures { λ r. ⌜
         SortNumbered (now (text .entry)) (now (roles .entry)) (now (offsets .entry)) n
         (now (values .entry)) (now (firsts .entry)) (now (links .entry)) (now (heads .entry))
@@ -40,7 +45,19 @@ fn number_sort(
         ⌝ }
 {
     clear_heads(heads);
-    number_names(text, roles, offsets, n, sort, values, firsts, links, heads);
+    number_names(
+        text,
+        roles,
+        offsets,
+        n,
+        chain,
+        first,
+        sort,
+        values,
+        firsts,
+        links,
+        heads,
+    );
 }
 
 // Numbers the names of methods, of fields and of variables.
@@ -49,12 +66,15 @@ pub fn number_rest(
     roles: &[u8],
     offsets: &[u16],
     n: usize,
+    chain: &[u16],
+    f: Firsts,
     values: &mut [u16],
     firsts: &mut [u16],
     links: &mut [u16],
     heads: &mut [u32],
 )
     requires { ⌜ Tokens (now text) (now roles) (now offsets) (now values) (now firsts) (now links) n × (length (now heads) ≡ HASHES) ⌝ }
+    requires { ⌜ ChainsAre (now roles) n (now chain) f ⌝ }
     ensures { λ r. ⌜
         now (values .exit)
         ≡ sortNumbered (roleTest Variables) (now (text .entry)) (now (roles .entry)) (now (offsets .entry)) n
@@ -67,6 +87,8 @@ pub fn number_rest(
         roles,
         offsets,
         n,
+        chain,
+        f.methods,
         Sort::Methods,
         values,
         firsts,
@@ -78,6 +100,8 @@ pub fn number_rest(
         roles,
         offsets,
         n,
+        chain,
+        f.fields,
         Sort::Fields,
         values,
         firsts,
@@ -89,6 +113,8 @@ pub fn number_rest(
         roles,
         offsets,
         n,
+        chain,
+        f.variables,
         Sort::Variables,
         values,
         firsts,

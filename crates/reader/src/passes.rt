@@ -2,9 +2,11 @@
 use crate::Read;
 use crate::numbers::number_rest;
 use bounds::Counted;
+use bounds::Index;
 use bounds::count_records;
 use declarations::declaration_fault;
-use judge::judge;
+use numbering::Firsts;
+use numbering::link_names;
 use writer::Counts;
 use writer::write_file;
 ghost use mathlib.Core.Path.{_≡_};
@@ -15,7 +17,7 @@ ghost use Rattle.grammar.specs.Read.{readOf};
 ghost use Rattle.script.specs.declared.Section.{Section};
 ghost use Rattle.bounds.specs.Counting.{countedOf};
 ghost use Rattle.writer.specs.Counted.{countIn};
-ghost use Rattle.reader.specs.Reading.{ReadAs, Lent};
+ghost use Rattle.reader.specs.Reading.{ReadAs};
 ghost use Rattle.reader.specs.Derived.{JudgedDerived, DeclaredText, NumberedText};
 
 // The reply of a refusal.
@@ -64,15 +66,26 @@ fn write(
     roles: &[u8],
     offsets: &[u16],
     values: &[u16],
+    index: &[u16],
     n: usize,
     start: usize,
     c: Counted,
     file: &mut [u8],
 ) -> Read
-    requires { ⌜ NumberedText (now text) (now roles) (now offsets) (now values) n start c (now file) ⌝ }
+    requires { ⌜ NumberedText (now text) (now roles) (now offsets) (now values) (now index) n start c (now file) ⌝ }
     ensures { λ r. ⌜ ReadAs r (now (file .exit)) (readOf (now (text .entry)) (now (file .entry))) ⌝ }
 {
-    let length = write_file(text, roles, offsets, values, n, start, counts_of(c), file);
+    let length = write_file(
+        text,
+        roles,
+        offsets,
+        values,
+        index,
+        n,
+        start,
+        counts_of(c),
+        file,
+    );
     Read {
         number: 0,
         length: length as u16,
@@ -87,6 +100,8 @@ fn ask_limits(
     offsets: &[u16],
     n: usize,
     start: usize,
+    chain: &[u16],
+    f: Firsts,
     values: &mut [u16],
     firsts: &mut [u16],
     links: &mut [u16],
@@ -94,26 +109,39 @@ fn ask_limits(
     file: &mut [u8],
 ) -> Read
     requires { ⌜
-        DeclaredText (now text) (now roles) (now offsets) n start (now values) (now firsts) (now links) (now heads) (now file)
+        DeclaredText (now text) (now roles) (now offsets) n start (now chain) f (now values) (now firsts) (now links) (now heads) (now file)
         ⌝ }
     ensures { λ r. ⌜ ReadAs r (now (file .exit)) (readOf (now (text .entry)) (now (file .entry))) ⌝ }
 {
-    let c = count_records(text, roles, offsets, n);
+    let mut index = [0u16; Index::RECORDS];
+    let c = count_records(text, roles, offsets, n, &mut index);
     let fault = c.fault;
     if fault < n {
         return refusal(36, offset_at(offsets, fault));
     }
-    number_rest(text, roles, offsets, n, values, firsts, links, heads);
-    write(text, roles, offsets, values, n, start, c, file)
+    number_rest(
+        text,
+        roles,
+        offsets,
+        n,
+        chain,
+        f,
+        values,
+        firsts,
+        links,
+        heads,
+    );
+    write(text, roles, offsets, values, &index, n, start, c, file)
 }
 
 // 35: "after 34, a type name is declared nowhere or again".
-fn ask_declarations(
+pub fn ask_declarations(
     text: &[u8],
     roles: &[u8],
     offsets: &[u16],
     n: usize,
     start: usize,
+    chain: &mut [u16],
     values: &mut [u16],
     firsts: &mut [u16],
     links: &mut [u16],
@@ -121,11 +149,23 @@ fn ask_declarations(
     file: &mut [u8],
 ) -> Read
     requires { ⌜
-        JudgedDerived (now text) (now roles) (now offsets) n start (now values) (now firsts) (now links) (now heads) (now file)
+        JudgedDerived (now text) (now roles) (now offsets) n start (now chain) (now values) (now firsts) (now links) (now heads) (now file)
         ⌝ }
     ensures { λ r. ⌜ ReadAs r (now (file .exit)) (readOf (now (text .entry)) (now (file .entry))) ⌝ }
 {
-    let fault = declaration_fault(text, roles, offsets, n, values, firsts, links, heads);
+    let f = link_names(roles, n, chain);
+    let fault = declaration_fault(
+        text,
+        roles,
+        offsets,
+        n,
+        chain,
+        f,
+        values,
+        firsts,
+        links,
+        heads,
+    );
     if fault < n {
         return refusal(35, offset_at(offsets, fault));
     }
@@ -135,41 +175,8 @@ fn ask_declarations(
         offsets,
         n,
         start,
-        values,
-        firsts,
-        links,
-        heads,
-        file,
-    )
-}
-
-// 34: "the token at the place, or the text's end, fits no legal continuation". The arrays are all 0.
-pub fn ask_grammar(
-    text: &[u8],
-    roles: &mut [u8],
-    offsets: &mut [u16],
-    closers: &mut [u8],
-    values: &mut [u16],
-    firsts: &mut [u16],
-    links: &mut [u16],
-    heads: &mut [u32],
-    file: &mut [u8],
-) -> Read
-    requires { ⌜
-        Lent (now text) (now roles) (now offsets) (now closers) (now values) (now firsts) (now links) (now heads) (now file)
-        ⌝ }
-    ensures { λ r. ⌜ ReadAs r (now (file .exit)) (readOf (now (text .entry)) (now (file .entry))) ⌝ }
-{
-    let j = judge(text, roles, offsets, closers);
-    if !j.ok {
-        return refusal(34, j.place);
-    }
-    ask_declarations(
-        text,
-        roles,
-        offsets,
-        j.tokens,
-        j.start,
+        chain,
+        f,
         values,
         firsts,
         links,

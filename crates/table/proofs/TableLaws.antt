@@ -12,9 +12,9 @@ use Rattle.grammar.specs.Tokens.{Spelling, Lexeme, fixed, name-token, digits-to
 use Rattle.tokens.specs.Next.{NAME, DIGITS, KINDS, lexemeOf}
 use Rattle.tokens.specs.Runs.{wordFrom, digitsFrom}
 use Rattle.flat.specs.declared.Turn.{Turn}
-use Rattle.flat.specs.Flat.{Rule, sameSort, pickTurn, turnAt, otherTurn, rules, endingTest, turnOf, stuckTurn, CLOSE, POINTS, BINDS}
+use Rattle.flat.specs.Flat.{Rule, sameSort, pickTurn, turnAt, otherTurn, rules, endingTest, turnOf, stuckTurn, GO, CLOSE, POINTS, BINDS}
 use Rattle.flat.proofs.Walks.{and-left, and-right}
-use Rattle.table.specs.Table.{packed, unpacked, entriesFrom, entries, closedTo, TurnIs}
+use Rattle.table.specs.Table.{packed, unpacked, Plain, entriesFrom, entries, closedTo, TurnIs}
 
 -- Fields that fit their places, and a parameter that is a name.
 abbrev nameTest : Lexeme → Bool
@@ -180,21 +180,15 @@ name-kind k s low h = go (eqb k NAME) (eqb k DIGITS) refl h
     go false true e q = absurd (let z : _≡_ {A = ℕ} 0 1 = cc in omega arith)
     go false false e q = absurd (let z : _≡_ {A = ℕ} 0 1 = cc in omega arith)
 
-pub turn-is :
-    (table : List ℕ) (p k : ℕ) (r : Turn)
-    → table ≡ entries
-    → p < POINTS
-    → k < KINDS
-    → r ≡ unpacked (getD table (p * 32 + k) 0)
-    → TurnIs p k r
+pub turn-is : (table : List ℕ) (p k : ℕ) → table ≡ entries → p < POINTS → k < KINDS → TurnIs p k (unpacked (getD table (p * 32 + k) 0))
 unfolding entries
-turn-is table p k r t hp hk h =
+turn-is table p k t hp hk =
     let m = turnAt p (lexemeOf k []) in
     let f = turn-fits p (lexemeOf k []) in
     let q : (0 + (p * 32 + k)) / 32 ≡ p = omega arith in
     let w : (0 + (p * 32 + k)) % 32 ≡ k = omega arith in
     let e : getD table (p * 32 + k) 0 ≡ packed m = rw (t, entry-at 2048 0 (p * 32 + k) (omega arith), q, w) in
-    let g : r ≡ m = h ∙ ap unpacked e ∙ unpacks (nameTest (lexemeOf k [])) m f in
+    let g : unpacked (getD table (p * 32 + k) 0) ≡ m = ap unpacked e ∙ unpacks (nameTest (lexemeOf k [])) m f in
     rw g
     (record {
       is = spelled-not p k;
@@ -208,6 +202,13 @@ turn-is table p k r t hp hk h =
             binds-name = λ b. name-kind k [] hk (f .names b);
           };
     })
+
+-- An entry with the deed GO, below those that settle a role.
+pub plain-turn : (e : ℕ) → (eqb (e / 64 % 16) GO && ltb e 32768) ≡ true → Plain e
+plain-turn e h =
+    let d : e / 64 % 16 ≡ GO = eqb-true (e / 64 % 16) GO (and-left (eqb (e / 64 % 16) GO) (ltb e 32768) h) in
+    let low : e < 32768 = ltb-true e 32768 (and-right (eqb (e / 64 % 16) GO) (ltb e 32768) h) in
+    turns-same (unpacked e) (turnOf GO (e % 64) (e / 1024)) refl (omega arith) d (omega arith) (omega arith) (omega arith)
 
 -- The table with the first n rules of the code's list put in.
 unfoldable pub ruledTo : List (List ℕ) → ℕ → List ℕ → List ℕ

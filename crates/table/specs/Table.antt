@@ -6,7 +6,7 @@ use lib.ListN.{set}
 use Rattle.grammar.specs.Roles.{BINDING}
 use Rattle.tokens.specs.Next.{NAME, lexemeOf}
 use Rattle.flat.specs.declared.Turn.{Turn}
-use Rattle.flat.specs.Flat.{turnAt, turnOf, POINTS, BINDS, CLOSE, VARIABLE, MEMBER, ENDED}
+use Rattle.flat.specs.Flat.{turnAt, turnOf, POINTS, GO, BINDS, CLOSE, VARIABLE, MEMBER, ENDED}
 
 -- A turn as one number, and back.
 abbrev pub packed : Turn → ℕ
@@ -22,6 +22,10 @@ unpacked e =
       becomes = e / 131072 % 32;
       before = e / 4194304 % 32;
     }
+
+-- The entry of a token that does nothing besides: it has the next point and the role, and nothing above them.
+abbrev pub Plain : ℕ → Type 0
+Plain e = unpacked e ≡ turnOf GO (e % 64) (e / 1024)
 
 -- Entries of the table, from entry i on: 32 for each point. A name's and that of digits are the same whatever they spell.
 unfoldable pub entriesFrom : ℕ → ℕ → List ℕ

@@ -1,11 +1,12 @@
 // What each kind of token does at each point of the machine that judges a text, in one table of numbers.
 use flat::Turn;
 ghost use mathlib.Core.Path.{_≡_};
+ghost use mathlib.Core.Bool.{true};
 ghost use Prim.Native.Nat.{_<_};
 ghost use lib.ListN.{replicate};
 ghost use Rattle.flat.specs.Flat.{POINTS};
 ghost use Rattle.tokens.specs.Next.{KINDS};
-ghost use Rattle.table.specs.Table.{TurnIs, unpacked, entries, closedTo};
+ghost use Rattle.table.specs.Table.{TurnIs, Plain, unpacked, entries, closedTo};
 
 // The table has a row of 32 kinds for each of 64 points; these begin where an expression may have ended.
 const VARIABLE: usize = 33 * 32;
@@ -17,6 +18,11 @@ const ENDED: usize = 58 * 32;
 // An entry has the next point (below 64), and above it the deed (16), the role (32), the tokens back (4), what that token becomes (32) and what the last one
 // becomes (32). This is the entry of a token that is left to the innermost closer.
 const LEFT: u32 = flat::CLOSE as u32 * 64;
+
+// The deed of a token that does nothing besides, and the first entry that settles an earlier token's role.
+const GO: u32 = 1;
+
+const SETTLING: u32 = 32768;
 
 // Above an entry of the rules stands its place in the table.
 const PLACE: u64 = 67108864;
@@ -82,14 +88,13 @@ fn put_rules(table: &mut [u32; 2048])
     }
 }
 
-// The table. A constant would be built anew wherever it is read, so the caller keeps it.
-pub fn table() -> [u32; 2048]
-    ensures { λ r. ⌜ r ≡ entries ⌝ }
+// Fills a table of zeros. The caller keeps it: a constant would be built anew wherever it is read, and an answer copied.
+pub fn fill_table(table: &mut [u32; 2048])
+    requires { ⌜ now table ≡ replicate 2048 0 ⌝ }
+    ensures { λ r. ⌜ now (table .exit) ≡ entries ⌝ }
 {
-    let mut table = [0u32; 2048];
-    put_closing(&mut table);
-    put_rules(&mut table);
-    table
+    put_closing(table);
+    put_rules(table);
 }
 
 // An entry taken apart.
@@ -106,11 +111,26 @@ fn unpack(e: u32) -> Turn
     }
 }
 
+// What a token of a kind does at a point, as an entry.
+pub fn entry_at(table: &[u32; 2048], point: u8, kind: u8) -> u32
+    requires { ⌜ (now table ≡ entries) × (point < POINTS) × (kind < KINDS) ⌝ }
+    ensures { λ r. ⌜ TurnIs point kind (unpacked r) ⌝ }
+{
+    let row = point as usize * 32;
+    table[row + kind as usize]
+}
+
+// Does a token with this entry nothing besides? Then nothing stands above its role.
+pub fn is_plain(e: u32) -> bool
+    ensures { λ r. ⌜ (r ≡ true → Plain e) ⌝ }
+{
+    (e / 64 % 16 == GO) & (e < SETTLING)
+}
+
 // What a token of a kind does at a point.
 pub fn turn_at(table: &[u32; 2048], point: u8, kind: u8) -> Turn
     requires { ⌜ (now table ≡ entries) × (point < POINTS) × (kind < KINDS) ⌝ }
     ensures { λ r. ⌜ TurnIs point kind r ⌝ }
 {
-    let row = point as usize * 32;
-    unpack(table[row + kind as usize])
+    unpack(entry_at(table, point, kind))
 }

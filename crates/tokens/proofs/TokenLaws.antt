@@ -71,8 +71,11 @@ told-sign s b =
     fixed-or (Told s NAME) (fixed STRAY) fixedSigns (b ∷ []) (told-fixed s NAME STRAY (omega arith) (omega arith) (omega arith))
     (told-list s NAME fixedSigns (omega arith) refl)
 
+pub sign-within : (b : ℕ) → (0 < tokenKind (signLexeme b)) × (tokenKind (signLexeme b) < NAME)
+sign-within b = let t = told-sign [] b in (omega (arith, t .real), t .below)
+
 -- What stands at a byte that is no blank: a word or digits, or a sign.
-first-on : (d : Bool) (b : ℕ) → firstTest d b ≡ true → runTest d b ≡ true
+pub first-on : (d : Bool) (b : ℕ) → firstTest d b ≡ true → runTest d b ≡ true
 first-on true b e = e
 first-on false b e = rw e refl
 

@@ -23,7 +23,7 @@ digitsFrom s = byteRun digitTest s
 
 -- How many hashes names have, and the hash of a name.
 abbrev pub HASHES : ℕ
-HASHES = 2048
+HASHES = 512
 
 unfoldable pub hashFrom : ℕ → Spelling → ℕ
 hashFrom h [] = h

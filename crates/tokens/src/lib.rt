@@ -1,13 +1,16 @@
 // Tokens of a text: the next one, and what names and digits say. A text is read in place, each token where it stands.
 mod bytes;
+mod kinds;
 mod names;
 mod scan;
 mod words;
 
 ghost use mathlib.Core.Path.{_≡_};
+ghost use Rattle.tokens.specs.Kinds.{BLANK};
 ghost use Rattle.tokens.specs.Next.{NAME, DIGITS};
 ghost use Rattle.tokens.specs.Runs.{HASHES, BEYOND};
 ghost use Rattle.tokens.specs.Words.{LONGEST, SLOTS, RADIX};
+pub use kinds::byte_kinds;
 pub use names::magnitude_at;
 pub use names::name_hash;
 pub use names::same_name;
@@ -18,8 +21,11 @@ pub const NAME: u8 = 28;
 
 pub const DIGITS: u8 = 29;
 
+// A blank begins no token.
+const BLANK: u8 = 0;
+
 // A hash of a name is below this.
-pub const HASHES: usize = 2048;
+pub const HASHES: usize = 512;
 
 // What the value of digits is at most: the first number that no integer has, with a minus or without.
 pub const BEYOND: u32 = 2147483649;
@@ -42,6 +48,7 @@ pub struct Next {
 pub fn agreed()
     ensures { λ r. do ⌜ (← ⟦NAME⟧ .entry) ≡ NAME ⌝ }
     ensures { λ r. do ⌜ (← ⟦DIGITS⟧ .entry) ≡ DIGITS ⌝ }
+    ensures { λ r. do ⌜ (← ⟦BLANK⟧ .entry) ≡ BLANK ⌝ }
     ensures { λ r. do ⌜ (← ⟦HASHES⟧ .entry) ≡ HASHES ⌝ }
     ensures { λ r. do ⌜ (← ⟦BEYOND⟧ .entry) ≡ BEYOND ⌝ }
     ensures { λ r. do ⌜ (← ⟦LONGEST⟧ .entry) ≡ LONGEST ⌝ }

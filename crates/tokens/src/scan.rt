@@ -1,24 +1,39 @@
 // The next token.
+use crate::BLANK;
 use crate::DIGITS;
+use crate::NAME;
 use crate::Next;
-use crate::bytes::is_blank;
-use crate::bytes::is_digit;
-use crate::bytes::is_letter;
-use crate::bytes::run_end;
-use crate::words::sign_kind;
 use crate::words::word_kind;
-ghost use Prim.Native.Nat.{_≤_};
-ghost use lib.ListN.{length};
+ghost use mathlib.Core.Path.{_≡_};
+ghost use Prim.Native.Nat.{_+_, _≤_};
+ghost use lib.ListN.{length, drop};
+ghost use Rattle.tokens.specs.Kinds.{byteKinds, kindTest};
 ghost use Rattle.tokens.specs.Next.{NextIs, Skipped};
+ghost use Rattle.tokens.specs.Runs.{byteRun};
 
 // The first byte from `at` on that is no blank, or the text's end.
-fn skip_blanks(text: &[u8], at: usize) -> usize
-    requires { ⌜ at ≤ length (now text) ⌝ }
+fn skip_blanks(kinds: &[u8; 256], text: &[u8], at: usize) -> usize
+    requires { ⌜ (now kinds ≡ byteKinds) × (at ≤ length (now text)) ⌝ }
     ensures { λ r. ⌜ Skipped (now (text .entry)) at r ⌝ }
 {
     let mut i = at;
     while i < text.len() {
-        if !is_blank(text[i]) {
+        if kinds[text[i] as usize] != BLANK {
+            return i;
+        }
+        i += 1;
+    }
+    i
+}
+
+// Where the bytes from `at` on end that are of kind `least` or a higher one.
+fn run_end(kinds: &[u8; 256], text: &[u8], at: usize, least: u8) -> usize
+    requires { ⌜ (now kinds ≡ byteKinds) × (at ≤ length (now text)) ⌝ }
+    ensures { λ r. ⌜ r ≡ at + length (byteRun (kindTest least) (drop at (now (text .entry)))) ⌝ }
+{
+    let mut i = at;
+    while i < text.len() {
+        if kinds[text[i] as usize] < least {
             return i;
         }
         i += 1;
@@ -27,11 +42,11 @@ fn skip_blanks(text: &[u8], at: usize) -> usize
 }
 
 // The token that comes next from byte `at` on.
-pub fn next_token(text: &[u8], at: usize) -> Next
-    requires { ⌜ at ≤ length (now text) ⌝ }
+pub fn next_token(kinds: &[u8; 256], text: &[u8], at: usize) -> Next
+    requires { ⌜ (now kinds ≡ byteKinds) × (at ≤ length (now text)) ⌝ }
     ensures { λ r. ⌜ NextIs (now (text .entry)) at r ⌝ }
 {
-    let start = skip_blanks(text, at);
+    let start = skip_blanks(kinds, text, at);
     if start == text.len() {
         return Next {
             kind: 0,
@@ -39,23 +54,21 @@ pub fn next_token(text: &[u8], at: usize) -> Next
             end: start,
         };
     }
-    let b = text[start];
-    if is_letter(b) {
-        let end = run_end(text, start, false);
-        let kind = word_kind(text, start, end);
-        return Next { kind, start, end };
-    }
-    if is_digit(b) {
-        let end = run_end(text, start, true);
+    let kind = kinds[text[start] as usize];
+    if kind < NAME {
         return Next {
-            kind: DIGITS,
+            kind,
             start,
-            end,
+            end: start + 1,
         };
     }
+    let end = run_end(kinds, text, start + 1, kind);
+    if kind == DIGITS {
+        return Next { kind, start, end };
+    }
     Next {
-        kind: sign_kind(b),
+        kind: word_kind(text, start, end),
         start,
-        end: start + 1,
+        end,
     }
 }

@@ -1,4 +1,4 @@
-// What a word or a sign is.
+// What a word is.
 use crate::LONGEST;
 use crate::NAME;
 use crate::RADIX;
@@ -10,7 +10,7 @@ ghost use lib.Seq.{slice};
 ghost use Rattle.grammar.specs.Tokens.{fixedWords};
 ghost use Rattle.tokens.specs.Next.{tokenKind};
 ghost use Rattle.tokens.specs.Runs.{wordFrom};
-ghost use Rattle.tokens.specs.Words.{wordLexeme, signLexeme, WordAt, LONGEST, SLOTS, wordCode, fixedAt, SpelledIs};
+ghost use Rattle.tokens.specs.Words.{wordLexeme, WordAt, LONGEST, SLOTS, wordCode, fixedAt, SpelledIs};
 
 // A word that the grammar spells out: its number, its key, and the code of the bytes behind its first one.
 struct Spelled(u8, usize, u64);
@@ -87,24 +87,4 @@ pub fn word_kind(text: &[u8], start: usize, end: usize) -> u8
         return NAME;
     }
     word.0
-}
-
-// The kind of a byte that is neither a blank nor in a word: a sign's, or that of a byte that begins no token.
-pub fn sign_kind(b: u8) -> u8
-    ensures { λ r. ⌜ r ≡ tokenKind (signLexeme b) ⌝ }
-{
-    match b {
-        b'{' => 17,
-        b'}' => 18,
-        b'(' => 19,
-        b')' => 20,
-        b':' => 21,
-        b',' => 22,
-        b'.' => 23,
-        b'=' => 24,
-        b';' => 25,
-        b'+' => 26,
-        b'-' => 27,
-        _ => 1,
-    }
 }

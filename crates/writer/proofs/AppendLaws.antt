@@ -1,79 +1,37 @@
 -- Rows appended one after another.
 use mathlib.Core.Path.{_≡_, refl, sym, ap, _∙_}
-use mathlib.Core.Bool.{Bool, true, false}
 use mathlib.Core.List.{List, [], _∷_, _++_, append-assoc, append-nil}
-use Prim.Native.Nat.{ℕ, zero, suc, _+_, _-_, _*_, _≤_, _<_}
+use Prim.Native.Nat.{ℕ, _+_, _-_, _*_, _≤_, _<_}
 use native.Mathlib.Omega.{arith}
-use native.Mathlib.Nat.{add-zero}
-use lib.ListN.{length, getD, drop, length-append, length-drop}
-use lib.Seq.{drop-drop}
+use lib.ListN.{length, getD, take, drop, length-append}
 use Rattle.script.specs.declared.Section.{Section}
 use Rattle.script.specs.declared.Section.the-variants.{Nodes as nodes}
 use Rattle.grammar.specs.Faults.{beginsTest}
-use Rattle.rows.specs.Rows.{Item, oneMore, sizesOf}
+use Rattle.grammar.specs.Roles.{R-CAST}
+use Rattle.bounds.specs.Places.{placesFrom}
+use Rattle.rows.specs.Rows.{Item, oneMore, nodeRow, sizesOf}
 use Rattle.row_words.specs.Items.{Roled, Shows, Readable, itemsOf}
 use Rattle.row_words.specs.Row.{rowOf}
-use Rattle.row_words.proofs.TokenLaws.{role-in, role-here, item-cons, items-shown}
+use Rattle.row_words.proofs.TokenLaws.{items-shown}
 use Rattle.writer.specs.Written.{written, Appended}
-use Rattle.writer.specs.Records.{rowIf, rowsOf, sizedBy}
+use Rattle.writer.specs.Records.{begunAmong, Unnumbered, Stretch}
+use Rattle.writer.specs.Counted.{Sized, allRows}
 use Rattle.writer.proofs.WrittenLaws.{written-none, written-more, length-written}
-use Rattle.writer.proofs.SizeLaws.{one-more, sizes-step}
+use Rattle.writer.proofs.PlaceLaws.{Place, begun-split, begun-next, begun-all, place-next, place-before, places-count, place-at}
+use Rattle.writer.proofs.SizeLaws.{sizes-long, sizes-next}
+use Rattle.writer.proofs.RowLaws.{roled-long, rowsBetween, between-length, nodes-skipped, rows-next, rows-none}
 
 pub shown : {text roles offsets values sizes : List ℕ} {types : ℕ} → Readable text roles offsets values sizes types → Shows text roles offsets values (itemsOf text roles offsets values)
 shown r = items-shown _ _ _ _ (r .offset-each) (r .value-each)
 
--- the row of one token
-module _ (s : Section) (types n : ℕ) {roles : List ℕ} {es : List Item} (e : Roled roles es) (i : ℕ) where
-  pub row-some : beginsTest s (getD roles i 0) ≡ true → rowOf s types n (drop i es) ≡ rowIf s types n (drop i es)
-  row-some t = rw (role-in e i 0 (add-zero i), t)
+-- the same words; and the file stays as long
+pub appended-as : {s t ws vs : List ℕ} {at r : ℕ} → ws ≡ vs → Appended s at t r ws → Appended s at t r vs
+appended-as {s} {at = at} e a = record { file-is = a .file-is ∙ ap (written s at) e; end-is = a .end-is ∙ ap (λ (l : List ℕ). at + 2 * length l) e }
 
-  row-none : beginsTest s (getD roles i 0) ≡ false → rowIf s types n (drop i es) ≡ []
-  row-none t = rw (role-in e i 0 (add-zero i), t)
+pub appended-long : {s t ws : List ℕ} {at r : ℕ} → at + 2 * length ws ≤ length s → Appended s at t r ws → length t ≡ length s
+appended-long {s} {ws = ws} {at = at} h a = ap length (a .file-is) ∙ length-written s at ws h
 
-  pub row-skipped :
-      (file : List ℕ) (at : ℕ)
-      → beginsTest s (getD roles i 0) ≡ false
-      → Appended file at file at (rowIf s types n (drop i es))
-  row-skipped file at t = rw (row-none t) (record { file-is = sym (written-none file at); end-is = omega arith })
-
-module _ {roles : List ℕ} {es : List Item} (e : Roled roles es) (i : ℕ) (h : i < length roles) where
-  abbrev step : ℕ
-  step = oneMore (beginsTest nodes (getD roles i 0)) 0
-
-  rows-step :
-      (s : Section) (types n to : ℕ)
-      → i < to
-      → rowsOf s types (to - i) n (drop i es) ≡ rowIf s types n (drop i es) ++ rowsOf s types (to - (i + 1)) (n + step) (drop (i + 1) es)
-  unfolding rowsOf
-  rows-step s types n to l =
-      let k : to - i ≡ suc (to - (i + 1)) = omega arith in
-      let m : oneMore (beginsTest nodes (getD roles i 0)) n ≡ n + step = omega (arith, one-more (beginsTest nodes (getD roles i 0)) n) in
-      rw (k, item-cons e i h) (rw (role-here e i, m))
-
-  -- the sizes of the nodes behind a token
-  pub record SizesBehind (sizes : List ℕ) (k : ℕ) : Type 0 where
-    pub behind : drop (k + step) sizes ≡ sizesOf (drop (i + 1) es)
-    pub within : k + step ≤ length sizes
-
-  sizes-behind : (sizes : List ℕ) (k : ℕ) → k ≤ length sizes → drop k sizes ≡ sizesOf (drop i es) → SizesBehind sizes k
-  sizes-behind sizes k l p = go (beginsTest nodes (getD roles i 0)) refl
-    where
-      q : drop k sizes ≡ sizedBy (getD roles i 0) (sizesOf (drop (i + 1) es))
-      q = p ∙ sym (sizes-step e i h (sizesOf (drop (i + 1) es)) refl)
-
-      go : (t : Bool) → beginsTest nodes (getD roles i 0) ≡ t → SizesBehind sizes k
-      go true t =
-          let d : drop k sizes ≡ _ ∷ sizesOf (drop (i + 1) es) = rw t at q in
-          record {
-            behind = rw t (sym (drop-drop 1 k sizes) ∙ ap (drop 1) d);
-            within = rw t (omega (arith, ap length d, length-drop k sizes));
-          }
-      go false t =
-          let d : drop k sizes ≡ sizesOf (drop (i + 1) es) = rw t at q in
-          let z : k + 0 ≡ k = omega arith in
-          record { behind = rw (t, z) d; within = rw t (omega arith) }
-
--- the rows of the tokens before i are written, those of the tokens from i to `to` are left
+-- some rows are written, the rest is left
 pub record Wrote (whole : List ℕ) (file₀ : List ℕ) (at₀ : ℕ) (rest file : List ℕ) (at : ℕ) : Type 0 where
   pub done : List ℕ
   pub splits : done ++ rest ≡ whole
@@ -125,81 +83,180 @@ module _ (whole file₀ : List ℕ) (at₀ : ℕ) where
       let e : w .done ≡ whole = sym (append-nil (w .done)) ∙ w .splits in
       record { file-is = w .file-is ∙ ap (written file₀ at₀) e; end-is = w .at-is ∙ ap (λ (l : List ℕ). at₀ + 2 * length l) e }
 
-rows-done : (s : Section) (types n to i : ℕ) (es : List Item) → to ≤ i → rowsOf s types (to - i) n es ≡ []
-unfolding rowsOf
-rows-done s types n to i es h = let k : to - i ≡ zero = omega arith in rw k
-
--- the records of a section from item `from` to item `to`
-abbrev rowsBetween : Section → ℕ → ℕ → ℕ → ℕ → List Item → List ℕ
-rowsBetween s types from to base es = rowsOf s types (to - from) base (drop from es)
-
--- the loop: the items from `from` to i are done, with `count` nodes among them
-pub record Appending (es : List Item) (sizes : List ℕ) (s : Section) (types from to base : ℕ) (file₀ : List ℕ) (at₀ : ℕ) (file : List ℕ) (i count at : ℕ) : Type 0 where
-  pub after : from ≤ i
+-- the loop: the records of a section that begin from token `from` on are appended up to record k, the first that does not begin before token i. The node that
+-- begins next is node n, where the first that begins from token `from` on is node `base`.
+pub record Appending (roles : List ℕ) (es : List Item) (s : Section) (types from to base : ℕ) (file₀ : List ℕ) (at₀ : ℕ) (file : List ℕ) (k at : ℕ) : Type 0 where
+  pub i : ℕ
+  pub n : ℕ
   pub before-to : i ≤ to
+  pub passed : begunAmong s (take i roles) ≡ k
+  pub number : n + begunAmong nodes (take from roles) ≡ base + begunAmong nodes (take i roles)
   pub same-long : length file ≡ length file₀
-  pub few : count ≤ length sizes
-  pub behind : drop count sizes ≡ sizesOf (drop i es)
-  pub wrote : Wrote (rowsBetween s types from to base es) file₀ at₀ (rowsBetween s types i to (base + count) es) file at
+  pub wrote : Wrote (rowsBetween s types from to base es) file₀ at₀ (rowsBetween s types i to n es) file at
 
 pub append-start :
-    {es : List Item} {sizes : List ℕ} {s : Section} {types from to base : ℕ} {file₀ : List ℕ} {at₀ : ℕ}
+    (roles : List ℕ) (es : List Item) (s : Section) (types from to base : ℕ) (file₀ : List ℕ) (at₀ : ℕ) {k : ℕ}
     → from ≤ to
-    → sizes ≡ sizesOf (drop from es)
-    → Appending es sizes s types from to base file₀ at₀ file₀ from 0 at₀
-append-start {es} {sizes} {s} {types} {from} {to} {base} {file₀} {at₀} h p =
-    let z : base + 0 ≡ base = omega arith in
+    → begunAmong s (take from roles) ≡ k
+    → Appending roles es s types from to base file₀ at₀ file₀ k at₀
+append-start roles es s types from to base file₀ at₀ h p =
     record {
-      after = omega arith;
+      i = from;
+      n = base;
       before-to = h;
+      passed = p;
+      number = refl;
       same-long = refl;
-      few = omega arith;
-      behind = p;
-      wrote = rw z (wrote-none (rowsBetween s types from to base es) file₀ at₀);
+      wrote = wrote-none (rowsBetween s types from to base es) file₀ at₀;
     }
 
-pub append-end :
-    {es : List Item} {sizes : List ℕ} {s : Section} {types from to base : ℕ} {file₀ : List ℕ} {at₀ : ℕ} {file : List ℕ} {i count at : ℕ}
-    → Appending es sizes s types from to base file₀ at₀ file i count at
-    → to ≤ i
-    → Appended file₀ at₀ file at (rowsBetween s types from to base es)
-append-end {es} {sizes} {s} {types} {from} {to} {base} {file₀} {at₀} {file} {i} {count} w h =
-    wrote-all (rowsBetween s types from to base es) file₀ at₀ (rw (rows-done s types (base + count) to i (drop i es) h) at (w .wrote))
-
--- one item more
 module _
     {roles : List ℕ} {es : List Item} (e : Roled roles es)
-    {sizes : List ℕ} {s : Section} {types from to base : ℕ} {file₀ : List ℕ} {at₀ : ℕ} {file : List ℕ} {i count at : ℕ}
-    (inside : to ≤ length roles)
-    (room : at₀ + 2 * length (rowsBetween s types from to base es) ≤ length file₀)
-    (w : Appending es sizes s types from to base file₀ at₀ file i count at)
-    (h : i < to) where
-  pub append-room : at + 2 * length (rowIf s types (base + count) (drop i es)) ≤ length file
-  append-room =
-      omega (
-        arith,
-        w .same-long,
-        wrote-room (rowsBetween s types from to base es) file₀ at₀ (rowIf s types (base + count) (drop i es)) (rowsOf s types (to - (i + 1)) (base + count + oneMore (beginsTest nodes (getD roles i 0)) 0) (drop (i + 1) es)) room (w .wrote) (rows-step e i (omega arith) s types (base + count) to h),
-      )
+    {s : Section} {types from to base : ℕ} {file₀ : List ℕ} {at₀ : ℕ} {file : List ℕ} {k at : ℕ}
+    (w : Appending roles es s types from to base file₀ at₀ file k at) where
+  -- no record is left
+  pub append-end : begunAmong s (take to roles) ≤ k → Appended file₀ at₀ file at (rowsBetween s types from to base es)
+  append-end h = wrote-all (rowsBetween s types from to base es) file₀ at₀ (rw (rows-none e s types (w .i) to (w .n) (w .before-to) (omega (arith, w .passed))) at (w .wrote))
 
-  pub append-sizes : beginsTest nodes (getD roles i 0) ≡ true → drop (count + 1) sizes ≡ sizesOf (drop (i + 1) es)
-  append-sizes t = rw t at (sizes-behind e i (omega arith) sizes count (w .few) (w .behind) .behind)
+  -- record k is left, which begins at token p, and is written with number x
+  module _
+      (room : at₀ + 2 * length (rowsBetween s types from to base es) ≤ length file₀)
+      (more : k < begunAmong s (take to roles))
+      {p : ℕ} (z : Place s roles k p)
+      (x : ℕ) (same : (m : ℕ) → m + begunAmong nodes (take from roles) ≡ base + begunAmong nodes (take p roles) → rowOf s types x (drop p es) ≡ rowOf s types m (drop p es)) where
+    abbrev row : List ℕ
+    row = rowOf s types x (drop p es)
 
-  pub append-next :
-      {file′ : List ℕ} {at′ step′ : ℕ}
-      → Appended file at file′ at′ (rowIf s types (base + count) (drop i es))
-      → step′ ≡ oneMore (beginsTest nodes (getD roles i 0)) 0
-      → Appending es sizes s types from to base file₀ at₀ file′ (i + 1) (count + step′) at′
-  append-next {step′ = step′} f q =
-      let z = sizes-behind e i (omega arith) sizes count (w .few) (w .behind) in
-      let a : base + (count + step′) ≡ base + count + oneMore (beginsTest nodes (getD roles i 0)) 0 = omega (arith, q) in
-      let row : List ℕ = rowIf s types (base + count) (drop i es) in
-      let p = rows-step e i (omega arith) s types (base + count) to h in
-      record {
-        after = omega arith;
-        before-to = omega arith;
-        same-long = ap length (f .file-is) ∙ length-written file at row append-room ∙ w .same-long;
-        few = rw q (z .within);
-        behind = rw q (z .behind);
-        wrote = rw a (wrote-more (rowsBetween s types from to base es) file₀ at₀ row _ room (w .wrote) p f);
-      }
+    abbrev number-here : ℕ
+    number-here = w .n + begunAmong nodes (take (p - w .i) (drop (w .i) roles))
+
+    abbrev number-next : ℕ
+    number-next = number-here + oneMore (beginsTest nodes (getD roles p 0)) 0
+
+    number-is : number-here + begunAmong nodes (take from roles) ≡ base + begunAmong nodes (take p roles)
+    number-is = omega (arith, w .number, nodes-skipped e s types z (w .i) to (w .passed) more (w .n))
+
+    rest : rowsBetween s types (w .i) to (w .n) es ≡ row ++ rowsBetween s types (p + 1) to number-next es
+    rest = rows-next e s types z (w .i) to (w .passed) more (w .n) ∙ rw (same number-here number-is)
+
+    append-room : at + 2 * length row ≤ length file
+    append-room =
+        omega (
+          arith,
+          w .same-long,
+          wrote-room (rowsBetween s types from to base es) file₀ at₀ row (rowsBetween s types (p + 1) to number-next es) room (w .wrote) rest,
+        )
+
+    append-next : {file′ : List ℕ} {at′ : ℕ} → Appended file at file′ at′ row → Appending roles es s types from to base file₀ at₀ file′ (k + 1) at′
+    append-next f =
+        record {
+          i = p + 1;
+          n = number-next;
+          before-to = let l : p < to = place-before z more in omega arith;
+          passed = place-next z;
+          number = omega (arith, number-is, begun-next nodes roles p (z .inside));
+          same-long = appended-long append-room f ∙ w .same-long;
+          wrote = wrote-more (rowsBetween s types from to base es) file₀ at₀ row (rowsBetween s types (p + 1) to number-next es) room (w .wrote) rest f;
+        }
+
+-- as many items as tokens
+module _ {text roles offsets values sizes : List ℕ} {types : ℕ} (q : Readable text roles offsets values sizes types) where
+  abbrev items : List Item
+  items = itemsOf text roles offsets values
+
+  pub items-roled : Roled roles items
+  items-roled = shown q .marks .roled
+
+  pub items-long : length items ≡ length roles
+  items-long = roled-long items-roled
+
+  all-rows : (s : Section) (n : ℕ) → rowsBetween s types 0 (length roles) n items ≡ allRows s types n items
+  all-rows s n = let e : length roles - 0 ≡ length items = omega (arith, items-long) in rw e
+
+-- the row of the same number
+pub number-row : (s : Section) (types : ℕ) (es : List Item) {x m : ℕ} → x ≡ m → rowOf s types x es ≡ rowOf s types m es
+number-row s types es e = rw e
+
+-- rows without a node's number are not those of nodes
+pub plain-not-nodes : {s : Section} → Unnumbered s → s ≡ nodes → ⊥
+unfolding nodeRow
+plain-not-nodes p e =
+    let f : Unnumbered nodes = rw e at p in
+    omega (arith, ap (λ (l : List ℕ). getD l 2 0) (f .same 0 0 1 (record { role = R-CAST; value = 0; amount = 0 } ∷ [])))
+
+-- the loop over a section of the whole text
+module _
+    {text roles offsets values sizes : List ℕ} {types : ℕ} (q : Readable text roles offsets values sizes types) (s : Section) {places : List ℕ}
+    (e : places ≡ placesFrom s 0 roles) where
+  abbrev Whole : ℕ → List ℕ → ℕ → List ℕ → ℕ → ℕ → Type 0
+  Whole base file₀ at₀ file k at = Appending roles (items q) s types 0 (length roles) base file₀ at₀ file k at
+
+  pub whole-start : (base : ℕ) (file₀ : List ℕ) (at₀ : ℕ) → Whole base file₀ at₀ file₀ 0 at₀
+  unfolding begunAmong
+  whole-start base file₀ at₀ = append-start roles (items q) s types 0 (length roles) base file₀ at₀ (omega arith) refl
+
+  count-is : length places ≡ begunAmong s (take (length roles) roles)
+  count-is = places-count s roles e ∙ sym (begun-all s roles {i = length roles} (omega arith))
+
+  module _ {base : ℕ} {file₀ : List ℕ} {at₀ : ℕ} {file : List ℕ} {k at : ℕ} (w : Whole base file₀ at₀ file k at) where
+    pub whole-end : length places ≤ k → Appended file₀ at₀ file at (allRows s types base (items q))
+    whole-end h = rw (all-rows q s base) at (append-end (items-roled q) w (omega (arith, count-is)))
+
+    module _
+        (room : at₀ + 2 * length (allRows s types base (items q)) ≤ length file₀)
+        (more : k < length places)
+        (x : ℕ) (same : (m : ℕ) → m ≡ base + begunAmong nodes (take (getD places k 0) roles) → rowOf s types x (drop (getD places k 0) (items q)) ≡ rowOf s types m (drop (getD places k 0) (items q))) where
+      room′ : at₀ + 2 * length (rowsBetween s types 0 (length roles) base (items q)) ≤ length file₀
+      room′ = rw (all-rows q s base) room
+
+      more′ : k < begunAmong s (take (length roles) roles)
+      more′ = omega (arith, count-is)
+
+      z : Place s roles k (getD places k 0)
+      z = place-at s roles e k more
+
+      same′ : (m : ℕ) → m + begunAmong nodes (take 0 roles) ≡ base + begunAmong nodes (take (getD places k 0) roles) → rowOf s types x (drop (getD places k 0) (items q)) ≡ rowOf s types m (drop (getD places k 0) (items q))
+      unfolding begunAmong
+      same′ m h = same m (omega arith)
+
+      pub whole-room : at + 2 * length (rowOf s types x (drop (getD places k 0) (items q))) ≤ length file
+      whole-room = append-room (items-roled q) w room′ more′ z x same′
+
+      pub whole-next : {file′ : List ℕ} {at′ : ℕ} → Appended file at file′ at′ (rowOf s types x (drop (getD places k 0) (items q))) → Whole base file₀ at₀ file′ (k + 1) at′
+      whole-next f = append-next (items-roled q) w room′ more′ z x same′ f
+
+-- a place and a size for each node
+pub nodes-few :
+    {text roles offsets values sizes places : List ℕ} {types base : ℕ}
+    → Sized text roles offsets values sizes types base
+    → places ≡ placesFrom nodes 0 roles
+    → length places ≡ length sizes
+nodes-few {roles = roles} q e = places-count nodes roles e ∙ sym (ap length (q .sizes-are) ∙ sizes-long (items-roled (q .readable)))
+
+pub nodes-within :
+    {text roles offsets values sizes : List ℕ} {types base : ℕ}
+    → Sized text roles offsets values sizes types base
+    → (i : ℕ)
+    → begunAmong nodes (take i roles) ≤ length sizes
+nodes-within {roles = roles} q i = omega (arith, ap length (q .sizes-are), sizes-long (items-roled (q .readable)), begun-split nodes roles i)
+
+-- the loop over nodes, of which node k begins at token p
+module _
+    {text roles offsets values sizes : List ℕ} {types base : ℕ} (q : Sized text roles offsets values sizes types base)
+    {k p : ℕ} (z : Place nodes roles k p) where
+  pub node-sizes : drop (k + 1) sizes ≡ sizesOf (drop (p + 1) (itemsOf text roles offsets values))
+  node-sizes = ap (drop (k + 1)) (q .sizes-are) ∙ sizes-next (items-roled (q .readable)) z
+
+  module _
+      {from to a b : ℕ} (l : from ≤ k) (h : k < to) (t : Stretch roles from to a b) {file₀ file : List ℕ} {at₀ at : ℕ}
+      (room : at₀ + 8 * (to - from) ≤ length file₀)
+      (w : Appending roles (items (q .readable)) nodes types a b base file₀ at₀ file k at) where
+    pub node-next :
+        {file′ : List ℕ} {at′ : ℕ}
+        → Appended file at file′ at′ (rowOf nodes types (base + (k - from)) (drop p (items (q .readable))))
+        → Appending roles (items (q .readable)) nodes types a b base file₀ at₀ file′ (k + 1) at′
+    node-next f =
+        let r : at₀ + 2 * length (rowsBetween nodes types a b base (items (q .readable))) ≤ length file₀ =
+        omega (arith, between-length (items-roled (q .readable)) types a b base (t .ordered), t .from-is, t .to-is)
+        in
+        append-next (items-roled (q .readable)) w r (omega (arith, t .to-is)) z (base + (k - from)) (λ m e. number-row nodes types (drop p (items (q .readable))) (omega (arith, e, t .from-is, z .passed))) f

@@ -1,26 +1,29 @@
 -- The sections one after another.
 use mathlib.Core.Path.{_≡_, refl, sym, ap, _∙_}
-use mathlib.Core.Bool.{Bool, true, false}
 use mathlib.Core.List.{List, [], _∷_, _++_, map}
-use Prim.Native.Nat.{ℕ, zero, suc, _+_, _-_, _*_, _≤_, _<_}
+use Prim.Native.Nat.{ℕ, _+_, _-_, _*_, _≤_, _<_}
 use native.Mathlib.Omega.{arith}
-use lib.ListN.{length, take, drop, length-append, length-map, length-drop}
-use lib.Seq.{take-all}
+use lib.ListN.{length, take, drop, length-append}
+use lib.Seq.{take-at}
 use Rattle.words.specs.Word.{WORD}
-use Rattle.limits.specs.Limits.{NODES}
 use Rattle.script.specs.declared.Section.{Section}
-use Rattle.script.specs.declared.Section.the-variants.{Nodes as nodes}
+use Rattle.script.specs.declared.Section.the-variants.{Interfaces as interfaces, Signatures as signatures, Classes as classes}
+use Rattle.script.specs.declared.Section.the-variants.{Fields as fields, Methods as methods, Nodes as nodes}
+use Rattle.script.specs.Section.{mostOf}
 use Rattle.grammar.specs.Faults.{beginsTest}
+use Rattle.bounds.specs.Places.{placesFrom, indexOf, RECORDS, IndexIs}
 use Rattle.rows.specs.Rows.{Item, oneMore, nodeCount, sizesOf}
-use Rattle.row_words.specs.Items.{Readable, Nested, Roled, Shows, itemsOf}
+use Rattle.row_words.specs.Items.{Readable, Roled, itemsOf}
 use Rattle.row_words.proofs.TokenLaws.{items-shown}
-use Rattle.row_words.proofs.NodeLaws.{nested-drop}
 use Rattle.writer.specs.Written.{Appended}
-use Rattle.writer.specs.Records.{begunAmong, rowsOf}
-use Rattle.writer.specs.Counted.{Sized, Tokens, allRows}
+use Rattle.writer.specs.Records.{begunAmong, Stretch}
+use Rattle.writer.specs.declared.Counts.{Counts}
+use Rattle.writer.specs.Counted.{countIn, Within, Counted, Writable, Sized, Prepared, startAndBodies}
 use Rattle.writer.proofs.WrittenLaws.{length-written, written-more}
-use Rattle.writer.proofs.AppendLaws.{shown}
-use Rattle.writer.proofs.SizeLaws.{begun-fewer, nested-none, nested-sized}
+use Rattle.writer.proofs.PlaceLaws.{begun-split, begun-all, places-count, index-part}
+use Rattle.writer.proofs.SizeLaws.{nested-sizes, sizes-long}
+use Rattle.writer.proofs.RowLaws.{rowsBetween, between-length, roles-from}
+use Rattle.writer.proofs.AppendLaws.{items-roled, items-long, nodes-few}
 
 module _ (s : List ℕ) (at : ℕ) (us vs : List ℕ) (h : at + 2 * length (us ++ vs) ≤ length s) where
   pub room-first : at + 2 * length us ≤ length s
@@ -37,146 +40,134 @@ module _ (s : List ℕ) (at : ℕ) (us vs : List ℕ) (h : at + 2 * length (us +
           end-is = omega (arith, a .end-is, b .end-is, length-append us vs);
         }
 
--- as many items as tokens
-module _ {text roles offsets values sizes : List ℕ} {types : ℕ} (q : Readable text roles offsets values sizes types) where
-  abbrev items : List Item
-  items = itemsOf text roles offsets values
-
-  items-long : length items ≡ length roles
-  items-long = sym (length-map items (λ (e : Item). e .role)) ∙ ap length (shown q .marks .roled .roles-are)
-
-  pub all-rows : (s : Section) (n : ℕ) → rowsOf s types (length roles - 0) n items ≡ allRows s types n items
-  all-rows s n = let e : length roles - 0 ≡ length items = omega (arith, items-long) in rw e
-
-  pub start-rows : (start : ℕ) → rowsOf nodes types (length roles - start) 0 (drop start items) ≡ rowsOf nodes types (length items - start) 0 (drop start items)
-  start-rows start = rw items-long
-
-  pub body-rows : (start n : ℕ) → rowsOf nodes types (start - 0) n items ≡ rowsOf nodes types start n items
-  body-rows start n = let e : start - 0 ≡ start = omega arith in rw e
-
--- the nodes from a token on, and their sizes
-pub drop-map : {A B : Type 0} (f : A → B) (i : ℕ) (l : List A) → map f (drop i l) ≡ drop i (map f l)
-drop-map f zero l = refl
-drop-map f (suc i) [] = refl
-drop-map f (suc i) (a ∷ l) = drop-map f i l
-
+-- the nodes from a token on
 nodes-begun : (es : List Item) → nodeCount es ≡ begunAmong nodes (map (λ (e : Item). e .role) es)
 unfolding nodeCount begunAmong
 nodes-begun [] = refl
 nodes-begun (e ∷ es) = ap (oneMore (beginsTest nodes (e .role))) (nodes-begun es)
 
 node-count : {roles : List ℕ} {es : List Item} → Roled roles es → (i : ℕ) → nodeCount (drop i es) ≡ begunAmong nodes (drop i roles)
-node-count {es = es} e i = nodes-begun (drop i es) ∙ rw (drop-map (λ (x : Item). x .role) i es, e .roles-are)
+node-count {es = es} e i = nodes-begun (drop i es) ∙ rw (roles-from e i)
 
-sizes-long : (es : List Item) → length (sizesOf es) ≡ nodeCount es
-unfolding sizesOf nodeCount
-sizes-long [] = refl
-sizes-long (e ∷ es) = go (beginsTest nodes (e .role)) refl (sizes-long es)
-  where
-    go : (t : Bool) → beginsTest nodes (e .role) ≡ t → length (sizesOf es) ≡ nodeCount es → length (sizesOf (e ∷ es)) ≡ nodeCount (e ∷ es)
-    go true h p = rw h (omega arith)
-    go false h p = rw h p
-
-nodes-fewer : (es : List Item) (i : ℕ) → nodeCount (drop i es) ≤ nodeCount es
-nodes-fewer es i =
-    let f : List Item → List ℕ = map (λ (e : Item). e .role) in
-    omega (arith, nodes-begun es, nodes-begun (drop i es) ∙ ap (begunAmong nodes) (drop-map (λ (e : Item). e .role) i es), begun-fewer nodes (f es) i)
-
-sizes-drop : (es : List Item) (i : ℕ) → sizesOf (drop i es) ≡ drop (nodeCount es - nodeCount (drop i es)) (sizesOf es)
-unfolding sizesOf nodeCount
-sizes-drop es zero = let z : nodeCount es - nodeCount es ≡ 0 = omega arith in rw z
-sizes-drop [] (suc i) = refl
-sizes-drop (e ∷ es) (suc i) = go (beginsTest nodes (e .role)) refl (sizes-drop es i)
-  where
-    go : (t : Bool) → beginsTest nodes (e .role) ≡ t → sizesOf (drop i es) ≡ drop (nodeCount es - nodeCount (drop i es)) (sizesOf es) → sizesOf (drop i es) ≡ drop (nodeCount (e ∷ es) - nodeCount (drop i es)) (sizesOf (e ∷ es))
-    go true h p =
-        let z : nodeCount es + 1 - nodeCount (drop i es) ≡ suc (nodeCount es - nodeCount (drop i es)) = omega (arith, nodes-fewer es i) in
-        rw (h, z) p
-    go false h p = rw h p
-
--- the sizes of the start's nodes, as a part of the table
-pub record Own (text roles offsets values sizes : List ℕ) (types base start : ℕ) (own : List ℕ) : Type 0 where
-  pub readable : Readable text roles offsets values own types
-  pub sizes-are : own ≡ sizesOf (drop start (itemsOf text roles offsets values))
-  pub shorter : length own ≤ length sizes
-
+-- the start's nodes, of which there are `own`, are the last of all, and the bodies' the first
 module _
-    {text roles offsets values sizes : List ℕ} {types base₀ : ℕ} (z : Sized text roles offsets values sizes types base₀) (start : ℕ) {base : ℕ}
-    (b : base ≡ begunAmong nodes (drop start roles)) where
-  abbrev items′ : List Item
-  items′ = itemsOf text roles offsets values
+    {text roles offsets values sizes : List ℕ} {types : ℕ} (q : Readable text roles offsets values sizes types)
+    {places : List ℕ} (p : places ≡ placesFrom nodes 0 roles) {start own : ℕ} (h : start ≤ length roles) (o : own ≡ begunAmong nodes (drop start roles)) where
+  abbrev items : List Item
+  items = itemsOf text roles offsets values
 
-  nodes-are : nodeCount (drop start items′) ≡ base
-  nodes-are = node-count (shown (z .readable) .marks .roled) start ∙ sym b
-
-  all-nodes : length sizes ≡ nodeCount items′
-  all-nodes = ap length (z .sizes-are) ∙ sizes-long items′
-
-  pub own-fits : base ≤ length sizes
-  own-fits = omega (arith, nodes-are, all-nodes, nodes-fewer items′ start)
-
-  pub own-sizes : Own text roles offsets values sizes types base start (take (length sizes - (length sizes - base)) (drop (length sizes - base) sizes))
-  own-sizes =
-      let k : ℕ = length sizes - base in
-      let l : length (drop k sizes) ≡ length sizes - k = length-drop k sizes in
-      let n : k ≡ nodeCount items′ - nodeCount (drop start items′) = omega (arith, nodes-are, all-nodes) in
-      let d : drop k sizes ≡ sizesOf (drop start items′) = rw n (ap (drop (nodeCount items′ - nodeCount (drop start items′))) (z .sizes-are) ∙ sym (sizes-drop items′ start)) in
-      let q = z .readable in
-      rw (take-all (length sizes - k) (drop k sizes) (omega arith)) (
+  pub start-stretch : Stretch roles (length places - own) (length places) start (length roles)
+  start-stretch =
       record {
-        readable = record {
-          small = q .small;
-          few-types = q .few-types;
-          few-tokens = q .few-tokens;
-          within-text = q .within-text;
-          nested = nested-drop k (q .nested);
-          offset-each = q .offset-each;
-          value-each = q .value-each;
-        };
-        sizes-are = d;
-        shorter = omega arith;
+        ordered = h;
+        inside = omega arith;
+        from-is = omega (arith, places-count nodes roles p, begun-split nodes roles start);
+        to-is = places-count nodes roles p ∙ sym (begun-all nodes roles {i = length roles} (omega arith));
       }
+
+  pub body-stretch : Stretch roles 0 (length places - own) 0 start
+  unfolding begunAmong
+  body-stretch =
+      record { ordered = omega arith; inside = h; from-is = refl; to-is = omega (arith, places-count nodes roles p, begun-split nodes roles start) }
+
+  pub stretches-fit : 2 * length (rowsBetween nodes types start (length roles) 0 items ++ rowsBetween nodes types 0 start own items) ≡ 8 * length places
+  unfolding begunAmong
+  stretches-fit =
+      let e = items-roled q in
+      let u : List ℕ = rowsBetween nodes types start (length roles) 0 items in
+      let v : List ℕ = rowsBetween nodes types 0 start own items in
+      omega (
+        arith,
+        length-append u v,
+        between-length e types start (length roles) 0 h,
+        between-length e types 0 start own (omega arith),
+        begun-all nodes roles {i = length roles} (omega arith),
+        places-count nodes roles p,
       )
 
-  pub base-is : base ≡ nodeCount (drop start items′)
-  base-is = sym nodes-are
+  pub stretches : rowsBetween nodes types start (length roles) 0 items ++ rowsBetween nodes types 0 start own items ≡ startAndBodies types start own items
+  stretches = let z : start - 0 ≡ start = omega arith in rw (← items-long q, z)
+
+-- what is prepared for all sections, for one
+index-within : (s : Section) {n : ℕ} → n ≤ mostOf s → indexOf s + n ≤ RECORDS
+index-within interfaces h = omega arith
+index-within signatures h = omega arith
+index-within classes h = omega arith
+index-within fields h = omega arith
+index-within methods h = omega arith
+index-within nodes h = omega arith
+
+pub sized-less :
+    {text roles offsets values sizes : List ℕ} {types base own : ℕ}
+    → Sized text roles offsets values sizes types base
+    → own ≤ base
+    → Sized text roles offsets values sizes types own
+sized-less z h = record { readable = z .readable; sizes-are = z .sizes-are; few-nodes = omega (arith, z .few-nodes) }
+
+module _ {roles index : List ℕ} {c : Counts} (x : IndexIs roles index) (k : Counted roles c) (w : Within c) where
+  pub part-within : (s : Section) → indexOf s + countIn c s ≤ length index
+  part-within s = omega (arith, x .long, index-within s (w .within s))
+
+  pub part-places : (s : Section) → take (indexOf s + countIn c s - indexOf s) (drop (indexOf s) index) ≡ placesFrom s 0 roles
+  part-places s =
+      let e : indexOf s + countIn c s - indexOf s ≡ countIn c s = omega arith in index-part x s (k .counts-are s) (index-within s (w .within s)) e
+
+  pub part-of : (s : Section) {first count : ℕ} → first ≡ indexOf s → count ≡ countIn c s → take (first + count - first) (drop first index) ≡ placesFrom s 0 roles
+  part-of s a b = rw (a, b) (part-places s)
+
+module _ {text roles offsets values index sizes : List ℕ} {types : ℕ} {c : Counts} (q : Prepared text roles offsets values index sizes types c) where
+  pub section-places : (s : Section) → take (indexOf s + countIn c s - indexOf s) (drop (indexOf s) index) ≡ placesFrom s 0 roles
+  section-places = part-places (q .indexed) (q .counted) (q .few-records)
+
+  pub section-within : (s : Section) → indexOf s + countIn c s ≤ length index
+  section-within = part-within (q .indexed) (q .counted) (q .few-records)
 
   -- the start's nodes are at most all
-  pub sized-start : length sizes ≤ base₀ → Sized text roles offsets values sizes types base
-  sized-start h = record { readable = z .readable; sizes-are = z .sizes-are; few-nodes = omega (arith, own-fits, z .few-nodes) }
+  pub own-fits : (start : ℕ) {own : ℕ} → own ≡ begunAmong nodes (drop start roles) → own ≤ length sizes
+  own-fits start e = omega (arith, nodes-few (q .sized) (section-places nodes), places-count nodes roles (section-places nodes), begun-split nodes roles start)
+
+  pub own-is : (start : ℕ) {own : ℕ} → own ≡ begunAmong nodes (drop start roles) → own ≡ nodeCount (drop start (itemsOf text roles offsets values))
+  own-is start e = e ∙ sym (node-count (items-roled (q .sized .readable)) start)
 
 -- the table of sizes
-nested-sizes : (es : List Item) → Nested (sizesOf es)
-unfolding sizesOf
-nested-sizes [] = nested-none
-nested-sizes (e ∷ es) = nested-sized (e .role) (sizesOf es) (nested-sizes es)
+module _ {text roles offsets values index : List ℕ} {start : ℕ} {c : Counts} (w : Writable text roles offsets values start c) (x : IndexIs roles index) where
+  pub tokens-roled : Roled roles (itemsOf text roles offsets values)
+  tokens-roled = items-shown text roles offsets values (w .tokens .offset-each) (w .tokens .value-each) .marks .roled
 
-pub table-part : (table : List ℕ) (n b : ℕ) → n ≡ b → n ≤ NODES → length table ≡ NODES → take (NODES - (NODES - n)) (drop (NODES - n) table) ≡ drop (NODES - b) table
-table-part table n b e h l = take-all (NODES - (NODES - n)) (drop (NODES - n) table) (omega (arith, length-drop (NODES - n) table)) ∙ rw e
+  -- the front of the table has them, the rest is not looked at
+  module _ (front rest : List ℕ) (e : front ≡ sizesOf (itemsOf text roles offsets values)) where
+    front-long : length front ≡ c .nodes
+    front-long = ap length e ∙ sizes-long tokens-roled ∙ sym (w .counted .counts-are nodes)
 
-module _ {text roles offsets values : List ℕ} {start : ℕ} (k : Tokens text roles offsets values start) where
-  pub tokens-shown : Shows text roles offsets values (itemsOf text roles offsets values)
-  tokens-shown = items-shown text roles offsets values (k .offset-each) (k .value-each)
+    pub front-is : take (c .nodes) (front ++ rest) ≡ sizesOf (itemsOf text roles offsets values)
+    front-is = take-at front rest (c .nodes) front-long ∙ e
 
-  pub sized-table :
-      (types : ℕ) (own : List ℕ)
+    pub front-within : c .nodes ≤ length (front ++ rest)
+    front-within = omega (arith, front-long, length-append front rest)
+
+  pub prepared :
+      {types : ℕ} {sizes : List ℕ}
       → types + 1 < WORD
-      → begunAmong nodes roles ≤ NODES
-      → own ≡ sizesOf (itemsOf text roles offsets values)
-      → Sized text roles offsets values own types (length own)
-  sized-table types own t b e =
-      let es : List Item = itemsOf text roles offsets values in
-      let n : length own ≤ NODES = omega (arith, ap length e, sizes-long es, node-count (tokens-shown .marks .roled) 0) in
+      → sizes ≡ sizesOf (itemsOf text roles offsets values)
+      → Prepared text roles offsets values index sizes types c
+  prepared {types} {sizes} t e =
+      let k = w .tokens in
+      let n : length sizes ≤ mostOf nodes = omega (arith, ap length e, sizes-long tokens-roled, w .counted .counts-are nodes, w .few-records .within nodes) in
       record {
-        readable = record {
-          small = k .small;
-          few-types = t;
-          few-tokens = k .few-tokens;
-          within-text = k .within-text;
-          nested = rw e (nested-sizes es);
-          offset-each = k .offset-each;
-          value-each = k .value-each;
+        sized = record {
+          readable = record {
+            small = k .small;
+            few-types = t;
+            few-tokens = k .few-tokens;
+            within-text = k .within-text;
+            nested = rw e (nested-sizes (itemsOf text roles offsets values));
+            offset-each = k .offset-each;
+            value-each = k .value-each;
+          };
+          sizes-are = e;
+          few-nodes = omega arith;
         };
-        sizes-are = e;
-        few-nodes = omega arith;
+        indexed = x;
+        counted = w .counted;
+        few-records = w .few-records;
       }

@@ -1,5 +1,7 @@
 pub mod WrittenLaws
+pub mod PlaceLaws
 pub mod SizeLaws
+pub mod RowLaws
 pub mod AppendLaws
 pub mod FileLaws
 pub mod SectionLaws

@@ -9,6 +9,7 @@ use Rattle.script.specs.declared.Section.{Section}
 use Rattle.script.specs.declared.Section.the-variants.{Interfaces as interfaces, Signatures as signatures, Classes as classes}
 use Rattle.script.specs.declared.Section.the-variants.{Fields as fields, Methods as methods, Nodes as nodes}
 use Rattle.script.specs.Section.{mostOf}
+use Rattle.bounds.specs.Places.{IndexIs}
 use Rattle.rows.specs.Rows.{Item, sizesOf, contentsWords, sectionsWords}
 use Rattle.row_words.specs.Items.{Small, WithinText, Readable, itemsOf}
 use Rattle.writer.specs.declared.Counts.{Counts}
@@ -52,6 +53,13 @@ pub record Sized (text roles offsets values sizes : List ℕ) (types base : ℕ)
   pub sizes-are : sizes ≡ sizesOf (itemsOf text roles offsets values)
   pub few-nodes : base + 1 + 2 * length sizes < WORD
 
+-- And all records are indexed and counted. The start's nodes are at most all.
+pub record Prepared (text roles offsets values index sizes : List ℕ) (types : ℕ) (c : Counts) : Type 0 where
+  pub sized : Sized text roles offsets values sizes types (length sizes)
+  pub indexed : IndexIs roles index
+  pub counted : Counted roles c
+  pub few-records : Within c
+
 -- The contents.
 unfoldable pub contentsOf : Counts → List ℕ
 contentsOf c = contentsWords (c .interfaces) (c .signatures) (c .classes) (c .fields) (c .methods) (c .nodes)
@@ -64,11 +72,14 @@ fileWords c start es = contentsOf c ++ sectionsWords (c .interfaces + c .classes
 abbrev pub allRows : Section → ℕ → ℕ → List Item → List ℕ
 allRows s types n es = rowsOf s types (length es) n es
 
--- The records of all sections but nodes, where the bodies' nodes are numbered from n on; and the nodes, the start's before the bodies'.
+-- The records of the sections whose rows have no node's number; with the methods, where the bodies' nodes are numbered from n on; and the nodes, the start's
+-- before the bodies'.
+abbrev pub plainRows : ℕ → List Item → List ℕ
+plainRows types es =
+    (allRows interfaces types 0 es ++ allRows signatures types 0 es) ++ (allRows classes types 0 es ++ allRows fields types 0 es)
+
 abbrev pub recordRows : ℕ → ℕ → List Item → List ℕ
-recordRows types n es =
-    ((allRows interfaces types n es ++ allRows signatures types n es) ++ (allRows classes types n es ++ allRows fields types n es))
-    ++ allRows methods types n es
+recordRows types n es = plainRows types es ++ allRows methods types n es
 
 abbrev pub startAndBodies : ℕ → ℕ → ℕ → List Item → List ℕ
 startAndBodies types start n es = rowsOf nodes types (length es - start) 0 (drop start es) ++ rowsOf nodes types start n es

@@ -1,23 +1,25 @@
-// The rows of a section, appended to the file in the order of the text.
+// The rows of a section, appended to the file in the order of the text: those of the records that begin at the tokens that `places` has.
 use crate::put::put_row;
-use crate::sizes::node_at;
-use row_words::begins;
 use row_words::row_at;
 use script::Section;
 ghost use mathlib.Core.Path.{_≡_};
 ghost use mathlib.Core.Bool.{true};
-ghost use Prim.Native.Nat.{_+_, _-_, _*_, _<_, _≤_};
-ghost use lib.ListN.{length, getD, drop};
+ghost use mathlib.Core.List.{List};
+ghost use Prim.Native.Nat.{ℕ, _+_, _-_, _*_, _<_, _≤_};
+ghost use lib.ListN.{length, getD, take, drop};
 ghost use Rattle.words.specs.Word.{WORD};
-ghost use Rattle.script.specs.declared.Section.the-variants.{Nodes as nodes};
+ghost use Rattle.script.specs.declared.Section.the-variants.{Methods as methods, Nodes as nodes-section};
 ghost use Rattle.grammar.specs.Faults.{beginsTest};
+ghost use Rattle.bounds.specs.Places.{placesFrom};
 ghost use Rattle.rows.specs.Rows.{sizesOf};
 ghost use Rattle.row_words.specs.Items.{Readable, itemsOf};
+ghost use Rattle.row_words.specs.Row.{rowOf};
 ghost use Rattle.writer.specs.Written.{Appended};
-ghost use Rattle.writer.specs.Records.{rowIf, rowsOf};
+ghost use Rattle.writer.specs.Records.{Unnumbered, Stretch, begunAmong, rowsOf};
+ghost use Rattle.writer.specs.Counted.{Sized, allRows};
 
-// Appends the record that begins at token i, if one of the section does, and answers where the file ends then. The next node is node n, and the sizes of the
-// nodes behind it stand from `from` on.
+// Appends the record of a section that begins at token i, and answers where the file ends then. The next node is node n, and the sizes of the nodes behind it
+// stand from `from` on.
 fn append_row(
     text: &[u8],
     roles: &[u8],
@@ -33,23 +35,19 @@ fn append_row(
     at: usize,
 ) -> usize
     requires { ⌜ Readable (now text) (now roles) (now offsets) (now values) (now sizes) types × (i < length (now roles)) ⌝ }
-    requires { ⌜ (n + 1 + length (now sizes) < WORD) × (from ≤ WORD) ⌝ }
+    requires { ⌜ (n + 1 + length (now sizes) < WORD) × (from ≤ WORD) × (beginsTest section (getD (now roles) i 0) ≡ true) ⌝ }
     requires { ⌜
-        (section ≡ nodes → beginsTest nodes (getD (now roles) i 0) ≡ true →
+        (section ≡ nodes-section →
         drop from (now sizes) ≡ sizesOf (drop (i + 1) (itemsOf (now text) (now roles) (now offsets) (now values))))
         ⌝ }
     requires { ⌜
-        at + 2 * length (rowIf section types n (drop i (itemsOf (now text) (now roles) (now offsets) (now values)))) ≤ length (now file)
+        at + 2 * length (rowOf section types n (drop i (itemsOf (now text) (now roles) (now offsets) (now values)))) ≤ length (now file)
         ⌝ }
     ensures { λ r. ⌜
         Appended (now (file .entry)) at (now (file .exit)) r
-        (rowIf section types n (drop i (itemsOf (now (text .entry)) (now (roles .entry)) (now (offsets .entry)) (now (values .entry)))))
+        (rowOf section types n (drop i (itemsOf (now (text .entry)) (now (roles .entry)) (now (offsets .entry)) (now (values .entry)))))
         ⌝ }
 {
-    let role = roles[i];
-    if !begins(section, role) {
-        return at;
-    }
     let row = row_at(
         text,
         roles,
@@ -65,39 +63,31 @@ fn append_row(
     put_row(file, at, row)
 }
 
-// Appends the records of a section that begin from token `from` on before token `to`, and answers where the file ends then. The nodes from there on are
-// numbered from `base` on, and `sizes` are theirs.
-pub fn append_rows(
+// Appends a section whose rows have no node's number, and answers where the file ends then.
+pub fn append_plain(
     text: &[u8],
     roles: &[u8],
     offsets: &[u16],
     values: &[u16],
+    places: &[u16],
     sizes: &[u16],
     types: u16,
     section: Section,
-    from: usize,
-    to: usize,
-    base: usize,
     file: &mut [u8],
     at: usize,
 ) -> usize
-    requires { ⌜ Readable (now text) (now roles) (now offsets) (now values) (now sizes) types × (from ≤ to) × (to ≤ length (now roles)) ⌝ }
-    requires { ⌜ base + 1 + 2 * length (now sizes) < WORD ⌝ }
-    requires { ⌜ now sizes ≡ sizesOf (drop from (itemsOf (now text) (now roles) (now offsets) (now values))) ⌝ }
-    requires { ⌜
-        at + 2 * length (rowsOf section types (to - from) base (drop from (itemsOf (now text) (now roles) (now offsets) (now values)))) ≤ length (now file)
-        ⌝ }
+    requires { ⌜ Sized (now text) (now roles) (now offsets) (now values) (now sizes) types 0 ⌝ }
+    requires { ⌜ Unnumbered section × (now places ≡ placesFrom section 0 (now roles)) ⌝ }
+    requires { ⌜ at + 2 * length (allRows section types 0 (itemsOf (now text) (now roles) (now offsets) (now values))) ≤ length (now file) ⌝ }
     ensures { λ r. ⌜
         Appended (now (file .entry)) at (now (file .exit)) r
-        (rowsOf section types (to - from) base
-        (drop from (itemsOf (now (text .entry)) (now (roles .entry)) (now (offsets .entry)) (now (values .entry)))))
+        (allRows section types 0 (itemsOf (now (text .entry)) (now (roles .entry)) (now (offsets .entry)) (now (values .entry))))
         ⌝ }
 {
-    let mut i = from;
-    let mut count = 0;
+    let mut k = 0;
     let mut end = at;
-    while i < to {
-        let n = base + count;
+    while k < places.len() {
+        let i = places[k] as usize;
         end = append_row(
             text,
             roles,
@@ -107,13 +97,127 @@ pub fn append_rows(
             types,
             section,
             i,
-            count + 1,
+            0,
+            0,
+            file,
+            end,
+        );
+        k += 1;
+    }
+    end
+}
+
+// How many nodes begin before token i, of which `from` are known.
+fn nodes_before(nodes: &[u16], from: usize, i: usize) -> usize
+    ensures { λ r. ⌜
+        ((roles : List ℕ) → now (nodes .entry) ≡ placesFrom nodes-section 0 roles → from ≤ begunAmong nodes-section (take i roles) →
+        r ≡ begunAmong nodes-section (take i roles))
+        ⌝ }
+{
+    let mut p = from;
+    while p < nodes.len() {
+        if i <= nodes[p] as usize {
+            return p;
+        }
+        p += 1;
+    }
+    p
+}
+
+// Appends the methods, where the bodies' nodes, which begin at the tokens that `nodes` has, are numbered from `base` on.
+pub fn append_methods(
+    text: &[u8],
+    roles: &[u8],
+    offsets: &[u16],
+    values: &[u16],
+    places: &[u16],
+    nodes: &[u16],
+    sizes: &[u16],
+    types: u16,
+    base: usize,
+    file: &mut [u8],
+    at: usize,
+) -> usize
+    requires { ⌜ Sized (now text) (now roles) (now offsets) (now values) (now sizes) types base ⌝ }
+    requires { ⌜ (now places ≡ placesFrom methods 0 (now roles)) × (now nodes ≡ placesFrom nodes-section 0 (now roles)) ⌝ }
+    requires { ⌜ at + 2 * length (allRows methods types base (itemsOf (now text) (now roles) (now offsets) (now values))) ≤ length (now file) ⌝ }
+    ensures { λ r. ⌜
+        Appended (now (file .entry)) at (now (file .exit)) r
+        (allRows methods types base (itemsOf (now (text .entry)) (now (roles .entry)) (now (offsets .entry)) (now (values .entry))))
+        ⌝ }
+{
+    let mut k = 0;
+    let mut end = at;
+    let mut p = 0;
+    while k < places.len() {
+        let i = places[k] as usize;
+        p = nodes_before(nodes, p, i);
+        let n = base + p;
+        end = append_row(
+            text,
+            roles,
+            offsets,
+            values,
+            sizes,
+            types,
+            Section::Methods,
+            i,
+            0,
             n as u16,
             file,
             end,
         );
-        count += node_at(roles[i]);
-        i += 1;
+        k += 1;
+    }
+    end
+}
+
+// Appends the nodes that have the numbers from `from` on before `to` in the order of the text, and numbers them from `base` on.
+pub fn append_nodes(
+    text: &[u8],
+    roles: &[u8],
+    offsets: &[u16],
+    values: &[u16],
+    places: &[u16],
+    sizes: &[u16],
+    types: u16,
+    from: usize,
+    to: usize,
+    base: usize,
+    file: &mut [u8],
+    at: usize,
+) -> usize
+    requires { ⌜ Sized (now text) (now roles) (now offsets) (now values) (now sizes) types base ⌝ }
+    requires { ⌜ (now places ≡ placesFrom nodes-section 0 (now roles)) × (from ≤ to) × (to ≤ length (now places)) ⌝ }
+    requires { ⌜ at + 8 * (to - from) ≤ length (now file) ⌝ }
+    ensures { λ r. ⌜
+        ((a b : ℕ) → Stretch (now (roles .entry)) from to a b →
+        Appended (now (file .entry)) at (now (file .exit)) r
+        (rowsOf nodes-section types (b - a) base
+        (drop a (itemsOf (now (text .entry)) (now (roles .entry)) (now (offsets .entry)) (now (values .entry))))))
+        ⌝ }
+    ensures { λ r. ⌜ r ≡ at + 8 * (to - from) ⌝ }
+{
+    let mut k = from;
+    let mut end = at;
+    while k < to {
+        let i = places[k] as usize;
+        let n = base + (k - from);
+        end = append_row(
+            text,
+            roles,
+            offsets,
+            values,
+            sizes,
+            types,
+            Section::Nodes,
+            i,
+            k + 1,
+            n as u16,
+            file,
+            end,
+        );
+        k += 1;
     }
     end
 }

@@ -1,25 +1,30 @@
 // The file: contents, then each section, in the file's order.
 use crate::Counts;
-use crate::append::append_rows;
+use crate::append::append_methods;
+use crate::append::append_nodes;
+use crate::append::append_plain;
 use crate::put::put_row;
 use crate::sizes::count_nodes;
 use crate::sizes::fill_sizes;
+use bounds::Index;
 use limits::Limits;
 use row_words::Row;
 use script::Section;
 use slices::clear;
 ghost use mathlib.Core.Path.{_≡_};
 ghost use mathlib.Core.List.{_++_};
-ghost use Prim.Native.Nat.{_+_, _-_, _*_, _<_, _≤_};
+ghost use Prim.Native.Nat.{ℕ, _+_, _*_, _<_, _≤_};
 ghost use lib.ListN.{length, take, drop};
 ghost use Rattle.words.specs.Word.{WORD};
-ghost use Rattle.limits.specs.Limits.{INTERFACES, SIGNATURES, CLASSES, FIELDS, METHODS, NODES, CONTENTS, FILE};
+ghost use Rattle.limits.specs.Limits.{INTERFACES, SIGNATURES, CLASSES, FIELDS, METHODS, CONTENTS, FILE};
 ghost use Rattle.script.specs.declared.Section.the-variants.{Nodes as nodes-section};
+ghost use Rattle.bounds.specs.Places.{placesFrom, indexOf, IndexIs};
 ghost use Rattle.rows.specs.Rows.{contentsWords, sectionsWords};
 ghost use Rattle.row_words.specs.Items.{itemsOf};
 ghost use Rattle.writer.specs.Written.{written, Appended};
-ghost use Rattle.writer.specs.Records.{begunAmong};
-ghost use Rattle.writer.specs.Counted.{Within, Tokens, Writable, Sized, FileIs, contentsOf, fileWords, allRows, recordRows, startAndBodies};
+ghost use Rattle.writer.specs.Records.{begunAmong, Unnumbered};
+ghost use Rattle.writer.specs.Counted.{Within, Writable, Sized, Prepared, FileIs, countIn, contentsOf, fileWords};
+ghost use Rattle.writer.specs.Counted.{allRows, plainRows, recordRows, startAndBodies};
 
 // Puts the contents: for each section where its body begins, and how many records it has.
 fn put_contents(
@@ -49,205 +54,278 @@ fn put_contents(
     put_row(file, 16, Row::Four(methods_at, methods, nodes_at, nodes));
 }
 
-// Appends a section whose records may begin anywhere in the text, and answers where the file ends then.
-fn append_all(
+// Where the places of a section begin in the index.
+fn index_of(section: Section) -> usize
+    ensures { λ r. ⌜ r ≡ indexOf section ⌝ }
+{
+    match section {
+        Section::Interfaces => Index::INTERFACES,
+        Section::Signatures => Index::SIGNATURES,
+        Section::Classes => Index::CLASSES,
+        Section::Fields => Index::FIELDS,
+        Section::Methods => Index::METHODS,
+        Section::Nodes => Index::NODES,
+    }
+}
+
+// How many records a section has.
+fn count_of(c: Counts, section: Section) -> usize
+    ensures { λ r. ⌜ r ≡ countIn c section ⌝ }
+{
+    match section {
+        Section::Interfaces => c.interfaces,
+        Section::Signatures => c.signatures,
+        Section::Classes => c.classes,
+        Section::Fields => c.fields,
+        Section::Methods => c.methods,
+        Section::Nodes => c.nodes,
+    }
+}
+
+// Appends a section whose rows have no node's number, and answers where the file ends then.
+fn append_section(
     text: &[u8],
     roles: &[u8],
     offsets: &[u16],
     values: &[u16],
+    index: &[u16],
     sizes: &[u16],
     types: u16,
+    c: Counts,
     section: Section,
-    base: usize,
     file: &mut [u8],
     at: usize,
 ) -> usize
-    requires { ⌜ Sized (now text) (now roles) (now offsets) (now values) (now sizes) types base ⌝ }
-    requires { ⌜ at + 2 * length (allRows section types base (itemsOf (now text) (now roles) (now offsets) (now values))) ≤ length (now file) ⌝ }
+    requires { ⌜ Prepared (now text) (now roles) (now offsets) (now values) (now index) (now sizes) types c × Unnumbered section ⌝ }
+    requires { ⌜ at + 2 * length (allRows section types 0 (itemsOf (now text) (now roles) (now offsets) (now values))) ≤ length (now file) ⌝ }
     ensures { λ r. ⌜
         Appended (now (file .entry)) at (now (file .exit)) r
-        (allRows section types base (itemsOf (now (text .entry)) (now (roles .entry)) (now (offsets .entry)) (now (values .entry))))
+        (allRows section types 0 (itemsOf (now (text .entry)) (now (roles .entry)) (now (offsets .entry)) (now (values .entry))))
         ⌝ }
 {
-    append_rows(
+    let first = index_of(section);
+    let count = count_of(c, section);
+    let places = &index[first..first + count];
+    append_plain(
         text,
         roles,
         offsets,
         values,
+        places,
         sizes,
         types,
         section,
-        0,
-        roles.len(),
-        base,
         file,
         at,
     )
 }
 
-// Appends two sections, and answers where the file ends then.
+// Appends two such sections.
 fn append_two(
     text: &[u8],
     roles: &[u8],
     offsets: &[u16],
     values: &[u16],
+    index: &[u16],
     sizes: &[u16],
     types: u16,
+    c: Counts,
     first: Section,
     second: Section,
-    base: usize,
     file: &mut [u8],
     at: usize,
 ) -> usize
-    requires { ⌜ Sized (now text) (now roles) (now offsets) (now values) (now sizes) types base ⌝ }
+    requires { ⌜ Prepared (now text) (now roles) (now offsets) (now values) (now index) (now sizes) types c × Unnumbered first × Unnumbered second ⌝ }
     requires { ⌜
         at +
         2 *
         length
-        (allRows first types base (itemsOf (now text) (now roles) (now offsets) (now values))
-        ++ allRows second types base (itemsOf (now text) (now roles) (now offsets) (now values)))
+        (allRows first types 0 (itemsOf (now text) (now roles) (now offsets) (now values))
+        ++ allRows second types 0 (itemsOf (now text) (now roles) (now offsets) (now values)))
         ≤ length (now file)
         ⌝ }
     ensures { λ r. ⌜
         Appended (now (file .entry)) at (now (file .exit)) r
-        (allRows first types base (itemsOf (now (text .entry)) (now (roles .entry)) (now (offsets .entry)) (now (values .entry)))
-        ++ allRows second types base (itemsOf (now (text .entry)) (now (roles .entry)) (now (offsets .entry)) (now (values .entry))))
+        (allRows first types 0 (itemsOf (now (text .entry)) (now (roles .entry)) (now (offsets .entry)) (now (values .entry)))
+        ++ allRows second types 0 (itemsOf (now (text .entry)) (now (roles .entry)) (now (offsets .entry)) (now (values .entry))))
         ⌝ }
 {
-    let middle = append_all(
+    let middle = append_section(
         text,
         roles,
         offsets,
         values,
+        index,
         sizes,
         types,
+        c,
         first,
-        base,
         file,
         at,
     );
-    append_all(
+    append_section(
         text,
         roles,
         offsets,
         values,
+        index,
         sizes,
         types,
+        c,
         second,
-        base,
         file,
         middle,
     )
 }
 
-// Appends all sections but the nodes.
+// Appends all such sections.
+fn append_declared(
+    text: &[u8],
+    roles: &[u8],
+    offsets: &[u16],
+    values: &[u16],
+    index: &[u16],
+    sizes: &[u16],
+    types: u16,
+    c: Counts,
+    file: &mut [u8],
+    at: usize,
+) -> usize
+    requires { ⌜ Prepared (now text) (now roles) (now offsets) (now values) (now index) (now sizes) types c ⌝ }
+    requires { ⌜ at + 2 * length (plainRows types (itemsOf (now text) (now roles) (now offsets) (now values))) ≤ length (now file) ⌝ }
+    ensures { λ r. ⌜
+        Appended (now (file .entry)) at (now (file .exit)) r
+        (plainRows types (itemsOf (now (text .entry)) (now (roles .entry)) (now (offsets .entry)) (now (values .entry))))
+        ⌝ }
+{
+    let middle = append_two(
+        text,
+        roles,
+        offsets,
+        values,
+        index,
+        sizes,
+        types,
+        c,
+        Section::Interfaces,
+        Section::Signatures,
+        file,
+        at,
+    );
+    append_two(
+        text,
+        roles,
+        offsets,
+        values,
+        index,
+        sizes,
+        types,
+        c,
+        Section::Classes,
+        Section::Fields,
+        file,
+        middle,
+    )
+}
+
+// Appends all sections but the nodes, of which `own` are the start's.
 fn append_records(
     text: &[u8],
     roles: &[u8],
     offsets: &[u16],
     values: &[u16],
+    index: &[u16],
     sizes: &[u16],
     types: u16,
-    base: usize,
+    c: Counts,
+    own: usize,
     file: &mut [u8],
     at: usize,
 ) -> usize
-    requires { ⌜ Sized (now text) (now roles) (now offsets) (now values) (now sizes) types base ⌝ }
-    requires { ⌜ at + 2 * length (recordRows types base (itemsOf (now text) (now roles) (now offsets) (now values))) ≤ length (now file) ⌝ }
+    requires { ⌜ Prepared (now text) (now roles) (now offsets) (now values) (now index) (now sizes) types c × (own ≤ length (now sizes)) ⌝ }
+    requires { ⌜ at + 2 * length (recordRows types own (itemsOf (now text) (now roles) (now offsets) (now values))) ≤ length (now file) ⌝ }
     ensures { λ r. ⌜
         Appended (now (file .entry)) at (now (file .exit)) r
-        (recordRows types base (itemsOf (now (text .entry)) (now (roles .entry)) (now (offsets .entry)) (now (values .entry))))
+        (recordRows types own (itemsOf (now (text .entry)) (now (roles .entry)) (now (offsets .entry)) (now (values .entry))))
         ⌝ }
 {
-    let a = append_two(
+    let middle = append_declared(
         text,
         roles,
         offsets,
         values,
+        index,
         sizes,
         types,
-        Section::Interfaces,
-        Section::Signatures,
-        base,
+        c,
         file,
         at,
     );
-    let b = append_two(
+    let places = &index[Index::METHODS..Index::METHODS + c.methods];
+    let nodes = &index[Index::NODES..Index::NODES + c.nodes];
+    append_methods(
         text,
         roles,
         offsets,
         values,
+        places,
+        nodes,
         sizes,
         types,
-        Section::Classes,
-        Section::Fields,
-        base,
+        own,
         file,
-        a,
-    );
-    append_all(
-        text,
-        roles,
-        offsets,
-        values,
-        sizes,
-        types,
-        Section::Methods,
-        base,
-        file,
-        b,
+        middle,
     )
 }
 
-// Appends the nodes: the start's, `base` of them, from token `start` on, and then those of the bodies, which come before.
-fn append_nodes(
+// Appends the nodes: the start's, which are the last `own`, and then those of the bodies, which come before.
+fn append_expressions(
     text: &[u8],
     roles: &[u8],
     offsets: &[u16],
     values: &[u16],
+    places: &[u16],
     sizes: &[u16],
     types: u16,
-    start: usize,
-    base: usize,
+    own: usize,
     file: &mut [u8],
     at: usize,
 ) -> usize
-    requires { ⌜ Sized (now text) (now roles) (now offsets) (now values) (now sizes) types base ⌝ }
-    requires { ⌜ (start ≤ length (now roles)) × (base ≡ begunAmong nodes-section (drop start (now roles))) ⌝ }
-    requires { ⌜
-        at + 2 * length (startAndBodies types start base (itemsOf (now text) (now roles) (now offsets) (now values))) ≤ length (now file)
-        ⌝ }
+    requires { ⌜ Sized (now text) (now roles) (now offsets) (now values) (now sizes) types own ⌝ }
+    requires { ⌜ (now places ≡ placesFrom nodes-section 0 (now roles)) × (own ≤ length (now places)) ⌝ }
+    requires { ⌜ at + 8 * length (now places) ≤ length (now file) ⌝ }
     ensures { λ r. ⌜
+        ((start : ℕ) → start ≤ length (now (roles .entry)) → own ≡ begunAmong nodes-section (drop start (now (roles .entry))) →
         Appended (now (file .entry)) at (now (file .exit)) r
-        (startAndBodies types start base (itemsOf (now (text .entry)) (now (roles .entry)) (now (offsets .entry)) (now (values .entry))))
+        (startAndBodies types start own (itemsOf (now (text .entry)) (now (roles .entry)) (now (offsets .entry)) (now (values .entry)))))
         ⌝ }
 {
-    let own = &sizes[sizes.len() - base..];
-    let middle = append_rows(
+    let bodies = places.len() - own;
+    let middle = append_nodes(
         text,
         roles,
         offsets,
         values,
-        own,
+        places,
+        sizes,
         types,
-        Section::Nodes,
-        start,
-        roles.len(),
+        bodies,
+        places.len(),
         0,
         file,
         at,
     );
-    append_rows(
+    append_nodes(
         text,
         roles,
         offsets,
         values,
+        places,
         sizes,
         types,
-        Section::Nodes,
         0,
-        start,
-        base,
+        bodies,
+        own,
         file,
         middle,
     )
@@ -259,30 +337,45 @@ fn append_sections(
     roles: &[u8],
     offsets: &[u16],
     values: &[u16],
+    index: &[u16],
     sizes: &[u16],
     types: u16,
     start: usize,
+    c: Counts,
     file: &mut [u8],
     at: usize,
 ) -> usize
-    requires { ⌜ Sized (now text) (now roles) (now offsets) (now values) (now sizes) types (length (now sizes)) × (start ≤ length (now roles)) ⌝ }
+    requires { ⌜ Prepared (now text) (now roles) (now offsets) (now values) (now index) (now sizes) types c × (start ≤ length (now roles)) ⌝ }
     requires { ⌜ at + 2 * length (sectionsWords types start (itemsOf (now text) (now roles) (now offsets) (now values))) ≤ length (now file) ⌝ }
     ensures { λ r. ⌜
         Appended (now (file .entry)) at (now (file .exit)) r
         (sectionsWords types start (itemsOf (now (text .entry)) (now (roles .entry)) (now (offsets .entry)) (now (values .entry))))
         ⌝ }
 {
-    let base = count_nodes(roles, start);
-    let middle = append_records(text, roles, offsets, values, sizes, types, base, file, at);
-    append_nodes(
+    let own = count_nodes(roles, start);
+    let middle = append_records(
         text,
         roles,
         offsets,
         values,
+        index,
         sizes,
         types,
-        start,
-        base,
+        c,
+        own,
+        file,
+        at,
+    );
+    let places = &index[Index::NODES..Index::NODES + c.nodes];
+    append_expressions(
+        text,
+        roles,
+        offsets,
+        values,
+        places,
+        sizes,
+        types,
+        own,
         file,
         middle,
     )
@@ -310,19 +403,19 @@ fn put_counts(file: &mut [u8], c: Counts)
     );
 }
 
-// Writes all sections of a text with so many nodes, behind the contents, and answers where the file ends then.
+// Writes all sections of a text behind the contents, and answers where the file ends then.
 fn write_sections(
     text: &[u8],
     roles: &[u8],
     offsets: &[u16],
     values: &[u16],
+    index: &[u16],
     start: usize,
-    nodes: usize,
+    c: Counts,
     types: u16,
     file: &mut [u8],
 ) -> usize
-    requires { ⌜ Tokens (now text) (now roles) (now offsets) (now values) start × (types + 1 < WORD) ⌝ }
-    requires { ⌜ (nodes ≡ begunAmong nodes-section (now roles)) × (nodes ≤ NODES) ⌝ }
+    requires { ⌜ Writable (now text) (now roles) (now offsets) (now values) start c × IndexIs (now roles) (now index) × (types + 1 < WORD) ⌝ }
     requires { ⌜ CONTENTS + 2 * length (sectionsWords types start (itemsOf (now text) (now roles) (now offsets) (now values))) ≤ length (now file) ⌝ }
     ensures { λ r. ⌜
         Appended (now (file .entry)) CONTENTS (now (file .exit)) r
@@ -330,16 +423,19 @@ fn write_sections(
         ⌝ }
 {
     let mut table = [0u16; Limits::NODES];
-    fill_sizes(roles, &mut table);
-    let sizes = &table[Limits::NODES - nodes..];
+    let nodes = c.nodes;
+    let places = &index[Index::NODES..Index::NODES + nodes];
+    fill_sizes(roles, places, &mut table[..nodes]);
     append_sections(
         text,
         roles,
         offsets,
         values,
-        sizes,
+        index,
+        &table[..nodes],
         types,
         start,
+        c,
         file,
         Limits::CONTENTS,
     )
@@ -351,11 +447,12 @@ fn write_over(
     roles: &[u8],
     offsets: &[u16],
     values: &[u16],
+    index: &[u16],
     start: usize,
     c: Counts,
     file: &mut [u8],
 ) -> usize
-    requires { ⌜ Writable (now text) (now roles) (now offsets) (now values) start c × (length (now file) ≡ FILE) ⌝ }
+    requires { ⌜ Writable (now text) (now roles) (now offsets) (now values) start c × IndexIs (now roles) (now index) × (length (now file) ≡ FILE) ⌝ }
     ensures { λ r. ⌜
         Appended (now (file .entry)) 0 (now (file .exit)) r
         (fileWords c start (itemsOf (now (text .entry)) (now (roles .entry)) (now (offsets .entry)) (now (values .entry))))
@@ -363,26 +460,27 @@ fn write_over(
 {
     put_counts(file, c);
     let types = c.interfaces + c.classes;
-    let nodes = c.nodes;
     write_sections(
         text,
         roles,
         offsets,
         values,
+        index,
         start,
-        nodes,
+        c,
         types as u16,
         file,
     )
 }
 
-// Writes the script file of a text over the buffer, and answers its length. Of the roles, offsets and numbers of tokens the first n count, and `start` of the
-// tokens come before the start. What is behind the file is 0.
+// Writes the script file of a text over the buffer, and answers its length. Of the roles, offsets and numbers of tokens the first n count, the index has the
+// places of their records, and `start` of the tokens come before the start. What is behind the file is 0.
 pub fn write_file(
     text: &[u8],
     roles: &[u8],
     offsets: &[u16],
     values: &[u16],
+    index: &[u16],
     n: usize,
     start: usize,
     c: Counts,
@@ -390,6 +488,7 @@ pub fn write_file(
 ) -> usize
     requires { ⌜ (n ≤ length (now roles)) × (n ≤ length (now offsets)) × (n ≤ length (now values)) × (length (now file) ≡ FILE) ⌝ }
     requires { ⌜ Writable (now text) (take n (now roles)) (take n (now offsets)) (take n (now values)) start c ⌝ }
+    requires { ⌜ IndexIs (take n (now roles)) (now index) ⌝ }
     ensures { λ r. ⌜
         FileIs
         (fileWords c start
@@ -403,6 +502,7 @@ pub fn write_file(
         &roles[..n],
         &offsets[..n],
         &values[..n],
+        index,
         start,
         c,
         file,

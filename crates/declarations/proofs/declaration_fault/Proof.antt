@@ -1,19 +1,29 @@
 use native.Mathlib.Nat.{le-refl}
+use native.Mathlib.Omega.{arith}
+use Rattle.numbering.specs.declared.Sort.the-variants.{Declared, Types}
 use Rattle.numbering.proofs.NumberLaws.{held-of, room-still}
 use Rattle.declarations.proofs.Exact.{declared-again, declared-nowhere}
 use borrow.Author.Needs.{needs}
 use Rattle.declarations.proofs.declaration_fault.Statement.{statement}
 use Rattle.declarations.proofs.declaration_fault.Tie as tie
 
+number-names-requires : tie.Need-number-names-requires
+number-names-requires c κs = let pre = c .before .before .before .before .before .before .before .before .before .before .before .before .pre in (pre .0, (pre .1 .0, pre .1 .1 .each Declared))
+
+first-again-requires : tie.Need-first-again-requires
+first-again-requires c κs =
+    let pre = c .before .before .before .before .before .before .before .before .before .before .before .before .before .before .before .before .before .before .before .before .before .before .pre in
+    ((pre .0 .in-roles, omega (arith, pre .0 .in-values, c .before .before .before .before .before .before .before .before .before .number-names .kept .1 .1 .1 .1 .1 .1 .1 .0)), pre .1 .1 .each Declared)
+
 first-nowhere-requires : tie.Need-first-nowhere-requires
 first-nowhere-requires c κs =
-    let pre = c .before .before .before .before .before .before .before .before .before .before .before .before .before .before .before .before .before .before .before .before .before .before .before .before .before .before .pre in
+    let pre = c .before .before .before .before .before .before .before .before .before .before .before .before .before .before .before .before .before .before .before .before .before .before .before .before .before .before .before .pre in
     let number-names = c .before .before .before .before .before .before .before .before .before .before .before .before .before .before .number-names in
-    (room-still _ (le-refl _) (number-names .kept .1 .1 .1 .1 .1 .0) (number-names .kept .1 .1 .1 .1 .1 .1 .0) (number-names .kept .1 .1 .1 .1 .1 .1 .1 .0) (pre .0), held-of (number-names .ensures))
+    (room-still _ (le-refl _) (number-names .kept .1 .1 .1 .1 .1 .1 .1 .0) (number-names .kept .1 .1 .1 .1 .1 .1 .1 .1 .0) (number-names .kept .1 .1 .1 .1 .1 .1 .1 .1 .1 .0) (pre .0), (held-of (number-names .ensures), pre .1 .1 .each Types))
 
 returns : tie.Need-returns
 returns c =
-    let pre = c .before .before .before .before .before .before .before .before .before .before .before .before .before .before .before .before .before .before .before .before .before .before .before .before .before .before .before .before .before .before .pre in
+    let pre = c .before .before .before .before .before .before .before .before .before .before .before .before .before .before .before .before .before .before .before .before .before .before .before .before .before .before .before .before .before .before .before .pre in
     let number-names = c .before .before .before .before .before .before .before .before .before .before .before .before .before .before .before .before .before .before .number-names in
     let first-again = c .before .before .before .before .before .before .before .before .first-again in
     let first-nowhere = c .before .before .before .first-nowhere in
@@ -21,7 +31,7 @@ returns c =
 
 returns-2 : tie.Need-returns-2
 returns-2 c =
-    let pre = c .before .before .before .before .before .before .before .before .before .before .before .before .before .before .before .before .before .before .before .before .before .before .before .before .before .before .before .before .before .before .pre in
+    let pre = c .before .before .before .before .before .before .before .before .before .before .before .before .before .before .before .before .before .before .before .before .before .before .before .before .before .before .before .before .before .before .before .pre in
     let number-names = c .before .before .before .before .before .before .before .before .before .before .before .before .before .before .before .before .before .before .number-names in
     let first-again = c .before .before .before .before .before .before .before .before .first-again in
     let first-nowhere = c .before .before .before .first-nowhere in
@@ -31,8 +41,8 @@ pub declaration-fault-spec : {M : Type 1} → statement M
 declaration-fault-spec =
     tie.close
     (tie.spec
-    (λ c κs. search needs)
-    (λ c κs. search needs)
+    number-names-requires
+    first-again-requires
     first-nowhere-requires
     (λ c. search needs)
     (λ c. search needs)

@@ -1,59 +1,59 @@
-use Prim.Native.Nat.{_-_}
+use Prim.Native.Nat.{_-_, _<_}
+use mathlib.Core.Path.{_≡_}
+use mathlib.Core.Bool.{true}
 use native.Mathlib.Omega.{arith}
-use Rattle.declarations.proofs.Asking.{Counting, counting-none, counting-stop, counting-more, first-end}
+use lib.ListN.{getD}
+use Rattle.grammar.specs.Files.{declaredRole}
+use Rattle.numbering.proofs.Chains.{follows}
+use Rattle.declarations.proofs.Asking.{Counting, counting-first, counting-stop, counting-next, first-end}
 use Rattle.declarations.proofs.first_again.Statement.{statement}
 use Rattle.declarations.proofs.first_again.Tie as tie
 
 abbrev Inv-loop : tie.InvT-loop
-Inv-loop roles values n seen₀ i₀ seen i = Counting roles values n seen i
+Inv-loop roles values n chain first seen₀ i₀ seen i = Counting roles values n seen i × (i < n → declaredRole (getD roles i 0) ≡ true)
 
 abbrev μ-loop : tie.MeasureT-loop
-μ-loop roles values n seen₀ i₀ seen i = n - i
+μ-loop roles values n chain first seen₀ i₀ seen i = n - i
 
 loop-holds : tie.Need-loop-holds Inv-loop μ-loop
-loop-holds c = counting-none _ _ _
+loop-holds c = counting-first _ _ _ (c .before .before .before .pre .0 .0) (c .before .before .before .pre .1 .begins)
 
-shared-slice-read-is-again : tie.Need-shared-slice-read-is-again Inv-loop μ-loop
-shared-slice-read-is-again c = omega (arith, c .before .before .before .before .before .pre .1)
+mul-if1 : tie.Need-mul-if1 Inv-loop μ-loop
+mul-if1 c = omega (arith, c .before .before .before .before .before .pre .0 .1)
 
-mul-is-again : tie.Need-mul-is-again Inv-loop μ-loop
-mul-is-again c = omega (arith, c .before .before .before .before .before .pre .2)
+shared-slice-read-if1 : tie.Need-shared-slice-read-if1 Inv-loop μ-loop
+shared-slice-read-if1 c = omega (arith, c .before .before .before .before .before .before .pre .0 .1)
 
-shared-slice-read-is-again-2 : tie.Need-shared-slice-read-is-again-2 Inv-loop μ-loop
-shared-slice-read-is-again-2 c = omega (arith, c .before .before .before .before .before .before .pre .2)
-
-is-again-requires : tie.Need-is-again-requires Inv-loop μ-loop
-is-again-requires c κs = tt
+cast-if1 : tie.Need-cast-if1 Inv-loop μ-loop
+cast-if1 c = omega (arith, c .shared-slice-known4 .given (c .before .before .loop .i))
 
 returns : tie.Need-returns Inv-loop μ-loop
 returns c =
-    let loop = c .before .before .before .before .before .loop in
-    let loop-test = c .before .before .before .before .loop-test in
-    counting-stop _ _ _ _ _ (loop .inv) (loop-test .taken) _ (c .before .is-again .ensures) (c .if1 .taken)
+    let loop = c .before .before .before .loop in
+    let test = c .before .before .loop-test in
+    counting-stop _ _ _ (c .before .before .before .before .before .before .before .pre .0 .0) _ _ (loop .inv .0) (test .taken) (loop .inv .1 (test .taken)) (c .if1 .taken)
 
-shared-slice-read-seen-with : tie.Need-shared-slice-read-seen-with Inv-loop μ-loop
-shared-slice-read-seen-with c = omega (arith, c .before .before .before .before .before .before .before .before .before .pre .1)
+add-seen : tie.Need-add-seen Inv-loop μ-loop
+add-seen c = omega (arith, c .before .before .before .loop .inv .0 .fewer, c .before .before .loop-test .taken)
 
-seen-with-requires : tie.Need-seen-with-requires Inv-loop μ-loop
-seen-with-requires c κs =
-    let pre = c .before .before .before .before .before .before .before .before .before .pre in
-    let loop = c .before .before .before .before .before .before .loop in
-    let loop-test = c .before .before .before .before .before .loop-test in
-    omega (arith, pre .0, loop .inv .fewer, loop-test .taken)
+next-in-requires : tie.Need-next-in-requires Inv-loop μ-loop
+next-in-requires c κs = omega (arith, c .before .before .before .before .before .before .before .pre .1 .room, c .before .before .loop-test .taken)
 
-add-i : tie.Need-add-i Inv-loop μ-loop
-add-i c = omega (arith, c .before .before .before .before .before .before .before .before .before .before .pre .0)
+loop-less : tie.Need-loop-less Inv-loop μ-loop
+loop-less c =
+    let test = c .before .before .before .loop-test in
+    omega (arith, test .taken, follows (c .before .before .before .before .before .before .before .before .pre .1) (test .taken) (c .before .before .before .before .loop .inv .1 (test .taken)) (c .next-in .ensures) .reached)
 
 loop-again : tie.Need-loop-again Inv-loop μ-loop
 loop-again c =
-    let pre = c .before .before .before .before .before .before .before .before .before .before .pre in
-    let loop = c .before .before .before .before .before .before .before .loop in
-    let loop-test = c .before .before .before .before .before .before .loop-test in
-    let is-again = c .before .before .before .is-again in
-    counting-more _ _ _ _ _ (loop .inv) (loop-test .taken) _ (is-again .ensures) _ (pre .1) (c .before .before .if1 .left) (c .seen-with .ensures)
+    let pre = c .before .before .before .before .before .before .before .before .pre in
+    let loop = c .before .before .before .before .loop in
+    let test = c .before .before .before .loop-test in
+    let d = loop .inv .1 (test .taken) in
+    counting-next _ _ _ (pre .0 .0) _ _ (loop .inv .0) (test .taken) d (c .before .if1 .left) (follows (pre .1) (test .taken) d (c .next-in .ensures))
 
 returns-2 : tie.Need-returns-2 Inv-loop μ-loop
-returns-2 c = first-end _ _ (c .before .loop .inv .upto) (c .loop-test .left) (c .before .loop .inv .none-before)
+returns-2 c = let l = c .before .loop .inv .0 in first-end _ _ (l .upto) (c .loop-test .left) (l .none-before)
 
 pub first-again-spec : {M : Type 1} → statement M
 first-again-spec =
@@ -62,14 +62,12 @@ first-again-spec =
     Inv-loop
     μ-loop
     loop-holds
-    shared-slice-read-is-again
-    mul-is-again
-    shared-slice-read-is-again-2
-    is-again-requires
+    mul-if1
+    shared-slice-read-if1
+    cast-if1
     returns
-    shared-slice-read-seen-with
-    seen-with-requires
-    add-i
-    (λ c. omega arith)
+    add-seen
+    next-in-requires
+    loop-less
     loop-again
     returns-2)

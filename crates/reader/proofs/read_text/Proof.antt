@@ -1,5 +1,5 @@
-use borrow.Author.Needs.{needs}
 use Rattle.reader.proofs.JudgedLaws.{long-refused, buffer-refused}
+use borrow.Author.Needs.{needs}
 use Rattle.reader.proofs.read_text.Statement.{statement}
 use Rattle.reader.proofs.read_text.Tie as tie
 
@@ -21,9 +21,6 @@ read-text-spec =
     returns
     (λ c κs. search needs)
     returns-2
-    (λ c κs. search needs)
-    (λ c. search needs)
-    (λ c. search needs)
     (λ c κs. search needs)
     (λ c. search needs)
     (λ c. search needs))

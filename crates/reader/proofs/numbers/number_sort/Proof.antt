@@ -1,18 +1,16 @@
 use mathlib.Core.Path.{ap, _∙_}
-use borrow.Author.Needs.{needs}
 use lib.ListN.{replicate}
 use Rattle.spellings.proofs.TableLaws.{holds-none}
+use borrow.Author.Needs.{needs}
 use Rattle.reader.proofs.numbers.number_sort.Statement.{statement}
 use Rattle.reader.proofs.numbers.number_sort.Tie as tie
 
 number-names-requires : tie.Need-number-names-requires
-number-names-requires c κs =
-    let e = c .before .before .before .before .before .before .before .before .before .before .before .before .before .before .before .pre in
-    (e .0, holds-none _ _ _ _ (c .before .before .before .before .before .before .clear-heads .ensures ∙ ap (λ n. replicate n 0) (e .1)))
+number-names-requires c κs = (c .before .before .before .before .before .before .before .before .before .before .before .before .before .before .before .before .pre .0 .0, (holds-none _ _ _ _ (c .before .before .before .before .before .before .clear-heads .ensures ∙ ap (λ n. replicate n 0) (c .before .before .before .before .before .before .before .before .before .before .before .before .before .before .before .before .pre .0 .1)), c .before .before .before .before .before .before .before .before .before .before .before .before .before .before .before .before .pre .1))
 
 returns : tie.Need-returns
 returns c =
-    let k = c .before .before .before .before .before .before .before .before .number-names .kept .1 .1 .1 .1 .1 in
+    let k = c .before .before .before .before .before .before .before .before .number-names .kept .1 .1 .1 .1 .1 .1 .1 in
     record {
       values-are = c .before .before .before .before .before .before .before .before .number-names .ensures .values-are;
       values-long = k .0;

@@ -1,24 +1,18 @@
 use mathlib.Core.Path.{refl}
-use borrow.Author.Needs.{needs}
 use Rattle.reader.proofs.PassLaws.{in-roles, in-offsets}
 use Rattle.reader.proofs.WriteLaws.{in-values, writable, file-read}
+use borrow.Author.Needs.{needs}
 use Rattle.reader.proofs.passes.write.Statement.{statement}
 use Rattle.reader.proofs.passes.write.Tie as tie
 
 write-file-requires : tie.Need-write-file-requires
 write-file-requires c κs =
-    let j = c .before .before .before .before .before .before .before .pre in
-    ((in-roles (j .derived-text), in-offsets (j .derived-text), in-values j, j .whole), writable j (c .before .counts-of .ensures))
+    let j = c .before .before .before .before .before .before .before .before .pre in
+    ((in-roles (j .judged .derived-text), in-offsets (j .judged .derived-text), in-values j, j .judged .whole), (writable j (c .before .counts-of .ensures), j .indexed))
 
 returns : tie.Need-returns
-returns c = file-read (c .before .before .before .before .before .before .before .before .before .before .pre) _ (c .before .before .before .before .counts-of .ensures) (c .before .before .write-file .ensures) refl
+returns c = file-read (c .before .before .before .before .before .before .before .before .before .before .before .pre) _ (c .before .before .before .before .counts-of .ensures) (c .before .before .write-file .ensures) refl
 
 pub write-spec : {M : Type 1} → statement M
 write-spec =
-    tie.close
-    (tie.spec
-    (λ c κs. search needs)
-    write-file-requires
-    (λ c. search needs)
-    (λ c. search needs)
-    returns)
+    tie.close (tie.spec (λ c κs. search needs) write-file-requires (λ c. search needs) (λ c. search needs) returns)

@@ -3,7 +3,7 @@ use mathlib.Core.List.{_++_}
 use native.Mathlib.Omega.{arith}
 use lib.ListN.{length}
 use Rattle.limits.specs.Limits.{CONTENTS}
-use Rattle.script.specs.declared.Section.the-variants.{Interfaces as interfaces, Classes as classes, Nodes as nodes}
+use Rattle.script.specs.declared.Section.the-variants.{Interfaces as interfaces, Classes as classes}
 use Rattle.rows.specs.Rows.{sectionsWords}
 use Rattle.row_words.specs.Items.{itemsOf}
 use Rattle.writer.specs.Written.{Appended}
@@ -14,28 +14,27 @@ use borrow.Author.Needs.{needs}
 use Rattle.writer.proofs.file.write_over.Statement.{statement}
 use Rattle.writer.proofs.file.write_over.Tie as tie
 
-add-types : tie.Need-add-types
-add-types c =
-    let s = c .before .before .before .before .before .before .before .before .before .before in
-    omega (arith, s .pre .0 .few-records .within interfaces, s .pre .0 .few-records .within classes)
-
 cast-write-sections : tie.Need-cast-write-sections
-cast-write-sections c =
-    let s = c .before .before .before .before .before .before .before .before .before .before in
-    omega (arith, s .pre .0 .few-records .within interfaces, s .pre .0 .few-records .within classes)
+cast-write-sections c = let f = c .before .before .before .before .before .before .before .before .before .before .before .pre .0 .few-records in omega (arith, f .within interfaces, f .within classes)
+
+add-types : tie.Need-add-types
+add-types c = omega (arith, cast-write-sections c)
 
 write-sections-requires : tie.Need-write-sections-requires
 write-sections-requires c κs =
-    let s = c .before .before .before .before .before .before .before .before .before .before .before in
-    let w = s .pre .0 in ((w .tokens, omega (arith, s .pre .0 .few-records .within interfaces, s .pre .0 .few-records .within classes)), ((w .counted .counts-are nodes, w .few-records .within nodes), omega (arith, words-fit w, s .pre .1)))
+    let s = c .before .before .before .before .before .before .before .before .before .before .before .before in
+    let w = s .pre .0 in
+    let f = w .few-records in
+    ((w, s .pre .1, omega (arith, f .within interfaces, f .within classes)), omega (arith, words-fit w, s .pre .2))
 
 returns : tie.Need-returns
 returns c =
-    let a = c .before .before .before .before .before .before .before .before .before .before .before .before .before .before .args in
-    let w = c .before .before .before .before .before .before .before .before .before .before .before .before .before .before .pre .0 in
+    let s = c .before .before .before .before .before .before .before .before .before .before .before .before .before .before .before in
+    let a = s .args in
+    let w = s .pre .0 in
     let v = sectionsWords (a .c .interfaces + a .c .classes) (a .start) (itemsOf (a .text .now) (a .roles .now) (a .offsets .now) (a .values .now)) in
     let l = contents-long (a .c) in
-    let h : 0 + 2 * length (contentsOf (a .c) ++ v) ≤ length (a .file .now) = omega (arith, whole-fits w, c .before .before .before .before .before .before .before .before .before .before .before .before .before .before .pre .1) in
+    let h : 0 + 2 * length (contentsOf (a .c) ++ v) ≤ length (a .file .now) = omega (arith, whole-fits w, s .pre .2) in
     let p : Appended (a .file .now) 0 _ CONTENTS (contentsOf (a .c)) = record { file-is = c .before .before .before .before .before .before .before .put-counts .ensures; end-is = omega (arith, l) } in
     appended-both (a .file .now) 0 (contentsOf (a .c)) v h p (c .before .before .write-sections .ensures)
 

@@ -5,7 +5,7 @@ use borrow.Author.Needs.{needs}
 use lib.ListN.{length, drop}
 use Rattle.script.specs.declared.Section.the-variants.{Nodes as nodes}
 use Rattle.writer.specs.Records.{begunAmong}
-use Rattle.writer.proofs.SizeLaws.{begun-step, begun-end}
+use Rattle.writer.proofs.PlaceLaws.{begun-step, begun-end}
 use Rattle.writer.proofs.sizes.count_nodes.Statement.{statement}
 use Rattle.writer.proofs.sizes.count_nodes.Tie as tie
 

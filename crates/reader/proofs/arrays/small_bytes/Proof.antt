@@ -1,0 +1,11 @@
+use mathlib.Core.Path.{refl}
+use Rattle.reader.specs.Reading.{zeros}
+use Rattle.reader.proofs.arrays.small_bytes.Statement.{statement}
+use Rattle.reader.proofs.arrays.small_bytes.Tie as tie
+
+returns : tie.Need-returns
+unfolding zeros
+returns c = refl
+
+pub small-bytes-spec : {M : Type 1} → statement M
+small-bytes-spec = tie.close (tie.spec returns)

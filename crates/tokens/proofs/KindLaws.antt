@@ -1,0 +1,160 @@
+-- Tokens by the kinds of the bytes that begin them.
+use Prim.Native.Nat.{ℕ, zero, suc, _+_, _-_, _≤_, _<_}
+use native.Mathlib.Numerals.{add-one}
+use native.Mathlib.Omega.{arith}
+use mathlib.Core.Path.{_≡_, refl, sym, _∙_, ap}
+use mathlib.Core.Bool.{Bool, true, false, _||_}
+use mathlib.Core.List.{List, []}
+use lib.Dec.{leb}
+use borrow.Author.Tests.{ne-eqb, lt-leb}
+use lib.ListN.{length, getD, drop, set, replicate}
+use lib.Seq.{sets}
+use Rattle.script.proofs.Tests.{true-false}
+use Rattle.grammar.specs.Tokens.{blankTest, digitTest, letterTest, runTest}
+use Rattle.grammar.proofs.Splitting.{letter-from, digit-to, firstTest}
+use Rattle.tokens.specs.Runs.{byteRun}
+use Rattle.tokens.specs.Next.{NAME, DIGITS, tokenKind, Skipped, NextIs}
+use Rattle.tokens.specs.Words.{signLexeme, WordAt}
+use Rattle.tokens.specs.Kinds.{BLANK, kindBy, byteKind, kindsFrom, byteKinds, kindTest}
+use Rattle.tokens.proofs.RunLaws.{run-on}
+use Rattle.tokens.proofs.NameLaws.{digit-from}
+use Rattle.tokens.proofs.TokenLaws.{sign-within, first-on, at-digits, at-sign}
+
+-- The table has the kind of each byte.
+kind-at : (n b j : ℕ) → j < n → getD (kindsFrom n b) j 0 ≡ byteKind (b + j)
+unfolding kindsFrom
+kind-at zero b j h = absurd (omega arith)
+kind-at (suc n) b zero h = let e : b + 0 ≡ b = omega arith in rw e
+kind-at (suc n) b (suc j) h = let e : b + suc j ≡ b + 1 + j = omega arith in rw e (kind-at n (b + 1) j (omega arith))
+
+pub kind-there : (kinds : List ℕ) (b : ℕ) → kinds ≡ byteKinds → b < 256 → getD kinds b 0 ≡ byteKind b
+unfolding byteKinds
+kind-there kinds b t h = let e : 0 + b ≡ b = omega arith in rw (t, kind-at 256 0 b h, e)
+
+-- A range of the table, put one byte at a time.
+pub range-on :
+    (kinds : List ℕ) (b last kind : ℕ)
+    → b ≤ last
+    → sets (set kinds b kind) (b + 1) (replicate (last + 1 - (b + 1)) kind) ≡ sets kinds b (replicate (last + 1 - b) kind)
+range-on kinds b last kind h = let e : last + 1 - b ≡ suc (last + 1 - (b + 1)) = omega arith in rw (e, add-one b)
+
+pub range-done : (kinds : List ℕ) (b last kind : ℕ) → last < b → kinds ≡ sets kinds b (replicate (last + 1 - b) kind)
+range-done kinds b last kind h = let e : last + 1 - b ≡ 0 = omega arith in rw e
+
+-- The table with the first n ranges of a list put in.
+unfoldable pub rangedTo : List (List ℕ) → ℕ → List ℕ → List ℕ
+rangedTo ranges zero l = l
+rangedTo ranges (suc n) l =
+    let r = getD ranges n [] in sets (rangedTo ranges n l) (getD r 0 0) (replicate (getD r 1 0 + 1 - getD r 0 0) (getD r 2 0))
+
+pub ranged-more :
+    (ranges : List (List ℕ)) (n : ℕ) (l m : List ℕ)
+    → m ≡ rangedTo ranges n l
+    → sets m (getD (getD ranges n []) 0 0) (replicate (getD (getD ranges n []) 1 0 + 1 - getD (getD ranges n []) 0 0) (getD (getD ranges n []) 2 0))
+    ≡ rangedTo ranges (n + 1) l
+unfolding rangedTo
+ranged-more ranges n l m h = rw (add-one n, h)
+
+pub ranged-all : (ranges : List (List ℕ)) (n : ℕ) (l m : List ℕ) → m ≡ rangedTo ranges n l → n ≡ 18 → rangedTo ranges 18 l ≡ byteKinds → m ≡ byteKinds
+ranged-all ranges n l m h e t = h ∙ ap (λ (i : ℕ). rangedTo ranges i l) e ∙ t
+
+-- Blanks are of their kind, and nothing else is.
+no-blank : (b : ℕ) → 32 < b → blankTest b ≡ false
+no-blank b h = rw (ne-eqb b 9 (omega arith), ne-eqb b 10 (omega arith), ne-eqb b 13 (omega arith), ne-eqb b 32 (omega arith)) refl
+
+pub blank-kind : (b : ℕ) → byteKind b ≡ BLANK → blankTest b ≡ true
+unfolding byteKind
+blank-kind b e = go (letterTest b) (digitTest b) (blankTest b) e
+  where
+    go : (l d k : Bool) → kindBy l d k b ≡ BLANK → k ≡ true
+    go true d k h = absurd (omega arith)
+    go false true k h = absurd (omega arith)
+    go false false true h = refl
+    go false false false h = absurd (omega (arith, sign-within b .0))
+
+pub other-kind : (b : ℕ) → (byteKind b ≡ BLANK → ⊥) → blankTest b ≡ false
+unfolding byteKind
+other-kind b n = go (letterTest b) (digitTest b) (blankTest b) refl refl refl n
+  where
+    go : (l d k : Bool) → letterTest b ≡ l → digitTest b ≡ d → blankTest b ≡ k → (kindBy l d k b ≡ BLANK → ⊥) → blankTest b ≡ false
+    go true d k p q r m = no-blank b (omega (arith, letter-from b p))
+    go false true k p q r m = no-blank b (omega (arith, digit-from b q))
+    go false false true p q r m = absurd (m refl)
+    go false false false p q r m = r
+
+-- A word goes on with letters and digits, of a name's kind or a higher one, and digits go on with digits.
+abbrev runKind : Bool → ℕ
+runKind true = DIGITS
+runKind false = NAME
+
+run-kind : (d : Bool) (b : ℕ) → kindTest (runKind d) b ≡ runTest d b
+unfolding byteKind
+run-kind true b = go (letterTest b) (digitTest b) (blankTest b) refl refl
+  where
+    go : (l d k : Bool) → letterTest b ≡ l → digitTest b ≡ d → leb DIGITS (kindBy l d k b) ≡ d
+    go true true k p q = absurd (omega (arith, letter-from b p, digit-to b q))
+    go true false k p q = refl
+    go false true k p q = refl
+    go false false true p q = refl
+    go false false false p q = lt-leb DIGITS (tokenKind (signLexeme b)) (omega (arith, sign-within b .1))
+run-kind false b = go (letterTest b) (digitTest b) (blankTest b)
+  where
+    go : (l d k : Bool) → leb NAME (kindBy l d k b) ≡ (l || d)
+    go true d k = refl
+    go false true k = refl
+    go false false true = refl
+    go false false false = lt-leb NAME (tokenKind (signLexeme b)) (sign-within b .1)
+
+-- A byte behind blanks, and its kind.
+pub record KindAt (text : List ℕ) (at start kind : ℕ) : Type 0 where
+  pub skipped : Skipped text at start
+  pub inside : start < length text
+  pub is : kind ≡ byteKind (getD text start 0)
+
+-- The answers of `next_token` by that kind, and where a word ends.
+module _ (text : List ℕ) (at start kind : ℕ) (known : KindAt text at start kind) where
+  run-there :
+      (d : Bool) (end : ℕ)
+      → firstTest d (getD text start 0) ≡ true
+      → kind ≡ runKind d
+      → end ≡ start + 1 + length (byteRun (kindTest kind) (drop (start + 1) text))
+      → end ≡ start + length (byteRun (runTest d) (drop start text))
+  run-there d end e k m =
+      let t : kindTest kind ≡ runTest d = ap kindTest k ∙ (λ i b. run-kind d b i) in
+      omega (
+        arith,
+        m ∙ ap (λ (test : ℕ → Bool). start + 1 + length (byteRun test (drop (start + 1) text))) t,
+        ap length (run-on (runTest d) text start (known .inside) (first-on d (getD text start 0) e)),
+      )
+
+  pub of-sign : kind < NAME → NextIs text at (record { kind = kind; start = start; end = start + 1 })
+  unfolding byteKind
+  of-sign h = go (letterTest b) (digitTest b) (blankTest b) refl refl refl (known .is)
+    where
+      b : ℕ
+      b = getD text start 0
+
+      go : (l d k : Bool) → letterTest b ≡ l → digitTest b ≡ d → blankTest b ≡ k → kind ≡ kindBy l d k b → NextIs text at (record { kind = kind; start = start; end = start + 1 })
+      go true d k p q r e = absurd (omega arith)
+      go false true k p q r e = absurd (omega arith)
+      go false false true p q r e = absurd (true-false (sym r ∙ known .skipped .blankless (known .inside)))
+      go false false false p q r e = at-sign text at start (known .skipped) (known .inside) kind p q e
+
+  module _ (end : ℕ) (ends : end ≡ start + 1 + length (byteRun (kindTest kind) (drop (start + 1) text))) where
+    pub of-digits : kind ≡ DIGITS → NextIs text at (record { kind = kind; start = start; end = end })
+    of-digits k =
+        let e : digitTest (getD text start 0) ≡ true = sym (run-kind true (getD text start 0)) ∙ ap (leb DIGITS) (sym (known .is) ∙ k) in
+        rw k (at-digits text at start (known .skipped) (known .inside) end e (run-there true end e k ends))
+
+    pub word-there : NAME ≤ kind → (kind ≡ DIGITS → ⊥) → WordAt text start end
+    unfolding byteKind
+    word-there h n = go (letterTest b) (digitTest b) (blankTest b) refl (known .is)
+      where
+        b : ℕ
+        b = getD text start 0
+
+        go : (l d k : Bool) → letterTest b ≡ l → kind ≡ kindBy l d k b → WordAt text start end
+        go true d k p e = record { inside = known .inside; letter = p; ends = run-there false end p e ends }
+        go false true k p e = absurd (n e)
+        go false false true p e = absurd (omega arith)
+        go false false false p e = absurd (omega (arith, sign-within b .1))
