@@ -5,8 +5,7 @@ use mathlib.Core.List.{List, [], _∷_, _++_, map}
 use Prim.Native.Nat.{ℕ, zero, suc, _+_, _≤_, _<_}
 use native.Mathlib.Omega.{arith}
 use borrow.Author.Tests.{eq-eqb}
-use lib.ListN.{length, getD, take, drop, length-append, length-map, List·getD-append}
-use lib.Seq.{take-at}
+use lib.ListN.{length, getD, drop, length-append, length-map, List·getD-append}
 use Rattle.script.specs.declared.Section.{Section}
 use Rattle.script.specs.Lists.{Every}
 use Rattle.script.proofs.Tests.{true-false}
@@ -14,7 +13,7 @@ use Rattle.grammar.specs.Tokens.{Lexeme, fixed, name-token, digits-token, Token
 use Rattle.grammar.specs.Grammar.{Derivation, spelledText, Derives}
 use Rattle.grammar.specs.Roles.{R-INTEGER, R-NEGATIVE, rolesText}
 use Rattle.grammar.specs.Files.{spellingOf}
-use Rattle.grammar.specs.Faults.{markedBy, markedText}
+use Rattle.grammar.specs.Faults.{markedText}
 use Rattle.grammar.proofs.Splitting.{splits}
 use Rattle.tokens.specs.Runs.{digitsFrom}
 use Rattle.spelt.specs.Spelt.{digitsIn, Spelt}
@@ -119,9 +118,6 @@ module _
           negatives =
               λ i h e. digits-behind (rolesText d) (spelledText d) i (text-fits d) (omega (arith, all-roles)) (sym (role-at i (omega arith)) ∙ e) ∙ there (i + 1) h;
         }
-
-    pub marked-text : markedBy (take n roles) (spelledText d) ≡ markedText d
-    marked-text = ap (λ rs. markedBy rs (spelledText d)) (ap (take n) first-roles ∙ take-at (rolesText d) others n all-roles)
 
 -- The counts are those of the file's sections.
 pub counted-text :
