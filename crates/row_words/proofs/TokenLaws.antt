@@ -1,6 +1,7 @@
 -- Items by their roles and numbers.
 use mathlib.Core.Path.{_≡_, refl, sym, ap, _∙_}
-use mathlib.Core.Bool.{Bool, true, false}
+use mathlib.Core.Bool.{Bool, true, false, _||_}
+use mathlib.Core.Logic.{_⊎_, inl, inr}
 use mathlib.Core.List.{List, [], _∷_, map}
 use Prim.Native.Nat.{ℕ, zero, suc, _+_, _-_, _/_, _%_, _<_, _≤_}
 use native.Mathlib.Omega.{arith}
@@ -8,10 +9,13 @@ use native.Mathlib.Nat.{add-zero, not-suc-le-zero, le-of-suc-le-suc}
 use native.Mathlib.Numerals.{add-one}
 use lib.ListN.{length, getD, drop, length-map, List·getD-map, List·getD-eq-default, drop-of-length-le}
 use lib.Seq.{getD-drop, drop-cons, drop-drop}
-use lib.Dec.{leb}
+use lib.Dec.{eqb, leb}
 use borrow.Author.Tests.{eq-eqb, ne-eqb, leb-true}
 use Rattle.tokens.specs.Runs.{BEYOND, cappedBy, capped}
-use Rattle.rows.specs.Rows.{Item, noItem, rowItem, typeWord, variableWord, owned, hop, interfaceRow}
+use Rattle.grammar.specs.Roles.{R-INTERFACE, R-CLASS, R-SIGNATURE, R-FIELD, R-METHOD}
+use Rattle.rows.specs.Rows.{Item, noItem, rowItem, typeWord, variableWord, oneMore, owned, hop, interfaceRow}
+use Rattle.row_words.specs.declared.Members.{Members}
+use Rattle.row_words.specs.Row.{Owns}
 use Rattle.row_words.specs.Items.{Roled, Marks, Amounts, Shows, amountAt, itemsOf, ForRoles}
 
 -- one token's role and number
@@ -77,33 +81,64 @@ item-cons {roles} {es} e i h =
 pub role-here : {roles : List ℕ} {es : List Item} → Roled roles es → (i : ℕ) → rowItem es i .role ≡ getD roles i 0
 role-here {es = es} e i = sym (List·getD-map (λ (x : Item). x .role) es i noItem) ∙ rw (e .roles-are)
 
-module _ (r : ℕ) {roles : List ℕ} {es : List Item} (e : Roled roles es) (i : ℕ) where
-  pub owned-end : length roles ≤ i → owned r (drop i es) ≡ 0
+-- the tokens of a role are counted from token `from` on, and so many come before token i
+pub record Counting (roles : List ℕ) (from i role count : ℕ) : Type 0 where
+  pub bound : count + from ≤ i
+  pub rest : (es : List Item) → Roled roles es → count + owned role (drop i es) ≡ owned role (drop from es)
+
+pub counting-starts : {roles : List ℕ} {from role : ℕ} → Counting roles from from role 0
+counting-starts = record { bound = omega arith; rest = λ es e. omega arith }
+
+-- nothing is counted from token i on; or token i itself, if it has the role, and what is behind it
+abbrev pub Stops : List ℕ → ℕ → Type 0
+Stops roles i = (role : ℕ) (es : List Item) → Roled roles es → owned role (drop i es) ≡ 0
+
+abbrev pub GoesOn : List ℕ → ℕ → Type 0
+GoesOn roles i = (role : ℕ) (es : List Item) → Roled roles es → owned role (drop i es) ≡ oneMore (eqb (getD roles i 0) role) (owned role (drop (i + 1) es))
+
+module _ {roles : List ℕ} {i : ℕ} where
+  pub stops-at-end : length roles ≤ i → Stops roles i
   unfolding owned
-  owned-end h =
+  stops-at-end h role es e =
       let s : length es ≤ i = omega (arith, ap length (e .roles-are), length-map es (λ (x : Item). x .role)) in
       rw (drop-of-length-le es {i = i} s)
 
-  pub owned-interface : i < length roles → getD roles i 0 ≡ 1 → owned r (drop i es) ≡ 0
+  pub stops-at : i < length roles → {r : ℕ} → getD roles i 0 ≡ r → eqb r R-INTERFACE || eqb r R-CLASS ≡ true → Stops roles i
   unfolding owned
-  owned-interface h x = rw (item-cons e i h, role-here e i, x)
+  stops-at h p q role es e = rw (item-cons e i h, role-here e i, p, q)
 
-  pub owned-class : i < length roles → getD roles i 0 ≡ 2 → owned r (drop i es) ≡ 0
+  pub goes-on : i < length roles → (getD roles i 0 ≡ R-INTERFACE → ⊥) → (getD roles i 0 ≡ R-CLASS → ⊥) → GoesOn roles i
   unfolding owned
-  owned-class h x = rw (item-cons e i h, role-here e i, x)
+  goes-on h x y role es e = rw (item-cons e i h, role-here e i, ne-eqb _ _ x, ne-eqb _ _ y)
 
-  module _ (h : i < length roles) (x : getD roles i 0 ≡ 1 → ⊥) (y : getD roles i 0 ≡ 2 → ⊥) where
-    pub owned-one : getD roles i 0 ≡ r → owned r (drop i es) ≡ owned r (drop (i + 1) es) + 1
-    unfolding owned
-    owned-one z = rw (item-cons e i h, role-here e i, ne-eqb _ _ x, ne-eqb _ _ y, eq-eqb _ _ z)
+  -- A is known where token i has the role, B where it has not
+  pub counting-step :
+      {from role count next : ℕ} {A B : Type 0}
+      → GoesOn roles i
+      → Counting roles from i role count
+      → (A × (next ≡ count + 1)) ⊎ (B × (next ≡ count))
+      → (A → getD roles i 0 ≡ role)
+      → (B → getD roles i 0 ≡ role → ⊥)
+      → Counting roles from (i + 1) role next
+  counting-step {role = role} g n (inl w) has lacks =
+      record { bound = omega (arith, n .bound, w .1); rest = λ es e. omega (arith, n .rest es e, w .1, rw (eq-eqb _ _ (has (w .0))) at (g role es e)) }
+  counting-step {role = role} g n (inr w) has lacks =
+      record { bound = omega (arith, n .bound, w .1); rest = λ es e. omega (arith, n .rest es e, w .1, rw (ne-eqb _ _ (lacks (w .0))) at (g role es e)) }
 
-    pub owned-other : (getD roles i 0 ≡ r → ⊥) → owned r (drop i es) ≡ owned r (drop (i + 1) es)
-    unfolding owned
-    owned-other z = rw (item-cons e i h, role-here e i, ne-eqb _ _ x, ne-eqb _ _ y, ne-eqb _ _ z)
+-- the members from token `from` on are counted, up to token i
+pub record CountingMembers (roles : List ℕ) (from i : ℕ) (m : Members) : Type 0 where
+  pub inside : i ≤ length roles
+  pub signatures : Counting roles from i R-SIGNATURE (m .signatures)
+  pub fields : Counting roles from i R-FIELD (m .fields)
+  pub methods : Counting roles from i R-METHOD (m .methods)
 
--- an answer for the items from a token on, however far behind another it is
-pub for-roles : {roles : List ℕ} {i : ℕ} (P : List Item → Type 0) → ((es : List Item) → Roled roles es → P (drop i es)) → ForRoles roles i P
-for-roles P f es e j k h = rw (drop-drop, h) (f es e)
+pub all-members : {roles : List ℕ} {from i : ℕ} {m : Members} → CountingMembers roles from i m → Stops roles i → ForRoles roles from (Owns m)
+all-members n s es e j k h =
+    rw (drop-drop, h) (record {
+      signatures-are = omega (arith, n .signatures .rest es e, s R-SIGNATURE es e);
+      fields-are = omega (arith, n .fields .rest es e, s R-FIELD es e);
+      methods-are = omega (arith, n .methods .rest es e, s R-METHOD es e);
+    })
 
 -- one part is hopped over
 pub hop-part : (sizes : List ℕ) (at s parts j : ℕ) → s ≡ getD sizes at 0 → j < parts → hop (parts - j) (drop at sizes) ≡ s + hop (parts - (j + 1)) (drop (at + s) sizes)

@@ -1,12 +1,13 @@
 // What one token says: its role and number, a type's word, a variable's word. Past the last token every role and number is 0.
+use crate::Members;
 use crate::Roles;
 ghost use mathlib.Core.Path.{_≡_};
 ghost use Prim.Native.Nat.{_+_, _<_, _≤_};
-ghost use mathlib.Core.List.{List};
 ghost use lib.ListN.{length, getD, drop};
 ghost use Rattle.words.specs.Word.{WORD};
-ghost use Rattle.rows.specs.Rows.{Item, owned, hop, typeWord, variableWord};
+ghost use Rattle.rows.specs.Rows.{Item, hop, typeWord, variableWord};
 ghost use Rattle.row_words.specs.Items.{Small, ForRoles, ForToken};
+ghost use Rattle.row_words.specs.Row.{Owns};
 
 pub fn role_at(roles: &[u8], i: usize) -> u8
     ensures { λ r. ⌜ (r ≡ getD (now (roles .entry)) i 0) × (r < 256) ⌝ }
@@ -53,27 +54,39 @@ pub fn type_word(roles: &[u8], values: &[u16], types: u16, i: usize) -> u16
     value_at(values, i) + 1
 }
 
-// How many tokens of a role come from token `from` on before the next declaration.
-pub fn owned(roles: &[u8], from: usize, role: u8) -> u16
+// The members that come from token `from` on before the next declaration.
+pub fn owned(roles: &[u8], from: usize) -> Members
     requires { ⌜ (length (now roles) < from + WORD) × (from ≤ length (now roles)) ⌝ }
-    ensures { λ r. ⌜ ForRoles (now (roles .entry)) from (λ (es : List Item). r ≡ owned role es) ⌝ }
+    ensures { λ r. ⌜ ForRoles (now (roles .entry)) from (Owns r) ⌝ }
 {
-    let mut count: u16 = 0;
+    let mut signatures: u16 = 0;
+    let mut fields: u16 = 0;
+    let mut methods: u16 = 0;
     let mut i = from;
     while i < roles.len() {
         let here = roles[i];
         if here == Roles::INTERFACE {
-            return count;
+            break;
         }
         if here == Roles::CLASS {
-            return count;
+            break;
         }
-        if here == role {
-            count += 1;
+        if here == Roles::SIGNATURE {
+            signatures += 1;
+        }
+        if here == Roles::FIELD {
+            fields += 1;
+        }
+        if here == Roles::METHOD {
+            methods += 1;
         }
         i += 1;
     }
-    count
+    Members {
+        signatures,
+        fields,
+        methods,
+    }
 }
 
 // How many nodes so many expressions have together that follow each other from node `from` on.

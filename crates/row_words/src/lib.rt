@@ -90,6 +90,13 @@ pub fn agreed()
     ensures { λ r. do ⌜ (← ⟦Roles::OTHER⟧ .entry) ≡ B-OTHER ⌝ }
 {}
 
+// What a declaration owns: how many signatures, fields and methods come before the next one.
+pub struct Members {
+    pub signatures: u16,
+    pub fields: u16,
+    pub methods: u16,
+}
+
 // The words of a record.
 pub enum Row {
     Two(u16, u16),

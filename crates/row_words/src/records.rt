@@ -22,8 +22,8 @@ pub fn interface_row(roles: &[u8], values: &[u16], types: u16, i: usize) -> Row
         let b = type_word(roles, values, types, i + 5);
         return Row::Three(1, a, b);
     }
-    let signatures = owned(roles, i + 1, Roles::SIGNATURE);
-    Row::Three(0, signatures, 0)
+    let members = owned(roles, i + 1);
+    Row::Three(0, members.signatures, 0)
 }
 
 pub fn signature_row(roles: &[u8], values: &[u16], types: u16, i: usize) -> Row
@@ -41,9 +41,8 @@ pub fn class_row(roles: &[u8], values: &[u16], types: u16, i: usize) -> Row
     ensures { λ r. ⌜ ((es : List Item) → Marks (now (roles .entry)) (now (values .entry)) es → wordsOf r ≡ classRow types (drop i es)) ⌝ }
 {
     let interface = type_word(roles, values, types, i + 3);
-    let fields = owned(roles, i + 1, Roles::FIELD);
-    let methods = owned(roles, i + 1, Roles::METHOD);
-    Row::Three(interface, fields, methods)
+    let members = owned(roles, i + 1);
+    Row::Three(interface, members.fields, members.methods)
 }
 
 pub fn field_row(roles: &[u8], values: &[u16], types: u16, i: usize) -> Row

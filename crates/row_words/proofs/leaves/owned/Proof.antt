@@ -1,55 +1,41 @@
-use mathlib.Core.Path.{_≡_}
-use mathlib.Core.Logic.{⊎-elim}
-use mathlib.Core.List.{List}
-use Prim.Native.Nat.{_+_, _-_, _≤_}
+use Prim.Native.Nat.{_-_}
+use mathlib.Core.Path.{refl}
 use native.Mathlib.Omega.{arith}
-use lib.ListN.{length, drop}
-use Rattle.rows.specs.Rows.{Item, owned}
-use Rattle.row_words.specs.Items.{Roled}
-use Rattle.row_words.proofs.TokenLaws.{for-roles, owned-end, owned-interface, owned-class, owned-one, owned-other}
+use lib.ListN.{length}
+use Rattle.row_words.proofs.TokenLaws.{GoesOn, CountingMembers, counting-starts, goes-on, counting-step, stops-at, stops-at-end, all-members}
 use Rattle.row_words.proofs.leaves.owned.Statement.{statement}
 use Rattle.row_words.proofs.leaves.owned.Tie as tie
 
 abbrev Inv-loop : tie.InvT-loop
-Inv-loop roles from role count₀ i₀ count i =
-    (count + from ≤ i) × (i ≤ length roles)
-    × ((es : List Item) → Roled roles es → count + owned role (drop i es) ≡ owned role (drop from es))
+Inv-loop roles from signatures₀ fields₀ methods₀ i₀ signatures fields methods i =
+    CountingMembers roles from i (record { signatures = signatures; fields = fields; methods = methods })
 
 abbrev μ-loop : tie.MeasureT-loop
-μ-loop roles from role count₀ i₀ count i = length roles - i
+μ-loop roles from signatures₀ fields₀ methods₀ i₀ signatures fields methods i = length roles - i
 
 loop-holds : tie.Need-loop-holds Inv-loop μ-loop
-loop-holds c = (omega arith, omega arith, λ es e. omega arith)
-
-returns : tie.Need-returns Inv-loop μ-loop
-returns c =
-    let s = c .before .before .before .before in
-    for-roles (λ (es : List Item). c .before .before .before .loop .count ≡ owned (s .args .role) es) (λ es e. omega (arith, c .before .before .before .loop .inv .2 es e, owned-interface (s .args .role) e (c .before .before .before .loop .i) (omega arith) (c .if1 .taken)))
-
-returns-2 : tie.Need-returns-2 Inv-loop μ-loop
-returns-2 c =
-    let s = c .before .before .before .before .before in
-    for-roles (λ (es : List Item). c .before .before .before .before .loop .count ≡ owned (s .args .role) es) (λ es e. omega (arith, c .before .before .before .before .loop .inv .2 es e, owned-class (s .args .role) e (c .before .before .before .before .loop .i) (omega arith) (c .if2 .taken)))
+loop-holds c = record { inside = omega arith; signatures = counting-starts; fields = counting-starts; methods = counting-starts }
 
 loop-again : tie.Need-loop-again Inv-loop μ-loop
 loop-again c =
-    let l = c .before .before .before .before .before .loop in
-    let a = c .before .before .before .before .before .before .args in
-    ⊎-elim
-    (λ w. (
-      omega arith,
-      omega arith,
-      λ es e. omega (arith, l .inv .2 es e, owned-one (a .role) e (l .i) (omega arith) (c .before .before .if1 .left) (c .before .if2 .left) (w .0 .taken)),
-    ))
-    (λ w. (
-      omega arith,
-      omega arith,
-      λ es e. omega (arith, l .inv .2 es e, owned-other (a .role) e (l .i) (omega arith) (c .before .before .if1 .left) (c .before .if2 .left) (w .0 .left)),
-    ))
-    (c .if3 .came)
+    let t = c .before .before .before .before .before .before in
+    let n = t .before .loop .inv in
+    let g : GoesOn (t .before .before .args .roles .now) (t .before .loop .i) = goes-on (t .loop-test .taken) (c .before .before .before .before .if1 .left) (c .before .before .before .if2 .left) in
+    record {
+      inside = omega arith;
+      signatures = counting-step g (n .signatures) (c .before .before .if3 .came) (λ w. w .taken) (λ w. w .left);
+      fields = counting-step g (n .fields) (c .before .if4 .came) (λ w. w .taken) (λ w. w .left);
+      methods = counting-step g (n .methods) (c .if5 .came) (λ w. w .taken) (λ w. w .left);
+    }
+
+returns : tie.Need-returns Inv-loop μ-loop
+returns c = all-members (c .before .loop .inv) (stops-at-end (c .loop-test .left))
+
+returns-2 : tie.Need-returns-2 Inv-loop μ-loop
+returns-2 c = all-members (c .before .before .before .loop .inv) (stops-at (c .before .before .loop-test .taken) (c .if1 .taken) refl)
 
 returns-3 : tie.Need-returns-3 Inv-loop μ-loop
-returns-3 c = for-roles (λ (es : List Item). c .before .loop .count ≡ owned (c .before .before .args .role) es) (λ es e. omega (arith, c .before .loop .inv .2 es e, owned-end (c .before .before .args .role) e (c .before .loop .i) (omega arith)))
+returns-3 c = all-members (c .before .before .before .before .loop .inv) (stops-at (c .before .before .before .loop-test .taken) (c .if2 .taken) refl)
 
 pub owned-spec : {M : Type 1} → statement M
 owned-spec =
@@ -59,10 +45,12 @@ owned-spec =
     μ-loop
     loop-holds
     (λ c. omega arith)
-    returns
-    returns-2
+    (λ c. omega arith)
+    (λ c. omega arith)
     (λ c. omega arith)
     (λ c. omega arith)
     (λ c. omega arith)
     loop-again
+    returns
+    returns-2
     returns-3)

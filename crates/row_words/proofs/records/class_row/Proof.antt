@@ -8,15 +8,14 @@ use Rattle.row_words.proofs.records.class_row.Tie as tie
 returns : tie.Need-returns
 unfolding classRow
 returns c es m =
-    let s = c .before .before .before .before .before in
-    three-are (c .before .before .type-word .ensures es m (s .args .i) 3 refl) (c .before .owned .ensures es (m .roled) (s .args .i) 1 refl) (c .owned2 .ensures es (m .roled) (s .args .i) 1 refl)
+    let s = c .before .before .before .before in
+    let o = c .owned .ensures es (m .roled) (s .args .i) 1 refl in
+    three-are (c .before .type-word .ensures es m (s .args .i) 3 refl) (o .fields-are) (o .methods-are)
 
 pub class-row-spec : {M : Type 1} → statement M
 class-row-spec =
     tie.close
     (tie.spec
-    (λ c. search needs)
-    (λ c κs. search needs)
     (λ c. search needs)
     (λ c κs. search needs)
     (λ c. search needs)

@@ -13,7 +13,7 @@ returns c es m =
 returns-2 : tie.Need-returns-2
 returns-2 c es m =
     let s = c .before .before .before .before .before in
-    list-row _ (drop (s .args .i) es) (λ h. c .before .if1 .left (c .before .before .role-at .ensures .0 ∙ sym (role-in (m .roled) (s .args .i) 3 refl) ∙ h)) (c .owned .ensures es (m .roled) (s .args .i) 1 refl)
+    list-row _ (drop (s .args .i) es) (λ h. c .before .if1 .left (c .before .before .role-at .ensures .0 ∙ sym (role-in (m .roled) (s .args .i) 3 refl) ∙ h)) (c .owned .ensures es (m .roled) (s .args .i) 1 refl .signatures-are)
 
 pub interface-row-spec : {M : Type 1} → statement M
 interface-row-spec =
