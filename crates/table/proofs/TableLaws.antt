@@ -210,19 +210,7 @@ plain-turn e h =
     let low : e < 32768 = ltb-true e 32768 (and-right (eqb (e / 64 % 16) GO) (ltb e 32768) h) in
     turns-same (unpacked e) (turnOf GO (e % 64) (e / 1024)) refl (omega arith) d (omega arith) (omega arith) (omega arith)
 
--- The table with the first n rules of the code's list put in.
-unfoldable pub ruledTo : List (List ℕ) → ℕ → List ℕ → List ℕ
-ruledTo rs zero l = l
-ruledTo rs (suc n) l =
-    let e = getD (getD rs (n / 4) []) (n % 4) 0 in set (ruledTo rs n l) (e / 67108864 % 2048) (e % 67108864)
-
-pub ruled-more :
-    (rs : List (List ℕ)) (n : ℕ) (l m : List ℕ)
-    → m ≡ ruledTo rs n l
-    → set m (getD (getD rs (n / 4) []) (n % 4) 0 / 67108864 % 2048) (getD (getD rs (n / 4) []) (n % 4) 0 % 67108864) ≡ ruledTo rs (n + 1) l
-unfolding ruledTo
-ruled-more rs n l m h = rw (add-one n, h)
-
+-- One kind more is left to the innermost closer.
 pub closed-more :
     (k : ℕ) (l m : List ℕ)
     → m ≡ closedTo k l
@@ -230,11 +218,42 @@ pub closed-more :
 unfolding closedTo
 closed-more k l m h = rw (add-one k, h)
 
+-- Every place of the code's list is one of the table.
+abbrev lowTest : List ℕ → Bool
+lowTest [] = true
+lowTest (p ∷ ps) = ltb p 2048 && lowTest ps
+
+low-place : (ps : List ℕ) (n : ℕ) → lowTest ps ≡ true → getD ps n 0 < 2048
+low-place [] n h = omega arith
+low-place (p ∷ ps) zero h = below-and p 2048 (lowTest ps) h .0
+low-place (p ∷ ps) (suc n) h = low-place ps n (below-and p 2048 (lowTest ps) h .1)
+
+-- The table with the first n rules of the code's lists put in; the next one has a place in it.
+unfoldable pub ruledTo : (ps es : List ℕ) → ℕ → List ℕ → List ℕ
+ruledTo ps es zero l = l
+ruledTo ps es (suc n) l = set (ruledTo ps es n l) (getD ps n 0) (getD es n 0)
+
+pub record Ruled (ps es : List ℕ) (n : ℕ) (l m : List ℕ) : Type 0 where
+  pub next-low : getD ps n 0 < 2048
+  pub is : m ≡ ruledTo ps es n l
+
+pub ruled-none : (ps es l : List ℕ) → lowTest ps ≡ true → Ruled ps es 0 l l
+unfolding ruledTo
+ruled-none ps es l h = record { next-low = low-place ps 0 h; is = refl }
+
+pub ruled-more :
+    (ps es : List ℕ) (n : ℕ) (l m : List ℕ)
+    → lowTest ps ≡ true
+    → Ruled ps es n l m
+    → Ruled ps es (n + 1) l (set m (getD ps n 0) (getD es n 0))
+unfolding ruledTo
+ruled-more ps es n l m h r = record { next-low = low-place ps (n + 1) h; is = rw (add-one n, r .is) }
+
 pub ruled-all :
-    (rs : List (List ℕ)) (n : ℕ) (l m : List ℕ)
-    → m ≡ ruledTo rs n l
-    → n ≡ 120
+    (ps es : List ℕ) (n : ℕ) (l m : List ℕ)
+    → Ruled ps es n l m
+    → n ≡ 117
     → l ≡ closedTo 32 (replicate 2048 0)
-    → ruledTo rs 120 (closedTo 32 (replicate 2048 0)) ≡ entries
+    → ruledTo ps es 117 (closedTo 32 (replicate 2048 0)) ≡ entries
     → m ≡ entries
-ruled-all rs n l m h e p q = h ∙ ap (λ (i : ℕ). ruledTo rs i l) e ∙ ap (ruledTo rs 120) p ∙ q
+ruled-all ps es n l m r e p q = r .is ∙ ap (λ (i : ℕ). ruledTo ps es i l) e ∙ ap (ruledTo ps es 117) p ∙ q
