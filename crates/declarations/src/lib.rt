@@ -10,6 +10,7 @@ ghost use Prim.Native.Nat.{_+_, _≤_};
 ghost use lib.ListN.{length, getD};
 ghost use Rattle.grammar.specs.Tokens.{Spelling};
 ghost use Rattle.grammar.specs.Files.{declaredRole};
+ghost use Rattle.tokens.specs.Kinds.{byteKinds};
 ghost use Rattle.spellings.specs.Table.{Held, Holds};
 ghost use Rattle.numbering.specs.Numbers.{Tokens};
 ghost use Rattle.numbering.specs.Chains.{LinkedSort, ChainsAre};
@@ -35,6 +36,7 @@ fn first_again(roles: &[u8], values: &[u16], n: usize, chain: &[u16], first: usi
 
 // Gives token i, which names a type, the number of its declaration, or answers no.
 fn type_token(
+    kinds: &[u8; 256],
     text: &[u8],
     roles: &[u8],
     offsets: &[u16],
@@ -47,13 +49,13 @@ fn type_token(
 ) -> bool
     requires { ⌜ Tokens (now text) (now roles) (now offsets) (now values) (now firsts) (now links) (i + 1) ⌝ }
     requires { ⌜ Held (now text) (now firsts) (now links) (now heads) count ⌝ }
-    requires { ⌜ typeNamed (getD (now roles) i 0) ≡ true ⌝ }
+    requires { ⌜ (typeNamed (getD (now roles) i 0) ≡ true) × (now kinds ≡ byteKinds) ⌝ }
     ensures { λ r. ⌜
         ((names : List Spelling) → Holds (now (text .entry)) (now (firsts .entry)) (now (links .entry)) (now (heads .entry)) names → length names ≡ count
         → TypeAsked names (now (text .entry)) (now (roles .entry)) (now (offsets .entry)) (now (values .entry)) i (now (values .exit)) r)
         ⌝ }
 {
-    let e = spellings::find(text, firsts, links, heads, count, offsets[i]);
+    let e = spellings::find(kinds, text, firsts, links, heads, count, offsets[i]);
     if e < count {
         values[i] = e as u16;
         return true;
@@ -63,6 +65,7 @@ fn type_token(
 
 // The first of n tokens that names a type declared nowhere, or n. The table holds the declared names.
 fn first_nowhere(
+    kinds: &[u8; 256],
     text: &[u8],
     roles: &[u8],
     offsets: &[u16],
@@ -77,7 +80,7 @@ fn first_nowhere(
 ) -> usize
     requires { ⌜ Tokens (now text) (now roles) (now offsets) (now values) (now firsts) (now links) n ⌝ }
     requires { ⌜ Held (now text) (now firsts) (now links) (now heads) count ⌝ }
-    requires { ⌜ LinkedSort typeNamed (now roles) n (now chain) first ⌝ }
+    requires { ⌜ LinkedSort typeNamed (now roles) n (now chain) first × (now kinds ≡ byteKinds) ⌝ }
     ensures { λ r. ⌜
         ((names : List Spelling) → Holds (now (text .entry)) (now (firsts .entry)) (now (links .entry)) (now (heads .entry)) names → length names ≡ count
         → TypesAsked names (now (text .entry)) (now (roles .entry)) (now (offsets .entry)) (now (values .entry)) n (now (values .exit)) r)
@@ -85,7 +88,18 @@ fn first_nowhere(
 {
     let mut i = first;
     while i < n {
-        if !type_token(text, roles, offsets, i, values, firsts, links, heads, count) {
+        if !type_token(
+            kinds,
+            text,
+            roles,
+            offsets,
+            i,
+            values,
+            firsts,
+            links,
+            heads,
+            count,
+        ) {
             return i;
         }
         i = next_in(chain, i, n);
@@ -95,6 +109,7 @@ fn first_nowhere(
 
 // The first of n tokens at fault, or n. Then the declared names and the names of types have their values, and the table holds the declared names.
 pub fn declaration_fault(
+    kinds: &[u8; 256],
     text: &[u8],
     roles: &[u8],
     offsets: &[u16],
@@ -108,12 +123,13 @@ pub fn declaration_fault(
 ) -> usize
     requires { ⌜ Tokens (now text) (now roles) (now offsets) (now values) (now firsts) (now links) n ⌝ }
     requires { ⌜ Holds (now text) (now firsts) (now links) (now heads) [] ⌝ }
-    requires { ⌜ ChainsAre (now roles) n (now chain) f ⌝ }
+    requires { ⌜ ChainsAre (now roles) n (now chain) f × (now kinds ≡ byteKinds) ⌝ }
     ensures { λ r. ⌜
         Declarations (now (text .entry)) (now (roles .entry)) (now (offsets .entry)) (now (values .entry)) n (now (values .exit)) r
         ⌝ }
 {
     let count = number_names(
+        kinds,
         text,
         roles,
         offsets,
@@ -128,6 +144,7 @@ pub fn declaration_fault(
     );
     let again = first_again(roles, values, n, chain, f.declared);
     let nowhere = first_nowhere(
+        kinds,
         text,
         roles,
         offsets,

@@ -6,7 +6,6 @@ use table::fill_table;
 use table::is_plain;
 use table::turn_at;
 use tokens::Next;
-use tokens::byte_kinds;
 use tokens::next_token;
 use turns::is_own;
 use turns::parameter_after;
@@ -19,9 +18,11 @@ use turns::visible_after;
 ghost use mathlib.Core.Path.{_≡_};
 ghost use mathlib.Core.Bool.{false};
 ghost use Prim.Native.Nat.{_+_, _<_, _≤_};
-ghost use lib.ListN.{length, set};
+ghost use lib.ListN.{length, drop, set};
 ghost use Rattle.limits.specs.Limits.{TEXT};
 ghost use Rattle.tokens.specs.Kinds.{byteKinds};
+ghost use Rattle.tokens.specs.Next.{NAME};
+ghost use Rattle.tokens.specs.Runs.{wordFrom};
 ghost use Rattle.flat.specs.Flat.{POINTS};
 ghost use Rattle.table.specs.Table.{Tight, Plain, entries, unpacked};
 ghost use Rattle.judge.specs.Standing.{Advanced, Gone, EndedAs};
@@ -49,6 +50,7 @@ pub struct Standing {
 
 // Takes the turn m of token t.
 fn advance(
+    kinds: &[u8; 256],
     text: &[u8],
     roles: &mut [u8],
     offsets: &mut [u16],
@@ -59,11 +61,12 @@ fn advance(
     top: u8,
 ) -> Standing
     requires { ⌜ (s .tokens < length (now roles)) × (s .tokens < length (now offsets)) × (s .depth < length (now closers)) × Tight (t .kind) m ⌝ }
-    requires { ⌜ (s .parameter ≤ length (now text)) × (t .start < length (now text)) × (length (now text) ≤ TEXT) ⌝ }
+    requires { ⌜ (s .parameter ≤ length (now text)) × (t .start < length (now text)) × (length (now text) ≤ TEXT) × (now kinds ≡ byteKinds) ⌝ }
+    requires { ⌜ (t .kind ≡ NAME → t .start + length (wordFrom (drop (t .start) (now text))) ≡ t .end) ⌝ }
     ensures { λ r. ⌜ Advanced (now (text .entry)) s t m top (now (roles .entry)) (now (closers .entry)) r (now (roles .exit)) (now (closers .exit)) ⌝ }
     ensures { λ r. ⌜ now (offsets .exit) ≡ set (now (offsets .entry)) (s .tokens) (t .start) ⌝ }
 {
-    let own = is_own(text, t.kind, t.start, s.parameter, s.visible);
+    let own = is_own(kinds, text, t, s.parameter, s.visible);
     let n = s.tokens;
     put_role(roles, n, t.kind, m, own);
     offsets[n] = t.start as u16;
@@ -168,17 +171,22 @@ fn judge_by(
         if m.deed == flat::STUCK {
             return refused(t.start);
         }
-        s = advance(text, roles, offsets, closers, s, t, m, top);
+        s = advance(kinds, text, roles, offsets, closers, s, t, m, top);
     }
 }
 
 // Judges a text. Each of the arrays is at least as long as the text; what they held before does not count.
-pub fn judge(text: &[u8], roles: &mut [u8], offsets: &mut [u16], closers: &mut [u8]) -> Judged
-    requires { ⌜ Room (now text) (now roles) (now offsets) (now closers) ⌝ }
+pub fn judge(
+    kinds: &[u8; 256],
+    text: &[u8],
+    roles: &mut [u8],
+    offsets: &mut [u16],
+    closers: &mut [u8],
+) -> Judged
+    requires { ⌜ (now kinds ≡ byteKinds) × Room (now text) (now roles) (now offsets) (now closers) ⌝ }
     ensures { λ r. ⌜ JudgedText (now (text .entry)) (now (roles .entry)) (now (offsets .entry)) r (now (roles .exit)) (now (offsets .exit)) ⌝ }
 {
-    let kinds = byte_kinds();
     let mut entries = [0u32; 2048];
     fill_table(&mut entries);
-    judge_by(&kinds, &entries, text, roles, offsets, closers)
+    judge_by(kinds, &entries, text, roles, offsets, closers)
 }

@@ -6,6 +6,7 @@ ghost use Prim.Native.Nat.{_+_, _<_, _≤_};
 ghost use lib.Dec.{eqb};
 ghost use lib.ListN.{length, getD};
 ghost use Rattle.words.specs.Word.{WORD};
+ghost use Rattle.tokens.specs.Kinds.{byteKinds};
 ghost use Rattle.spellings.specs.Table.{Held, Holds};
 ghost use Rattle.numbering.specs.Numbers.{roleTest, chosenNumber, Tokens, NumberedTo, Numbers};
 ghost use Rattle.numbering.specs.Chains.{nextIn, LinkedSort, firstName, ChainsAre, SORTS, sortNumber, SortIs, HeadsFrom};
@@ -140,6 +141,7 @@ pub fn next_in(chain: &[u16], i: usize, n: usize) -> usize
 
 // Numbers token i, which is a name of the sort, where `count` names have come before, and answers how many then have.
 fn number_token(
+    kinds: &[u8; 256],
     text: &[u8],
     roles: &[u8],
     offsets: &[u16],
@@ -153,14 +155,14 @@ fn number_token(
 ) -> usize
     requires { ⌜ Tokens (now text) (now roles) (now offsets) (now values) (now firsts) (now links) (i + 1) ⌝ }
     requires { ⌜ Held (now text) (now firsts) (now links) (now heads) count × (count ≤ i) ⌝ }
-    requires { ⌜ roleTest sort (getD (now roles) i 0) ≡ true ⌝ }
+    requires { ⌜ (roleTest sort (getD (now roles) i 0) ≡ true) × (now kinds ≡ byteKinds) ⌝ }
     ensures { λ r. ⌜
         Numbers (roleTest sort) (now (text .entry)) (now (roles .entry)) (now (offsets .entry)) i
         (now (values .entry)) (now (firsts .entry)) (now (links .entry)) (now (heads .entry)) count
         (now (values .exit)) (now (firsts .exit)) (now (links .exit)) (now (heads .exit)) r
         ⌝ }
 {
-    let e = spellings::enter(text, firsts, links, heads, count, offsets[i]);
+    let e = spellings::enter(kinds, text, firsts, links, heads, count, offsets[i]);
     values[i] = e as u16;
     if e < count {
         return count;
@@ -170,6 +172,7 @@ fn number_token(
 
 // Numbers the names of a sort among the first n tokens by first appearance, and answers how many there are. The table is empty before, and then holds them.
 pub fn number_names(
+    kinds: &[u8; 256],
     text: &[u8],
     roles: &[u8],
     offsets: &[u16],
@@ -184,7 +187,7 @@ pub fn number_names(
 ) -> usize
     requires { ⌜ Tokens (now text) (now roles) (now offsets) (now values) (now firsts) (now links) n ⌝ }
     requires { ⌜ Holds (now text) (now firsts) (now links) (now heads) [] ⌝ }
-    requires { ⌜ LinkedSort (roleTest sort) (now roles) n (now chain) first ⌝ }
+    requires { ⌜ LinkedSort (roleTest sort) (now roles) n (now chain) first × (now kinds ≡ byteKinds) ⌝ }
     ensures { λ r. ⌜
         NumberedTo (roleTest sort) (now (text .entry)) (now (roles .entry)) (now (offsets .entry)) (now (values .entry)) n
         (now (values .exit)) (now (firsts .exit)) (now (links .exit)) (now (heads .exit)) r
@@ -194,6 +197,7 @@ pub fn number_names(
     let mut i = first;
     while i < n {
         count = number_token(
+            kinds,
             text,
             roles,
             offsets,

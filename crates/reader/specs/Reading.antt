@@ -15,6 +15,9 @@ pub record ReadAs (r : Read) (file : List ℕ) (t : TextRead) : Type 0 where
   pub file-is : file ≡ t .buffer
 
 -- Rooms of arrays, in bytes of a text or in tokens.
+abbrev pub TINY : ℕ
+TINY = 256
+
 abbrev pub SMALL : ℕ
 SMALL = 1024
 

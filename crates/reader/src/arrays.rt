@@ -1,8 +1,14 @@
-// Arrays of zeros, in the three lengths.
+// Arrays of zeros, in the lengths that there are.
 ghost use mathlib.Core.Path.{_≡_};
 ghost use Rattle.limits.specs.Limits.{TEXT};
 ghost use Rattle.tokens.specs.Runs.{HASHES};
-ghost use Rattle.reader.specs.Reading.{SMALL, MIDDLE, zeros};
+ghost use Rattle.reader.specs.Reading.{TINY, SMALL, MIDDLE, zeros};
+
+pub fn tiny_words() -> [u16; 256]
+    ensures { λ r. ⌜ r ≡ zeros TINY ⌝ }
+{
+    [0; 256]
+}
 
 pub fn small_bytes() -> [u8; 1024]
     ensures { λ r. ⌜ r ≡ zeros SMALL ⌝ }

@@ -20,8 +20,11 @@ ghost use Rattle.limits.specs.Limits.{FILE, TEXT};
 ghost use Rattle.grammar.specs.Read.{readOf};
 ghost use Rattle.reader.specs.Reading.{ReadAs, SMALL, MIDDLE};
 
-// Arrays have room for so many bytes of a text, or so many tokens: the first of these that is enough, or the longest text's. Clearing them takes time.
-const SMALL: usize = 1024;
+// Arrays have room for so many tokens, or for so many bytes of a text from the second length on: the first of these that is enough, or the longest text's.
+// Clearing them takes time.
+const TINY: usize = 256;
+
+const SMALL: usize = 4 * TINY;
 
 const MIDDLE: usize = 16 * SMALL;
 

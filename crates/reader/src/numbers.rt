@@ -4,6 +4,7 @@ use numbering::Sort;
 use numbering::number_names;
 ghost use mathlib.Core.Path.{_≡_};
 ghost use lib.ListN.{length, replicate};
+ghost use Rattle.tokens.specs.Kinds.{byteKinds};
 ghost use Rattle.tokens.specs.Runs.{HASHES};
 ghost use Rattle.numbering.specs.Chains.{ChainsAre, LinkedSort};
 ghost use Rattle.numbering.specs.Numbers.{roleTest, Tokens};
@@ -23,6 +24,7 @@ pub fn clear_heads(heads: &mut [u32])
 
 // Numbers the names of one sort among the first n tokens.
 fn number_sort(
+    kinds: &[u8; 256],
     text: &[u8],
     roles: &[u8],
     offsets: &[u16],
@@ -36,7 +38,7 @@ fn number_sort(
     heads: &mut [u32],
 )
     requires { ⌜ Tokens (now text) (now roles) (now offsets) (now values) (now firsts) (now links) n × (length (now heads) ≡ HASHES) ⌝ }
-    requires { ⌜ LinkedSort (roleTest sort) (now roles) n (now chain) first ⌝ }
+    requires { ⌜ LinkedSort (roleTest sort) (now roles) n (now chain) first × (now kinds ≡ byteKinds) ⌝ }
     ensures { λ r. ⌜
         SortNumbered (now (text .entry)) (now (roles .entry)) (now (offsets .entry)) n
         (now (values .entry)) (now (firsts .entry)) (now (links .entry)) (now (heads .entry))
@@ -46,6 +48,7 @@ fn number_sort(
 {
     clear_heads(heads);
     number_names(
+        kinds,
         text,
         roles,
         offsets,
@@ -62,6 +65,7 @@ fn number_sort(
 
 // Numbers the names of methods, of fields and of variables.
 pub fn number_rest(
+    kinds: &[u8; 256],
     text: &[u8],
     roles: &[u8],
     offsets: &[u16],
@@ -74,7 +78,7 @@ pub fn number_rest(
     heads: &mut [u32],
 )
     requires { ⌜ Tokens (now text) (now roles) (now offsets) (now values) (now firsts) (now links) n × (length (now heads) ≡ HASHES) ⌝ }
-    requires { ⌜ ChainsAre (now roles) n (now chain) f ⌝ }
+    requires { ⌜ ChainsAre (now roles) n (now chain) f × (now kinds ≡ byteKinds) ⌝ }
     ensures { λ r. ⌜
         now (values .exit)
         ≡ sortNumbered (roleTest Variables) (now (text .entry)) (now (roles .entry)) (now (offsets .entry)) n
@@ -83,6 +87,7 @@ pub fn number_rest(
         ⌝ }
 {
     number_sort(
+        kinds,
         text,
         roles,
         offsets,
@@ -96,6 +101,7 @@ pub fn number_rest(
         heads,
     );
     number_sort(
+        kinds,
         text,
         roles,
         offsets,
@@ -109,6 +115,7 @@ pub fn number_rest(
         heads,
     );
     number_sort(
+        kinds,
         text,
         roles,
         offsets,

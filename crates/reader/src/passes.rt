@@ -15,6 +15,7 @@ ghost use lib.ListN.{length, getD};
 ghost use Rattle.limits.specs.Limits.{TEXT};
 ghost use Rattle.grammar.specs.Read.{readOf};
 ghost use Rattle.script.specs.declared.Section.{Section};
+ghost use Rattle.tokens.specs.Kinds.{byteKinds};
 ghost use Rattle.bounds.specs.Counting.{countedOf};
 ghost use Rattle.writer.specs.Counted.{countIn};
 ghost use Rattle.reader.specs.Reading.{ReadAs};
@@ -95,6 +96,7 @@ fn write(
 
 // 36: "after 35, a table limit or the range of Int is passed"; else names are numbered.
 fn ask_limits(
+    kinds: &[u8; 256],
     text: &[u8],
     roles: &[u8],
     offsets: &[u16],
@@ -110,6 +112,7 @@ fn ask_limits(
 ) -> Read
     requires { ⌜
         DeclaredText (now text) (now roles) (now offsets) n start (now chain) f (now values) (now firsts) (now links) (now heads) (now file)
+        × (now kinds ≡ byteKinds)
         ⌝ }
     ensures { λ r. ⌜ ReadAs r (now (file .exit)) (readOf (now (text .entry)) (now (file .entry))) ⌝ }
 {
@@ -120,6 +123,7 @@ fn ask_limits(
         return refusal(36, offset_at(offsets, fault));
     }
     number_rest(
+        kinds,
         text,
         roles,
         offsets,
@@ -136,6 +140,7 @@ fn ask_limits(
 
 // 35: "after 34, a type name is declared nowhere or again".
 pub fn ask_declarations(
+    kinds: &[u8; 256],
     text: &[u8],
     roles: &[u8],
     offsets: &[u16],
@@ -150,11 +155,13 @@ pub fn ask_declarations(
 ) -> Read
     requires { ⌜
         JudgedDerived (now text) (now roles) (now offsets) n start (now chain) (now values) (now firsts) (now links) (now heads) (now file)
+        × (now kinds ≡ byteKinds)
         ⌝ }
     ensures { λ r. ⌜ ReadAs r (now (file .exit)) (readOf (now (text .entry)) (now (file .entry))) ⌝ }
 {
     let f = link_names(roles, n, chain);
     let fault = declaration_fault(
+        kinds,
         text,
         roles,
         offsets,
@@ -170,6 +177,7 @@ pub fn ask_declarations(
         return refusal(35, offset_at(offsets, fault));
     }
     ask_limits(
+        kinds,
         text,
         roles,
         offsets,

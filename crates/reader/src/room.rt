@@ -2,21 +2,26 @@
 use crate::MIDDLE;
 use crate::Read;
 use crate::SMALL;
+use crate::TINY;
 use crate::arrays::long_words;
 use crate::arrays::middle_words;
 use crate::arrays::no_heads;
 use crate::arrays::small_words;
+use crate::arrays::tiny_words;
 use crate::passes::ask_declarations;
 use crate::passes::refusal;
 use judge::judge;
+use tokens::byte_kinds;
 ghost use mathlib.Core.Path.{_≡_};
 ghost use Prim.Native.Nat.{_<_, _≤_};
 ghost use Rattle.limits.specs.Limits.{TEXT};
 ghost use Rattle.grammar.specs.Read.{readOf};
-ghost use Rattle.reader.specs.Reading.{ReadAs, Lent, SMALL, MIDDLE};
+ghost use Rattle.tokens.specs.Kinds.{byteKinds};
+ghost use Rattle.reader.specs.Reading.{ReadAs, Lent, TINY, SMALL, MIDDLE};
 ghost use Rattle.reader.specs.Derived.{DerivedText};
 
-fn number_small(
+fn number_tiny(
+    kinds: &[u8; 256],
     text: &[u8],
     roles: &[u8],
     offsets: &[u16],
@@ -24,7 +29,40 @@ fn number_small(
     start: usize,
     file: &mut [u8],
 ) -> Read
-    requires { ⌜ DerivedText (now text) (now roles) (now offsets) n start (now file) × (n ≤ SMALL) ⌝ }
+    requires { ⌜ DerivedText (now text) (now roles) (now offsets) n start (now file) × (n ≤ TINY) × (now kinds ≡ byteKinds) ⌝ }
+    ensures { λ r. ⌜ ReadAs r (now (file .exit)) (readOf (now (text .entry)) (now (file .entry))) ⌝ }
+{
+    let mut chain = tiny_words();
+    let mut values = tiny_words();
+    let mut firsts = tiny_words();
+    let mut links = tiny_words();
+    let mut heads = no_heads();
+    ask_declarations(
+        kinds,
+        text,
+        roles,
+        offsets,
+        n,
+        start,
+        &mut chain,
+        &mut values,
+        &mut firsts,
+        &mut links,
+        &mut heads,
+        file,
+    )
+}
+
+fn number_small(
+    kinds: &[u8; 256],
+    text: &[u8],
+    roles: &[u8],
+    offsets: &[u16],
+    n: usize,
+    start: usize,
+    file: &mut [u8],
+) -> Read
+    requires { ⌜ DerivedText (now text) (now roles) (now offsets) n start (now file) × (n ≤ SMALL) × (now kinds ≡ byteKinds) ⌝ }
     ensures { λ r. ⌜ ReadAs r (now (file .exit)) (readOf (now (text .entry)) (now (file .entry))) ⌝ }
 {
     let mut chain = small_words();
@@ -33,6 +71,7 @@ fn number_small(
     let mut links = small_words();
     let mut heads = no_heads();
     ask_declarations(
+        kinds,
         text,
         roles,
         offsets,
@@ -48,6 +87,7 @@ fn number_small(
 }
 
 fn number_middle(
+    kinds: &[u8; 256],
     text: &[u8],
     roles: &[u8],
     offsets: &[u16],
@@ -55,7 +95,7 @@ fn number_middle(
     start: usize,
     file: &mut [u8],
 ) -> Read
-    requires { ⌜ DerivedText (now text) (now roles) (now offsets) n start (now file) × (n ≤ MIDDLE) ⌝ }
+    requires { ⌜ DerivedText (now text) (now roles) (now offsets) n start (now file) × (n ≤ MIDDLE) × (now kinds ≡ byteKinds) ⌝ }
     ensures { λ r. ⌜ ReadAs r (now (file .exit)) (readOf (now (text .entry)) (now (file .entry))) ⌝ }
 {
     let mut chain = middle_words();
@@ -64,6 +104,7 @@ fn number_middle(
     let mut links = middle_words();
     let mut heads = no_heads();
     ask_declarations(
+        kinds,
         text,
         roles,
         offsets,
@@ -79,6 +120,7 @@ fn number_middle(
 }
 
 fn number_long(
+    kinds: &[u8; 256],
     text: &[u8],
     roles: &[u8],
     offsets: &[u16],
@@ -86,7 +128,7 @@ fn number_long(
     start: usize,
     file: &mut [u8],
 ) -> Read
-    requires { ⌜ DerivedText (now text) (now roles) (now offsets) n start (now file) × (n ≤ TEXT) ⌝ }
+    requires { ⌜ DerivedText (now text) (now roles) (now offsets) n start (now file) × (n ≤ TEXT) × (now kinds ≡ byteKinds) ⌝ }
     ensures { λ r. ⌜ ReadAs r (now (file .exit)) (readOf (now (text .entry)) (now (file .entry))) ⌝ }
 {
     let mut chain = long_words();
@@ -95,6 +137,7 @@ fn number_long(
     let mut links = long_words();
     let mut heads = no_heads();
     ask_declarations(
+        kinds,
         text,
         roles,
         offsets,
@@ -111,6 +154,7 @@ fn number_long(
 
 // Goes on with arrays that have room for so many tokens, or for more if there are more; it calls itself as `read_within` does.
 fn number_within(
+    kinds: &[u8; 256],
     text: &[u8],
     roles: &[u8],
     offsets: &[u16],
@@ -119,19 +163,22 @@ fn number_within(
     room: usize,
     file: &mut [u8],
 ) -> Read
-    requires { ⌜ DerivedText (now text) (now roles) (now offsets) n start (now file) × (n ≤ TEXT) × (0 < room) ⌝ }
+    requires { ⌜ DerivedText (now text) (now roles) (now offsets) n start (now file) × (n ≤ TEXT) × (0 < room) × (now kinds ≡ byteKinds) ⌝ }
     ensures { λ r. ⌜ ReadAs r (now (file .exit)) (readOf (now (text .entry)) (now (file .entry))) ⌝ }
 {
     if room < n {
-        return number_within(text, roles, offsets, n, start, room * 16, file);
+        return number_within(kinds, text, roles, offsets, n, start, room * 4, file);
+    }
+    if room == TINY {
+        return number_tiny(kinds, text, roles, offsets, n, start, file);
     }
     if room == SMALL {
-        return number_small(text, roles, offsets, n, start, file);
+        return number_small(kinds, text, roles, offsets, n, start, file);
     }
-    if room == MIDDLE {
-        return number_middle(text, roles, offsets, n, start, file);
+    if room <= MIDDLE {
+        return number_middle(kinds, text, roles, offsets, n, start, file);
     }
-    number_long(text, roles, offsets, n, start, file)
+    number_long(kinds, text, roles, offsets, n, start, file)
 }
 
 // 34: "the token at the place, or the text's end, fits no legal continuation".
@@ -145,9 +192,10 @@ pub fn ask_grammar(
     requires { ⌜ Lent (now text) (now roles) (now offsets) (now closers) (now file) ⌝ }
     ensures { λ r. ⌜ ReadAs r (now (file .exit)) (readOf (now (text .entry)) (now (file .entry))) ⌝ }
 {
-    let j = judge(text, roles, offsets, closers);
+    let kinds = byte_kinds();
+    let j = judge(&kinds, text, roles, offsets, closers);
     if !j.ok {
         return refusal(34, j.place);
     }
-    number_within(text, roles, offsets, j.tokens, j.start, SMALL, file)
+    number_within(&kinds, text, roles, offsets, j.tokens, j.start, TINY, file)
 }

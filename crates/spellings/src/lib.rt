@@ -1,9 +1,13 @@
 // Tables of names by hash: a name is found, and a new one put behind the others. The arrays are lent.
+use tokens::Name;
+use tokens::is_name;
+use tokens::name_at;
 ghost use mathlib.Core.Path.{_≡_};
 ghost use Prim.Native.Nat.{_+_, _<_, _≤_};
 ghost use lib.ListN.{length, getD, set};
 ghost use Rattle.words.specs.Word.{WORD};
-ghost use Rattle.tokens.specs.Runs.{spellingHash, HASHES as HASH-COUNT};
+ghost use Rattle.tokens.specs.Kinds.{byteKinds};
+ghost use Rattle.tokens.specs.Names.{NameIs};
 ghost use Rattle.spellings.specs.Table.{nameFrom, Held, PlaceIs, Grows};
 
 // An element as an index, which asks nothing of the slice that it comes from.
@@ -35,26 +39,28 @@ fn head_at(heads: &[u32], hash: usize) -> usize
     head_wide(heads[hash])
 }
 
-// The entry of the name at `at`, whose hash is known, or `count` if it has none.
+// The entry of the name at `at`, of which hash and size are known, or `count` if it has none.
 fn search(
+    kinds: &[u8; 256],
     text: &[u8],
     firsts: &[u16],
     links: &[u16],
     heads: &[u32],
     count: usize,
     at: usize,
-    hash: usize,
+    name: Name,
 ) -> usize
     requires { ⌜ Held (now text) (now firsts) (now links) (now heads) count × (at ≤ length (now text)) ⌝ }
-    requires { ⌜ (hash ≡ spellingHash (nameFrom (now text) at)) × (hash < HASH-COUNT) ⌝ }
+    requires { ⌜ (now kinds ≡ byteKinds) × NameIs (now text) at name ⌝ }
     ensures { λ r. ⌜
         PlaceIs (now (text .entry)) (now (firsts .entry)) (now (links .entry)) (now (heads .entry)) count (nameFrom (now (text .entry)) at) r
         ⌝ }
 {
-    let mut next = head_at(heads, hash);
+    let size = name.size;
+    let mut next = head_at(heads, name.hash);
     while 0 < next {
         let e = next - 1;
-        if tokens::same_name(text, word_at(firsts, e), at) {
+        if is_name(kinds, text, word_at(firsts, e), at, size) {
             return e;
         }
         next = word_at(links, e);
@@ -64,6 +70,7 @@ fn search(
 
 // The place of the name at `at` among the names of the table, or their number.
 pub fn find(
+    kinds: &[u8; 256],
     text: &[u8],
     firsts: &[u16],
     links: &[u16],
@@ -71,14 +78,14 @@ pub fn find(
     count: usize,
     at: u16,
 ) -> usize
-    requires { ⌜ Held (now text) (now firsts) (now links) (now heads) count × (at ≤ length (now text)) ⌝ }
+    requires { ⌜ Held (now text) (now firsts) (now links) (now heads) count × (at ≤ length (now text)) × (now kinds ≡ byteKinds) ⌝ }
     ensures { λ r. ⌜
         PlaceIs (now (text .entry)) (now (firsts .entry)) (now (links .entry)) (now (heads .entry)) count (nameFrom (now (text .entry)) at) r
         ⌝ }
 {
     let place = at as usize;
-    let hash = tokens::name_hash(text, place);
-    search(text, firsts, links, heads, count, place, hash)
+    let name = name_at(kinds, text, place);
+    search(kinds, text, firsts, links, heads, count, place, name)
 }
 
 // Makes the name at `at` entry `count`, the newest of its hash.
@@ -96,6 +103,7 @@ fn add(firsts: &mut [u16], links: &mut [u16], heads: &mut [u32], count: usize, a
 
 // The place of the name at `at`, which is put behind the others if it is new.
 pub fn enter(
+    kinds: &[u8; 256],
     text: &[u8],
     firsts: &mut [u16],
     links: &mut [u16],
@@ -103,7 +111,7 @@ pub fn enter(
     count: usize,
     at: u16,
 ) -> usize
-    requires { ⌜ Held (now text) (now firsts) (now links) (now heads) count × (at ≤ length (now text)) ⌝ }
+    requires { ⌜ Held (now text) (now firsts) (now links) (now heads) count × (at ≤ length (now text)) × (now kinds ≡ byteKinds) ⌝ }
     requires { ⌜ (count < length (now firsts)) × (count < length (now links)) × (count < WORD) ⌝ }
     ensures { λ r. ⌜
         PlaceIs (now (text .entry)) (now (firsts .entry)) (now (links .entry)) (now (heads .entry)) count (nameFrom (now (text .entry)) at) r
@@ -114,8 +122,9 @@ pub fn enter(
         ⌝ }
 {
     let place = at as usize;
-    let hash = tokens::name_hash(text, place);
-    let e = search(text, firsts, links, heads, count, place, hash);
+    let name = name_at(kinds, text, place);
+    let hash = name.hash;
+    let e = search(kinds, text, firsts, links, heads, count, place, name);
     if e < count {
         return e;
     }

@@ -6,11 +6,11 @@ use mathlib.Core.Path.{_≡_, refl, sym, _∙_, ap}
 use mathlib.Core.Bool.{Bool, true, false, _||_}
 use mathlib.Core.List.{List, []}
 use lib.Dec.{leb}
-use borrow.Author.Tests.{ne-eqb, lt-leb}
+use borrow.Author.Tests.{ne-eqb, lt-leb, le-leb}
 use lib.ListN.{length, getD, drop, set, replicate}
 use lib.Seq.{sets}
 use Rattle.script.proofs.Tests.{true-false}
-use Rattle.grammar.specs.Tokens.{blankTest, digitTest, letterTest, runTest}
+use Rattle.grammar.specs.Tokens.{blankTest, digitTest, letterTest, wordByteTest, runTest}
 use Rattle.grammar.proofs.Splitting.{letter-from, digit-to, firstTest}
 use Rattle.tokens.specs.Runs.{byteRun}
 use Rattle.tokens.specs.Next.{NAME, DIGITS, tokenKind, Skipped, NextIs}
@@ -104,6 +104,14 @@ run-kind false b = go (letterTest b) (digitTest b) (blankTest b)
     go false true k = refl
     go false false true = refl
     go false false false = lt-leb NAME (tokenKind (signLexeme b)) (sign-within b .1)
+
+-- Is a byte one of a word, by its kind in the table?
+module _ (kinds : List ℕ) (b : ℕ) (table : kinds ≡ byteKinds) (byte : b < 256) where
+  pub word-in : NAME ≤ getD kinds b 0 → wordByteTest b ≡ true
+  word-in h = sym (run-kind false b) ∙ le-leb NAME (byteKind b) (omega (arith, kind-there kinds b table byte))
+
+  pub word-out : getD kinds b 0 < NAME → wordByteTest b ≡ false
+  word-out h = sym (run-kind false b) ∙ lt-leb NAME (byteKind b) (omega (arith, kind-there kinds b table byte))
 
 -- A byte behind blanks, and its kind.
 pub record KindAt (text : List ℕ) (at start kind : ℕ) : Type 0 where

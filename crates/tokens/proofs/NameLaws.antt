@@ -1,83 +1,62 @@
 -- Names compared and hashed, and the value of digits, one byte at a time.
-use Prim.Native.Nat.{ℕ, _+_, _-_, _*_, _%_, _≤_, _<_}
+use Prim.Native.Nat.{ℕ, suc, _+_, _-_, _*_, _%_, _≤_, _<_}
 use native.Mathlib.Omega.{arith}
 use mathlib.Core.Path.{_≡_, refl, sym, _∙_, ap}
-use mathlib.Core.Bool.{Bool, true, false}
+use mathlib.Core.Bool.{Bool, true, false, _&&_}
 use mathlib.Core.List.{List, [], _∷_}
 use lib.Dec.{eqb, ltb, leb}
 use borrow.Author.Tests.{ltb-true, ltb-false, eq-eqb, ne-eqb, le-leb, lt-leb, leb-true}
 use lib.ListN.{length, getD, drop}
-use Rattle.script.proofs.Tests.{true-false}
 use Rattle.grammar.specs.Tokens.{Spelling, sameSpelling, wordByteTest, digitTest, decimalFrom}
 use Rattle.grammar.proofs.Splitting.{within}
 use Rattle.tokens.specs.Runs.{byteRun, wordFrom, digitsFrom, HASHES, hashFrom, BEYOND, capped}
 use Rattle.tokens.proofs.RunLaws.{run-on, run-stops, run-ends}
 
--- Spellings by their first bytes. No byte of a word is 0.
-pub same-not : (v w : Spelling) → (getD v 0 0 ≡ getD w 0 0 → ⊥) → sameSpelling v w ≡ false
-unfolding sameSpelling
-same-not [] [] n = absurd (n refl)
-same-not [] (c ∷ w) n = refl
-same-not (b ∷ v) [] n = refl
-same-not (b ∷ v) (c ∷ w) n = rw (ne-eqb b c n) refl
-
-word-none : (s : List ℕ) → getD (wordFrom s) 0 0 ≡ 0 → wordFrom s ≡ []
-unfolding byteRun
-word-none [] e = refl
-word-none (b ∷ s) e = go (wordByteTest b) refl
-  where
-    go : (t : Bool) → wordByteTest b ≡ t → wordFrom (b ∷ s) ≡ []
-    go true h =
-        let z : b ≡ 0 = rw h at e in
-        absurd (true-false (sym h ∙ ap wordByteTest z))
-    go false h = rw h refl
-
-pub same-none : (s t : List ℕ) → getD (wordFrom s) 0 0 ≡ 0 → getD (wordFrom t) 0 0 ≡ 0 → sameSpelling (wordFrom s) (wordFrom t) ≡ true
-unfolding sameSpelling
-same-none s t e f = rw (word-none s e, word-none t f) refl
-
-pub same-rest : (t : List ℕ) → eqb (getD (wordFrom t) 0 0) 0 ≡ sameSpelling [] (wordFrom t)
-unfolding sameSpelling byteRun
-same-rest [] = refl
-same-rest (b ∷ t) = go (wordByteTest b) refl
-  where
-    go : (u : Bool) → wordByteTest b ≡ u → eqb (getD (wordFrom (b ∷ t)) 0 0) 0 ≡ sameSpelling [] (wordFrom (b ∷ t))
-    go true h = rw h (ne-eqb b 0 (λ z. true-false (sym h ∙ ap wordByteTest z)))
-    go false h = rw h refl
-
--- A word that has a first byte stands before the text's end, and goes on with the next byte's word.
-record Word (text : List ℕ) (i : ℕ) : Type 0 where
+-- A word that has bytes stands before the text's end, and goes on with the next byte's word.
+pub record Word (text : List ℕ) (i : ℕ) : Type 0 where
   pub inside : i < length text
+  pub byte : wordByteTest (getD text i 0) ≡ true
   pub goes : wordFrom (drop i text) ≡ getD text i 0 ∷ wordFrom (drop (i + 1) text)
 
-word-there : (text : List ℕ) (i : ℕ) → (getD (wordFrom (drop i text)) 0 0 ≡ 0 → ⊥) → Word text i
-word-there text i n = go (ltb i (length text)) (wordByteTest (getD text i 0)) refl refl
+pub word-there : (text : List ℕ) (i : ℕ) → 0 < length (wordFrom (drop i text)) → Word text i
+word-there text i h = go (ltb i (length text)) (wordByteTest (getD text i 0)) refl refl
   where
     go : (u t : Bool) → ltb i (length text) ≡ u → wordByteTest (getD text i 0) ≡ t → Word text i
-    go true true h e = let l = ltb-true i (length text) h in record { inside = l; goes = run-on wordByteTest text i l e }
-    go true false h e = absurd (n (ap (λ (w : Spelling). getD w 0 0) (run-stops wordByteTest text i (ltb-true i (length text) h) e)))
-    go false t h e = absurd (n (ap (λ (w : Spelling). getD w 0 0) (run-ends wordByteTest text i (ltb-false i (length text) h))))
+    go true true l e = let m = ltb-true i (length text) l in record { inside = m; byte = e; goes = run-on wordByteTest text i m e }
+    go true false l e = absurd (omega (arith, ap length (run-stops wordByteTest text i (ltb-true i (length text) l) e)))
+    go false t l e = absurd (omega (arith, ap length (run-ends wordByteTest text i (ltb-false i (length text) l))))
 
--- Two words that begin with the same byte.
-pub record SameOn (text : List ℕ) (i j : ℕ) : Type 0 where
-  pub first : i < length text
-  pub second : j < length text
-  pub goes : sameSpelling (wordFrom (drop i text)) (wordFrom (drop j text)) ≡ sameSpelling (wordFrom (drop (i + 1) text)) (wordFrom (drop (j + 1) text))
-
-pub same-on :
-    (text : List ℕ) (i j x y : ℕ)
-    → x ≡ getD (wordFrom (drop i text)) 0 0
-    → y ≡ getD (wordFrom (drop j text)) 0 0
-    → x ≡ y
-    → (x ≡ 0 → ⊥)
-    → SameOn text i j
+-- Spellings of different lengths are not the same.
+pub sizes-differ : (v w : Spelling) → (length v ≡ length w → ⊥) → sameSpelling v w ≡ false
 unfolding sameSpelling
-same-on text i j x y p q e n =
-    let a = word-there text i (λ z. n (p ∙ z)) in
-    let b = word-there text j (λ z. n (e ∙ q ∙ z)) in
-    let f : getD text i 0 ≡ x = sym (ap (λ (w : Spelling). getD w 0 0) (a .goes)) ∙ sym p in
-    let g : getD text j 0 ≡ y = sym (ap (λ (w : Spelling). getD w 0 0) (b .goes)) ∙ sym q in
-    record { first = a .inside; second = b .inside; goes = rw (a .goes, b .goes, eq-eqb (getD text i 0) (getD text j 0) (f ∙ e ∙ sym g)) refl }
+sizes-differ [] [] n = absurd (n refl)
+sizes-differ [] (c ∷ w) n = refl
+sizes-differ (b ∷ v) [] n = refl
+sizes-differ (b ∷ v) (c ∷ w) n = rw (sizes-differ v w (λ e. n (ap suc e))) (no-and (eqb b c))
+  where
+    no-and : (q : Bool) → (q && false) ≡ false
+    no-and true = refl
+    no-and false = refl
+
+-- The words at two bytes, of which the second is known to have bytes: their first bytes differ, or are the same.
+module _ (text : List ℕ) (i j : ℕ) (inside : i < length text) (word : Word text j) where
+  pub same-not : (getD text i 0 ≡ getD text j 0 → ⊥) → sameSpelling (wordFrom (drop i text)) (wordFrom (drop j text)) ≡ false
+  unfolding sameSpelling
+  same-not n = go (wordByteTest (getD text i 0)) refl
+    where
+      go : (t : Bool) → wordByteTest (getD text i 0) ≡ t → sameSpelling (wordFrom (drop i text)) (wordFrom (drop j text)) ≡ false
+      go true e = rw (run-on wordByteTest text i inside e, word .goes, ne-eqb (getD text i 0) (getD text j 0) n) refl
+      go false e = rw (run-stops wordByteTest text i inside e, word .goes) refl
+
+  pub same-on :
+      getD text i 0 ≡ getD text j 0
+      → sameSpelling (wordFrom (drop i text)) (wordFrom (drop j text)) ≡ sameSpelling (wordFrom (drop (i + 1) text)) (wordFrom (drop (j + 1) text))
+  unfolding sameSpelling
+  same-on e = rw (run-on wordByteTest text i inside (ap wordByteTest e ∙ word .byte), word .goes, eq-eqb (getD text i 0) (getD text j 0) e) refl
+
+pub none-left : (w : Spelling) → length w ≡ 0 → w ≡ []
+none-left [] e = refl
+none-left (b ∷ w) e = absurd (omega arith)
 
 -- A hash and a value go on with the next byte.
 pub hash-on :

@@ -28,6 +28,16 @@ skip-on text i h e =
     ∙ blank-skipped (getD text i 0) i (drop (suc i) text) e
     ∙ rw add-one refl
 
+-- Blanks up to byte i, one byte after another.
+abbrev pub Skips : List ℕ → ℕ → ℕ → Type 0
+Skips text at i = (at ≤ i) × (i ≤ length text) × (tokensAt text at ≡ tokensAt text i)
+
+pub skips-on : (text : List ℕ) (at i j : ℕ) → Skips text at i → i < length text → blankTest (getD text i 0) ≡ true → j ≡ i + 1 → Skips text at j
+skips-on text at i j s h e q = (omega (arith, s .0), omega arith, s .2 ∙ skip-on text i h e ∙ ap (tokensAt text) (sym q))
+
+pub skips-done : (text : List ℕ) (at i : ℕ) → Skips text at i → (i < length text → blankTest (getD text i 0) ≡ false) → Skipped text at i
+skips-done text at i s n = record { same = s .2; from = s .0; within = s .1; blankless = n }
+
 none-left : (text : List ℕ) (i : ℕ) → length text ≤ i → tokensAt text i ≡ []
 unfolding tokensFrom
 none-left text i h = ap (tokensFrom b-nothing i) (drop-of-length-le text h)

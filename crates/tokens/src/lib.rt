@@ -11,9 +11,9 @@ ghost use Rattle.tokens.specs.Next.{NAME, DIGITS};
 ghost use Rattle.tokens.specs.Runs.{HASHES, BEYOND};
 ghost use Rattle.tokens.specs.Words.{LONGEST, SLOTS, RADIX};
 pub use kinds::byte_kinds;
+pub use names::is_name;
 pub use names::magnitude_at;
-pub use names::name_hash;
-pub use names::same_name;
+pub use names::name_at;
 pub use scan::next_token;
 
 // Kinds of tokens: a word or sign that the grammar spells out has its number, below these.
@@ -42,6 +42,12 @@ pub struct Next {
     pub kind: u8,
     pub start: usize,
     pub end: usize,
+}
+
+// A name: its hash, and how many bytes it has.
+pub struct Name {
+    pub hash: usize,
+    pub size: usize,
 }
 
 // The constants and the definitions are the same numbers.

@@ -7,7 +7,7 @@ use native.Mathlib.Omega.{arith}
 use lib.Dec.{eqb}
 use lib.ListN.{length, drop}
 use lib.Seq.{drop-length}
-use borrow.Author.Tests.{eq-eqb, ne-eqb}
+use borrow.Author.Tests.{eq-eqb, ne-eqb, eqb-true, eqb-false}
 use Rattle.grammar.specs.Tokens.{Spelling, sameSpelling, fixed, name-token, digits-token, chosenLexeme}
 use Rattle.tokens.specs.Next.{NAME, DIGITS, lexemeOf}
 use Rattle.tokens.specs.Runs.{wordFrom, digitsFrom, byteRun}
@@ -74,8 +74,22 @@ own-not p v k s h = rw (ne-eqb k NAME h) (go (eqb k DIGITS))
 pub own-hidden : (p : Spelling) (v : Bool) (k : ℕ) (s : List ℕ) → k ≡ NAME → v ≡ false → false ≡ ownTest p v (lexemeOf k s)
 own-hidden p v k s h z = rw (name-here s k h, z)
 
-pub own-same : (p : Spelling) (v r : Bool) (k : ℕ) (s : List ℕ) → k ≡ NAME → v ≡ true → r ≡ sameSpelling (wordFrom s) p → r ≡ ownTest p v (lexemeOf k s)
-own-same p v r k s h z e = rw (name-here s k h, z) e
+eqb-swapped : (a b : ℕ) → eqb a b ≡ eqb b a
+eqb-swapped a b = go (eqb a b) refl
+  where
+    go : (q : Bool) → eqb a b ≡ q → q ≡ eqb b a
+    go true e = sym (eq-eqb b a (sym (eqb-true a b e)))
+    go false e = sym (ne-eqb b a (λ h. eqb-false a b e (sym h)))
+
+same-swapped : (v w : Spelling) → sameSpelling v w ≡ sameSpelling w v
+unfolding sameSpelling
+same-swapped [] [] = refl
+same-swapped [] (c ∷ w) = refl
+same-swapped (b ∷ v) [] = refl
+same-swapped (b ∷ v) (c ∷ w) = rw (eqb-swapped b c, same-swapped v w) refl
+
+pub own-same : (p : Spelling) (v r : Bool) (k : ℕ) (s : List ℕ) → k ≡ NAME → v ≡ true → r ≡ sameSpelling p (wordFrom s) → r ≡ ownTest p v (lexemeOf k s)
+own-same p v r k s h z e = rw (name-here s k h, z) (e ∙ same-swapped p (wordFrom s))
 
 -- Where the parameter is: at its name, nowhere, where it was.
 pub bound-here :

@@ -7,13 +7,15 @@ pub use stacks::put_role;
 pub use stacks::top_of;
 use table::turn_at;
 use tokens::NAME;
-use tokens::same_name;
+use tokens::Next;
+use tokens::is_name;
 ghost use mathlib.Core.Path.{_≡_};
 ghost use mathlib.Core.Bool.{_||_, cond};
 ghost use Prim.Native.Nat.{_+_, _*_, _/_, _<_, _≤_};
 ghost use lib.Dec.{eqb};
 ghost use lib.ListN.{length, drop};
 ghost use Rattle.grammar.specs.Roles.{BINDING, B-PARAMETER, B-OTHER};
+ghost use Rattle.tokens.specs.Kinds.{byteKinds};
 ghost use Rattle.tokens.specs.Next.{NAME, KINDS, lexemeOf};
 ghost use Rattle.tokens.specs.Runs.{wordFrom};
 ghost use Rattle.flat.specs.Flat.{POINTS, CLOSERS, OCCURS, ownTest, keptBy, popsTest, BINDS, startBy};
@@ -42,18 +44,19 @@ pub fn turn_under(table: &[u32; 2048], point: u8, depth: usize, top: u8, kind: u
     turn_at(table, top % flat::POINTS, kind)
 }
 
-// Is the token at `start` the parameter's name, where the parameter is visible?
-pub fn is_own(text: &[u8], kind: u8, start: usize, parameter: usize, visible: bool) -> bool
-    requires { ⌜ (start ≤ length (now text)) × (parameter ≤ length (now text)) ⌝ }
-    ensures { λ r. ⌜ r ≡ ownTest (wordFrom (drop parameter (now (text .entry)))) visible (lexemeOf kind (drop start (now (text .entry)))) ⌝ }
+// Is the token t the parameter's name, where the parameter is visible?
+pub fn is_own(kinds: &[u8; 256], text: &[u8], t: Next, parameter: usize, visible: bool) -> bool
+    requires { ⌜ (now kinds ≡ byteKinds) × (t .start ≤ length (now text)) × (parameter ≤ length (now text)) ⌝ }
+    requires { ⌜ (t .kind ≡ NAME → t .start + length (wordFrom (drop (t .start) (now text))) ≡ t .end) ⌝ }
+    ensures { λ r. ⌜ r ≡ ownTest (wordFrom (drop parameter (now (text .entry)))) visible (lexemeOf (t .kind) (drop (t .start) (now (text .entry)))) ⌝ }
 {
-    if kind != NAME {
+    if t.kind != NAME {
         return false;
     }
     if !visible {
         return false;
     }
-    same_name(text, start, parameter)
+    is_name(kinds, text, parameter, t.start, t.end - t.start)
 }
 
 // The role of a token: a variable's has its binding.

@@ -8,18 +8,18 @@ use Rattle.declarations.proofs.declaration_fault.Statement.{statement}
 use Rattle.declarations.proofs.declaration_fault.Tie as tie
 
 number-names-requires : tie.Need-number-names-requires
-number-names-requires c κs = let pre = c .before .before .before .before .before .before .before .before .before .before .before .before .pre in (pre .0, (pre .1 .0, pre .1 .1 .each Declared))
+number-names-requires c κs = let pre = c .before .before .before .before .before .before .before .before .before .before .before .before .pre in (pre .0, (pre .1 .0, (pre .1 .1 .0 .each Declared, pre .1 .1 .1)))
 
 first-again-requires : tie.Need-first-again-requires
 first-again-requires c κs =
     let pre = c .before .before .before .before .before .before .before .before .before .before .before .before .before .before .before .before .before .before .before .before .before .before .pre in
-    ((pre .0 .in-roles, omega (arith, pre .0 .in-values, c .before .before .before .before .before .before .before .before .before .number-names .kept .1 .1 .1 .1 .1 .1 .1 .0)), pre .1 .1 .each Declared)
+    ((pre .0 .in-roles, omega (arith, pre .0 .in-values, c .before .before .before .before .before .before .before .before .before .number-names .kept .1 .1 .1 .1 .1 .1 .1 .1 .0)), pre .1 .1 .0 .each Declared)
 
 first-nowhere-requires : tie.Need-first-nowhere-requires
 first-nowhere-requires c κs =
     let pre = c .before .before .before .before .before .before .before .before .before .before .before .before .before .before .before .before .before .before .before .before .before .before .before .before .before .before .before .pre in
     let number-names = c .before .before .before .before .before .before .before .before .before .before .before .before .before .before .number-names in
-    (room-still _ (le-refl _) (number-names .kept .1 .1 .1 .1 .1 .1 .1 .0) (number-names .kept .1 .1 .1 .1 .1 .1 .1 .1 .0) (number-names .kept .1 .1 .1 .1 .1 .1 .1 .1 .1 .0) (pre .0), (held-of (number-names .ensures), pre .1 .1 .each Types))
+    (room-still _ (le-refl _) (number-names .kept .1 .1 .1 .1 .1 .1 .1 .1 .0) (number-names .kept .1 .1 .1 .1 .1 .1 .1 .1 .1 .0) (number-names .kept .1 .1 .1 .1 .1 .1 .1 .1 .1 .1 .0) (pre .0), (held-of (number-names .ensures), (pre .1 .1 .0 .each Types, pre .1 .1 .1)))
 
 returns : tie.Need-returns
 returns c =

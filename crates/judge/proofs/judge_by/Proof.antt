@@ -68,13 +68,13 @@ returns-2 c = refused-here (c .before .before .before .before .before .before .b
 advance-requires : tie.Need-advance-requires Inv-loop μ-loop
 advance-requires c κs =
     let room = room-here (c .before .before .before .before .before .before .before .before .before .before .before .before .before .before .loop .inv) (c .before .before .before .before .before .before .before .before .before .before .before .before .before .next-token .ensures) (c .before .before .before .before .before .before .before .before .before .before .before .if1 .left) (c .before .before .before .before .before .before .before .before .before .before .before .before .before .before .before .before .before .before .before .pre .2) in
-    ((room .roles-room, room .offsets-room, room .closers-room, c .before .before .before .before .before .turn-under .ensures .tight), (c .before .before .before .before .before .before .before .before .before .before .before .before .before .before .loop .inv .parameter-within, starts-below (c .before .before .before .before .before .before .before .before .before .before .before .before .before .before .loop .inv) (c .before .before .before .before .before .before .before .before .before .before .before .before .before .next-token .ensures) (c .before .before .before .before .before .before .before .before .before .before .before .if1 .left), c .before .before .before .before .before .before .before .before .before .before .before .before .before .before .before .before .before .before .before .pre .2 .short))
+    ((room .roles-room, room .offsets-room, room .closers-room, c .before .before .before .before .before .turn-under .ensures .tight), ((c .before .before .before .before .before .before .before .before .before .before .before .before .before .before .loop .inv .parameter-within, starts-below (c .before .before .before .before .before .before .before .before .before .before .before .before .before .before .loop .inv) (c .before .before .before .before .before .before .before .before .before .before .before .before .before .next-token .ensures) (c .before .before .before .before .before .before .before .before .before .before .before .if1 .left), c .before .before .before .before .before .before .before .before .before .before .before .before .before .before .before .before .before .before .before .pre .2 .short, c .before .before .before .before .before .before .before .before .before .before .before .before .before .before .before .before .before .before .before .pre .0), c .before .before .before .before .before .before .before .before .before .before .before .before .before .next-token .ensures .token (c .before .before .before .before .before .before .before .before .before .before .before .if1 .left) .name-ends))
 
 loop-less-2 : tie.Need-loop-less-2 Inv-loop μ-loop
 loop-less-2 c = omega (arith, c .before .before .before .before .before .before .before .before .before .before .before .before .before .before .before .before .before .before .before .before .next-token .ensures .from, c .before .before .before .before .before .before .before .before .before .before .before .before .before .before .before .before .before .before .before .before .next-token .ensures .token (c .before .before .before .before .before .before .before .before .before .before .before .before .before .before .before .before .before .before .if1 .left) .some, starts-below (c .before .before .before .before .before .before .before .before .before .before .before .before .before .before .before .before .before .before .before .before .before .loop .inv) (c .before .before .before .before .before .before .before .before .before .before .before .before .before .before .before .before .before .before .before .before .next-token .ensures) (c .before .before .before .before .before .before .before .before .before .before .before .before .before .before .before .before .before .before .if1 .left))
 
 loop-again-2 : tie.Need-loop-again-2 Inv-loop μ-loop
-loop-again-2 c = goes-on (c .before .before .before .before .before .before .before .before .before .before .before .before .before .before .before .before .before .before .before .before .before .loop .inv) (c .before .before .before .before .before .before .before .before .before .before .before .before .before .before .before .before .before .before .before .before .next-token .ensures) (c .before .before .before .before .before .before .before .before .before .before .before .before .before .before .before .before .before .before .if1 .left) (c .before .before .before .before .before .before .before .before .before .before .before .before .turn-under .result) (c .before .before .before .before .before .before .before .before .before .before .before .before .before .top-of .result) (c .before .before .before .before .before .before .advance .result) _ _ _ (c .before .before .before .before .before .before .before .before .before .before .before .before .turn-under .ensures) (top-here (c .before .before .before .before .before .before .before .before .before .before .before .before .before .before .before .before .before .before .before .before .before .loop .inv) (c .before .before .before .before .before .before .before .before .before .before .before .before .before .before .before .before .before .before .before .before .next-token .ensures) (c .before .before .before .before .before .before .before .before .before .before .before .before .before .before .before .before .before .before .if1 .left) (c .before .before .before .before .before .before .before .before .before .before .before .before .before .top-of .ensures)) (c .before .before .before .before .before .before .before .before .before .before .if3 .left) (room-here (c .before .before .before .before .before .before .before .before .before .before .before .before .before .before .before .before .before .before .before .before .before .loop .inv) (c .before .before .before .before .before .before .before .before .before .before .before .before .before .before .before .before .before .before .before .before .next-token .ensures) (c .before .before .before .before .before .before .before .before .before .before .before .before .before .before .before .before .before .before .if1 .left) (c .before .before .before .before .before .before .before .before .before .before .before .before .before .before .before .before .before .before .before .before .before .before .before .before .before .before .pre .2) .offsets-room) (c .before .before .before .before .before .before .advance .ensures .0) (c .before .before .before .before .before .before .advance .ensures .1) (c .before .before .before .before .before .before .advance .kept .1 .0) (c .before .before .before .before .before .before .advance .kept .1 .1 .0) (c .before .before .before .before .before .before .advance .kept .1 .1 .1 .0)
+loop-again-2 c = goes-on (c .before .before .before .before .before .before .before .before .before .before .before .before .before .before .before .before .before .before .before .before .before .loop .inv) (c .before .before .before .before .before .before .before .before .before .before .before .before .before .before .before .before .before .before .before .before .next-token .ensures) (c .before .before .before .before .before .before .before .before .before .before .before .before .before .before .before .before .before .before .if1 .left) (c .before .before .before .before .before .before .before .before .before .before .before .before .turn-under .result) (c .before .before .before .before .before .before .before .before .before .before .before .before .before .top-of .result) (c .before .before .before .before .before .before .advance .result) _ _ _ (c .before .before .before .before .before .before .before .before .before .before .before .before .turn-under .ensures) (top-here (c .before .before .before .before .before .before .before .before .before .before .before .before .before .before .before .before .before .before .before .before .before .loop .inv) (c .before .before .before .before .before .before .before .before .before .before .before .before .before .before .before .before .before .before .before .before .next-token .ensures) (c .before .before .before .before .before .before .before .before .before .before .before .before .before .before .before .before .before .before .if1 .left) (c .before .before .before .before .before .before .before .before .before .before .before .before .before .top-of .ensures)) (c .before .before .before .before .before .before .before .before .before .before .if3 .left) (room-here (c .before .before .before .before .before .before .before .before .before .before .before .before .before .before .before .before .before .before .before .before .before .loop .inv) (c .before .before .before .before .before .before .before .before .before .before .before .before .before .before .before .before .before .before .before .before .next-token .ensures) (c .before .before .before .before .before .before .before .before .before .before .before .before .before .before .before .before .before .before .if1 .left) (c .before .before .before .before .before .before .before .before .before .before .before .before .before .before .before .before .before .before .before .before .before .before .before .before .before .before .pre .2) .offsets-room) (c .before .before .before .before .before .before .advance .ensures .0) (c .before .before .before .before .before .before .advance .ensures .1) (c .before .before .before .before .before .before .advance .kept .1 .1 .0) (c .before .before .before .before .before .before .advance .kept .1 .1 .1 .0) (c .before .before .before .before .before .before .advance .kept .1 .1 .1 .1 .0)
 
 pub judge-by-spec : {M : Type 1} → statement M
 judge-by-spec =

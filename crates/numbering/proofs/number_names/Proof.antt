@@ -8,30 +8,30 @@ use Rattle.numbering.proofs.number_names.Statement.{statement}
 use Rattle.numbering.proofs.number_names.Tie as tie
 
 abbrev Inv-loop : tie.InvT-loop
-Inv-loop text roles offsets n chain first sort values₀ firsts₀ links₀ heads₀ count₀ i₀ values firsts links heads count i =
+Inv-loop kinds text roles offsets n chain first sort values₀ firsts₀ links₀ heads₀ count₀ i₀ values firsts links heads count i =
     Going (roleTest sort) text roles offsets values₀ firsts₀ links₀ n values firsts links heads count i
 
 abbrev μ-loop : tie.MeasureT-loop
-μ-loop text roles offsets n chain first sort values₀ firsts₀ links₀ heads₀ count₀ i₀ values firsts links heads count i =
+μ-loop kinds text roles offsets n chain first sort values₀ firsts₀ links₀ heads₀ count₀ i₀ values firsts links heads count i =
     n - i
 
 loop-holds : tie.Need-loop-holds Inv-loop μ-loop
-loop-holds c = let pre = c .before .before .before .before .before .before .before .before .pre in going-on _ _ _ _ _ _ _ _ (pre .0) _ _ _ _ _ refl refl refl (pre .1 .1 .begins) (number-none _ _ _ _ _ _ _ _ (pre .1 .0))
+loop-holds c = let pre = c .before .before .before .before .before .before .before .before .pre in going-on _ _ _ _ _ _ _ _ (pre .0) _ _ _ _ _ refl refl refl (pre .1 .1 .0 .begins) (number-none _ _ _ _ _ _ _ _ (pre .1 .0))
 
 number-token-requires : tie.Need-number-token-requires Inv-loop μ-loop
 number-token-requires c κs =
     let pre = c .before .before .before .before .before .before .before .before .before .before .before .before .before .before .pre in
     let loop = c .before .before .before .before .before .loop in
     let l = loop .inv in
-    (room-still (loop .i + 1) (omega arith) (l .values-long) (l .firsts-long) (l .links-long) (pre .0), ((held-of (l .so-far), number-few (omega (arith, pre .0 .in-roles)) (l .so-far)), l .named (c .before .before .before .before .loop-test .taken)))
+    (room-still (loop .i + 1) (omega arith) (l .values-long) (l .firsts-long) (l .links-long) (pre .0), ((held-of (l .so-far), number-few (omega (arith, pre .0 .in-roles)) (l .so-far)), (l .named (c .before .before .before .before .loop-test .taken), pre .1 .1 .1)))
 
 next-in-requires : tie.Need-next-in-requires Inv-loop μ-loop
-next-in-requires c κs = omega (arith, c .before .before .before .before .before .before .before .before .before .before .before .before .before .before .before .before .before .before .before .before .before .before .before .pre .1 .1 .room, c .before .before .before .before .before .before .before .before .before .before .before .before .before .loop-test .taken)
+next-in-requires c κs = omega (arith, c .before .before .before .before .before .before .before .before .before .before .before .before .before .before .before .before .before .before .before .before .before .before .before .pre .1 .1 .0 .room, c .before .before .before .before .before .before .before .before .before .before .before .before .before .loop-test .taken)
 
 loop-less : tie.Need-loop-less Inv-loop μ-loop
 loop-less c =
     let test = c .before .before .before .before .before .before .before .before .before .before .before .before .before .before .loop-test in
-    omega (arith, test .taken, follows (c .before .before .before .before .before .before .before .before .before .before .before .before .before .before .before .before .before .before .before .before .before .before .before .before .pre .1 .1) (test .taken) (c .before .before .before .before .before .before .before .before .before .before .before .before .before .before .before .loop .inv .named (test .taken)) (c .next-in .ensures) .reached)
+    omega (arith, test .taken, follows (c .before .before .before .before .before .before .before .before .before .before .before .before .before .before .before .before .before .before .before .before .before .before .before .before .pre .1 .1 .0) (test .taken) (c .before .before .before .before .before .before .before .before .before .before .before .before .before .before .before .loop .inv .named (test .taken)) (c .next-in .ensures) .reached)
 
 loop-again : tie.Need-loop-again Inv-loop μ-loop
 loop-again c =
@@ -39,8 +39,8 @@ loop-again c =
     let test = c .before .before .before .before .before .before .before .before .before .before .before .before .before .before .loop-test in
     let l = c .before .before .before .before .before .before .before .before .before .before .before .before .before .before .before .loop .inv in
     let t = c .before .before .before .before .before .before .before .before .before .number-token in
-    going-on _ _ _ _ _ _ _ _ (pre .0) _ _ _ _ _ (t .kept .1 .1 .1 .1 .1 .0 ∙ l .values-long) (t .kept .1 .1 .1 .1 .1 .1 .0 ∙ l .firsts-long) (t .kept .1 .1 .1 .1 .1 .1 .1 .0 ∙ l .links-long)
-    (follows (pre .1 .1) (test .taken) (l .named (test .taken)) (c .next-in .ensures)) (t .ensures _ (l .so-far))
+    going-on _ _ _ _ _ _ _ _ (pre .0) _ _ _ _ _ (t .kept .1 .1 .1 .1 .1 .1 .0 ∙ l .values-long) (t .kept .1 .1 .1 .1 .1 .1 .1 .0 ∙ l .firsts-long) (t .kept .1 .1 .1 .1 .1 .1 .1 .1 .0 ∙ l .links-long)
+    (follows (pre .1 .1 .0) (test .taken) (l .named (test .taken)) (c .next-in .ensures)) (t .ensures _ (l .so-far))
 
 same-length : tie.Need-same-length Inv-loop μ-loop
 same-length c = c .before .loop .inv .values-long

@@ -10,7 +10,7 @@ enter-requires : tie.Need-enter-requires
 enter-requires c κs =
     let pre = c .before .before .before .before .before .before .before .before .before .before .before .pre in
     let args = c .before .before .before .before .before .before .before .before .before .before .before .args in
-    ((pre .1 .0 .0, pre .0 .inside (args .i) (omega arith)), (omega (arith, pre .0 .in-firsts, pre .1 .0 .1), omega (arith, pre .0 .in-links, pre .1 .0 .1), omega (arith, pre .0 .few, pre .1 .0 .1)))
+    ((pre .1 .0 .0, pre .0 .inside (args .i) (omega arith), pre .1 .1 .1), (omega (arith, pre .0 .in-firsts, pre .1 .0 .1), omega (arith, pre .0 .in-links, pre .1 .0 .1), omega (arith, pre .0 .few, pre .1 .0 .1)))
 
 cast-values : tie.Need-cast-values
 cast-values c =
@@ -22,13 +22,13 @@ returns : tie.Need-returns
 returns c =
     let pre = c .before .before .before .before .before .before .before .before .before .before .before .before .before .before .before .before .before .before .before .pre in
     let enter = c .before .before .before .before .before .before .before .enter in
-    token-with _ _ _ _ _ _ _ _ _ _ _ _ _ _ _ _ (pre .0) (pre .1 .1) (enter .ensures .0) (enter .ensures .1) refl (λ l y p q. length-known l y _ _ p q (c .if1 .taken))
+    token-with _ _ _ _ _ _ _ _ _ _ _ _ _ _ _ _ (pre .0) (pre .1 .1 .0) (enter .ensures .0) (enter .ensures .1) refl (λ l y p q. length-known l y _ _ p q (c .if1 .taken))
 
 returns-2 : tie.Need-returns-2
 returns-2 c =
     let pre = c .before .before .before .before .before .before .before .before .before .before .before .before .before .before .before .before .before .before .before .pre in
     let enter = c .before .before .before .before .before .before .before .enter in
-    token-with _ _ _ _ _ _ _ _ _ _ _ _ _ _ _ _ (pre .0) (pre .1 .1) (enter .ensures .0) (enter .ensures .1) refl (λ l y p q. length-new l y _ _ p q (c .if1 .left))
+    token-with _ _ _ _ _ _ _ _ _ _ _ _ _ _ _ _ (pre .0) (pre .1 .1 .0) (enter .ensures .0) (enter .ensures .1) refl (λ l y p q. length-new l y _ _ p q (c .if1 .left))
 
 pub number-token-spec : {M : Type 1} → statement M
 number-token-spec =

@@ -10,7 +10,7 @@ number-names-requires c κs = (c .before .before .before .before .before .before
 
 returns : tie.Need-returns
 returns c =
-    let k = c .before .before .before .before .before .before .before .before .number-names .kept .1 .1 .1 .1 .1 .1 .1 in
+    let k = c .before .before .before .before .before .before .before .before .number-names .kept .1 .1 .1 .1 .1 .1 .1 .1 in
     record {
       values-are = c .before .before .before .before .before .before .before .before .number-names .ensures .values-are;
       values-long = k .0;

@@ -7,21 +7,21 @@ use Rattle.reader.proofs.passes.ask_limits.Statement.{statement}
 use Rattle.reader.proofs.passes.ask_limits.Tie as tie
 
 count-records-requires : tie.Need-count-records-requires
-count-records-requires c κs = (placed (c .before .before .before .before .before .before .before .before .before .before .pre .judged .derived-text), omega (arith, in-text (c .before .before .before .before .before .before .before .before .before .before .pre .judged .derived-text), c .before .before .before .before .before .before .before .before .before .before .pre .judged .short), refl)
+count-records-requires c κs = (placed (c .before .before .before .before .before .before .before .before .before .before .pre .0 .judged .derived-text), omega (arith, in-text (c .before .before .before .before .before .before .before .before .before .before .pre .0 .judged .derived-text), c .before .before .before .before .before .before .before .before .before .before .pre .0 .judged .short), refl)
 
 offset-at-requires : tie.Need-offset-at-requires
-offset-at-requires c κs = omega (arith, in-offsets (c .before .before .before .before .before .before .before .before .before .before .before .before .before .pre .judged .derived-text))
+offset-at-requires c κs = omega (arith, in-offsets (c .before .before .before .before .before .before .before .before .before .before .before .before .before .pre .0 .judged .derived-text))
 
 returns : tie.Need-returns
-returns c = limit-refused (c .before .before .before .before .before .before .before .before .before .before .before .before .before .before .before .pre) (c .refusal .result) (c .before .before .before .before .count-records .ensures .0) (omega arith) _ (c .before .offset-at .ensures .0) (c .refusal .ensures)
+returns c = limit-refused (c .before .before .before .before .before .before .before .before .before .before .before .before .before .before .before .pre .0) (c .refusal .result) (c .before .before .before .before .count-records .ensures .0) (omega arith) _ (c .before .offset-at .ensures .0) (c .refusal .ensures)
 
 number-rest-requires : tie.Need-number-rest-requires
 number-rest-requires c κs =
-    let j = c .before .before .before .before .before .before .before .before .before .before .before .before .before .before .before .before .before .pre in
-    ((tokens-there (j .judged .derived-text) _ _ _ _ _ (j .judged .short) (j .roomy), j .roomy .for-heads), j .linked)
+    let j = c .before .before .before .before .before .before .before .before .before .before .before .before .before .before .before .before .before .pre .0 in
+    ((tokens-there (j .judged .derived-text) _ _ _ _ _ (j .judged .short) (j .roomy), j .roomy .for-heads), (j .linked, c .before .before .before .before .before .before .before .before .before .before .before .before .before .before .before .before .before .pre .1))
 
 write-requires : tie.Need-write-requires
-write-requires c κs = limits-passed (c .before .before .before .before .before .before .before .before .before .before .before .before .before .before .before .before .before .before .before .before .before .before .before .before .before .before .before .before .before .pre) (c .before .before .before .before .before .before .before .before .before .before .before .before .before .before .before .before .before .before .count-records .ensures .0) (c .before .before .before .before .before .before .before .before .before .before .before .before .before .before .before .before .before .before .count-records .ensures .1) (omega arith) (c .before .before .before .before .before .before .before .before .before .before .before .number-rest .ensures)
+write-requires c κs = limits-passed (c .before .before .before .before .before .before .before .before .before .before .before .before .before .before .before .before .before .before .before .before .before .before .before .before .before .before .before .before .before .pre .0) (c .before .before .before .before .before .before .before .before .before .before .before .before .before .before .before .before .before .before .count-records .ensures .0) (c .before .before .before .before .before .before .before .before .before .before .before .before .before .before .before .before .before .before .count-records .ensures .1) (omega arith) (c .before .before .before .before .before .before .before .before .before .before .before .number-rest .ensures)
 
 pub ask-limits-spec : {M : Type 1} → statement M
 ask-limits-spec =

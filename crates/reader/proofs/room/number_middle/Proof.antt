@@ -5,7 +5,7 @@ use Rattle.reader.proofs.room.number_middle.Statement.{statement}
 use Rattle.reader.proofs.room.number_middle.Tie as tie
 
 ask-declarations-requires : tie.Need-ask-declarations-requires
-ask-declarations-requires c κs = roomy-zeros MIDDLE (c .before .before .before .before .before .before .before .before .before .before .before .before .before .before .before .pre .1) (c .before .before .before .before .before .before .before .before .before .before .before .before .before .before .before .pre .0) (c .before .before .before .before .before .before .before .before .before .before .middle-words .ensures) (c .before .before .before .before .before .before .before .before .before .middle-words2 .ensures) (c .before .before .before .before .before .before .before .before .middle-words3 .ensures) (c .before .before .before .before .before .before .before .middle-words4 .ensures) (c .before .before .before .before .before .before .no-heads .ensures)
+ask-declarations-requires c κs = (roomy-zeros MIDDLE (c .before .before .before .before .before .before .before .before .before .before .before .before .before .before .before .pre .1) (c .before .before .before .before .before .before .before .before .before .before .before .before .before .before .before .pre .0) (c .before .before .before .before .before .before .before .before .before .before .middle-words .ensures) (c .before .before .before .before .before .before .before .before .before .middle-words2 .ensures) (c .before .before .before .before .before .before .before .before .middle-words3 .ensures) (c .before .before .before .before .before .before .before .middle-words4 .ensures) (c .before .before .before .before .before .before .no-heads .ensures), c .before .before .before .before .before .before .before .before .before .before .before .before .before .before .before .pre .2)
 
 pub number-middle-spec : {M : Type 1} → statement M
 number-middle-spec =

@@ -1,0 +1,11 @@
+use mathlib.Core.Path.{refl}
+use Rattle.reader.specs.Reading.{zeros}
+use Rattle.reader.proofs.arrays.tiny_words.Statement.{statement}
+use Rattle.reader.proofs.arrays.tiny_words.Tie as tie
+
+returns : tie.Need-returns
+unfolding zeros
+returns c = refl
+
+pub tiny-words-spec : {M : Type 1} → statement M
+tiny-words-spec = tie.close (tie.spec returns)
