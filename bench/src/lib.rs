@@ -4,7 +4,7 @@ pub mod reader;
 
 use second::text::ReadReply;
 
-/// The library's reader. Until the library has one the hand-written one stands in for it: the first line is then `let reply = engine::read(text, file);`.
+/// The library's reader, with its reply as the second implementation's.
 pub fn library_read(text: &[u8], file: &mut [u8]) -> ReadReply {
     let reply = engine::read(text, file);
     ReadReply { number: reply.number, length: reply.length, place: reply.place }

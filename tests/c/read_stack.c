@@ -1,8 +1,8 @@
 /*
  * How much stack and time oolong_read uses. `read_stack < text` measures it on a painted stack: on no text, on the text, which is one of the usual size, on texts as long as those with smaller
- * tables may be, and on texts of 65,536 bytes that are as deep, as long in casts, or as rich in declarations as a text can be. None may use more than the header's OOLONG_READ_STACK, and a thread with
- * just so many bytes must be enough, in a process of its own. None may take more than 50 milliseconds of a processor: time that grows with the square of the text's length takes longer. Only names
- * that were chosen to have one hash may take 200.
+ * tables may be, and on texts of 65,536 bytes that are as deep, as long in casts, or as rich in declarations as a text can be. None may use more of OOLONG_READ_STACK than the header says, and a
+ * thread with just so many bytes must be enough, in a process of its own. None may take more than 50 milliseconds of a processor: time that grows with the square of the text's length takes longer.
+ * Only names that were chosen to have one hash may take 200.
  */
 #include <time.h>
 
@@ -39,15 +39,21 @@ static double milliseconds(struct job *job) {
     return least;
 }
 
+/* What the header says that a text of this length takes of the stack at most. */
+static size_t share(size_t len) {
+    size_t has = OOLONG_READ_STACK;
+    return len <= SMALL ? has / 20 : len <= MIDDLE ? has / 3 : has - THREAD;
+}
+
 /* Says what the text uses; whether the reply is right, and neither stack nor time too much. */
 static int within_ms(const char *what, size_t len, unsigned number, unsigned place, int most_ms) {
     struct job job = {len, number, place, {0, 0, 0}};
-    size_t has = OOLONG_READ_STACK, bytes = used(work, &job) - used(idle, NULL);
+    size_t has = share(len), bytes = used(work, &job) - used(idle, NULL);
     double took = milliseconds(&job);
-    int right = work(&job) == NULL, holds = right && bytes <= has - THREAD && took < most_ms;
+    int right = work(&job) == NULL, holds = right && bytes <= has && took < most_ms;
     printf("%s, %zu bytes: stack %zu of %zu, %.1f ms", what, len, bytes, has, took);
     if (!right) printf(" (FAIL  %u at %u and not %u at %u)", job.reply.number, (unsigned)job.reply.place, number, place);
-    holds &= enough(has, work, &job);
+    holds &= enough(OOLONG_READ_STACK, work, &job);
     puts(holds ? "; ok" : "; FAIL");
     return holds;
 }
@@ -60,6 +66,14 @@ static int within(const char *what, size_t len, unsigned number, unsigned place)
 static void repeat(const char *piece, size_t len) {
     size_t size = strlen(piece);
     for (size_t at = 0; at < len; at++) text[at] = (uint8_t)piece[at % size];
+}
+
+/* So many casts of a variable, and blanks up to len bytes. */
+static size_t casts(unsigned count, size_t len) {
+    repeat("(Int)", 5 * count);
+    memset(text + 5 * count, ' ', len - 5 * count);
+    text[5 * count] = 'x';
+    return len;
 }
 
 /* Name number i of four letters, large ones and small. */
@@ -107,9 +121,10 @@ int main(void) {
     holds &= within("4,096 open calls", MIDDLE, OOLONG_NO_GRAMMAR, MIDDLE);
     holds &= within("4,096 open calls, and a name", MIDDLE + 1, OOLONG_NO_GRAMMAR, MIDDLE + 1);
     holds &= within("16,384 open calls", OOLONG_TEXT_MOST, OOLONG_NO_GRAMMAR, OOLONG_TEXT_MOST);
-    repeat("(Int)", OOLONG_TEXT_MOST - 1);
-    text[OOLONG_TEXT_MOST - 1] = 'x';
-    holds &= within("13,107 casts", OOLONG_TEXT_MOST, OOLONG_NO_ROOM, 5 * OOLONG_NODES_MOST);
+    holds &= within("204 casts, and blanks", casts(204, SMALL), OOLONG_OK, 0);
+    holds &= within("1,023 casts, and blanks", casts(OOLONG_NODES_MOST - 1, MIDDLE), OOLONG_OK, 0);
+    holds &= within("1,023 casts, and more blanks", casts(OOLONG_NODES_MOST - 1, OOLONG_TEXT_MOST), OOLONG_OK, 0);
+    holds &= within("13,107 casts", casts(13107, OOLONG_TEXT_MOST), OOLONG_NO_ROOM, 5 * OOLONG_NODES_MOST);
     repeat("(Int)", OOLONG_TEXT_MOST);
     holds &= within("13,107 casts, and an open parenthesis", OOLONG_TEXT_MOST, OOLONG_NO_GRAMMAR, OOLONG_TEXT_MOST);
     len = declarations(4000, 0);

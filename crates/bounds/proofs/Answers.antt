@@ -15,7 +15,7 @@ use Rattle.script.proofs.Lists.{zeros}
 use Rattle.grammar.specs.Tokens.{Lexeme}
 use Rattle.grammar.specs.Faults.{Marked, markedBy, beginsTest, outsideTest, limitFault}
 use Rattle.bounds.specs.declared.Counted.{Counted}
-use Rattle.bounds.specs.Counting.{SECTIONS, fullTest, Placed, IntegersSpelt, countedOf, CountedAs, markedAt}
+use Rattle.bounds.specs.Counting.{SECTIONS, fullTest, TokensLie, IntegersSpelt, countedOf, CountedAs, markedAt}
 use Rattle.bounds.proofs.Counters.{no-section, none-counted}
 use Rattle.bounds.proofs.Outside.{length-tokens, token-at, not-outside}
 use Rattle.bounds.specs.Places.{RECORDS, indexStart, IndexIs}
@@ -39,7 +39,7 @@ at-fault n i ms r h e f =
       counts = λ z. absurd (omega arith);
     }
 
-module _ (text roles offsets : List ℕ) (n : ℕ) (placed : Placed text roles offsets n) where
+module _ (text roles offsets : List ℕ) (n : ℕ) (placed : TokensLie text roles offsets n) where
   pub going : (index : List ℕ) → length index ≡ RECORDS → Going text roles offsets n (replicate 6 0) index 0
   going index l =
       record {

@@ -16,7 +16,7 @@ use Rattle.grammar.specs.Roles.{PLAIN, R-NULL, R-INTEGER, R-NEGATIVE, BINDING}
 use Rattle.grammar.specs.Files.{spellingOf, negated}
 use Rattle.grammar.specs.Faults.{Marked, markedBy, headSpelling, beginsTest, outsideTest}
 use Rattle.tokens.specs.Runs.{digitsFrom, capped, BEYOND, cappedBy}
-use Rattle.bounds.specs.Counting.{Placed, IntegersSpelt, lexemeAt, markedAt}
+use Rattle.bounds.specs.Counting.{TokensLie, IntegersSpelt, lexemeAt, markedAt}
 
 -- a number of digits, and one behind a minus
 leb-not : (a b : ℕ) → leb a b ≡ not (ltb b a)
@@ -64,7 +64,7 @@ marked-at (r ∷ rs) (t ∷ ls) zero h k = refl
 marked-at (r ∷ rs) (t ∷ ls) (suc i) h k = marked-at rs ls i (omega arith) (omega arith)
 
 -- the tokens of a text
-module _ (text roles offsets : List ℕ) (n : ℕ) (placed : Placed text roles offsets n) (ls : List Lexeme) (s : IntegersSpelt text roles offsets n ls) where
+module _ (text roles offsets : List ℕ) (n : ℕ) (placed : TokensLie text roles offsets n) (ls : List Lexeme) (s : IntegersSpelt text roles offsets n ls) where
   abbrev tokens : List Marked
   tokens = markedBy (take n roles) ls
 

@@ -25,7 +25,7 @@ use Rattle.capacity.proofs.Roles.{text-spelled}
 use Rattle.capacity.proofs.Begun.{begun-records}
 use Rattle.capacity.proofs.Within.{within-limits}
 use Rattle.bounds.specs.declared.Counted.{Counted}
-use Rattle.bounds.specs.Counting.{Placed, lexemeAt, IntegersSpelt, countedOf, CountedAs}
+use Rattle.bounds.specs.Counting.{TokensLie, lexemeAt, IntegersSpelt, countedOf, CountedAs}
 
 -- A token begins in its text.
 pub begins-within : (end : ℕ) {n : ℕ} {s : List ℕ} {ts : List Token} → n + length s ≤ end → Splits n s ts → Every (λ t. t .offset ≤ end) ts
@@ -99,7 +99,7 @@ module _
     offset-at : (i : ℕ) → i < n → getD offsets i 0 ≡ getD (map (λ t. t .offset) (tokensOf text)) i 0
     offset-at i h = rw (first-offsets, List·getD-append (map (λ t. t .offset) (tokensOf text)) more 0 i (omega (arith, all-offsets)))
 
-    pub placed-text : Placed text roles offsets n
+    pub placed-text : TokensLie text roles offsets n
     placed-text =
         record {
           roles-there = omega (arith, ap length first-roles, length-append (rolesText d) others, all-roles);

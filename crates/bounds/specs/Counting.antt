@@ -30,7 +30,7 @@ unfoldable pub fullTest : List ℕ → ℕ → Bool
 fullTest counts e = ltb e SECTIONS && leb (getD mosts e 0) (getD counts e 0)
 
 -- Roles and offsets are there for n tokens, which stand in the text.
-pub record Placed (text roles offsets : List ℕ) (n : ℕ) : Type 0 where
+pub record TokensLie (text roles offsets : List ℕ) (n : ℕ) : Type 0 where
   pub roles-there : n ≤ length roles
   pub offsets-there : n ≤ length offsets
   pub within : (i : ℕ) → i < n → getD offsets i 0 ≤ length text

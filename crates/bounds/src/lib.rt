@@ -16,7 +16,7 @@ ghost use Rattle.script.specs.declared.Section.the-variants.{Interfaces as inte
 ghost use Rattle.script.specs.declared.Section.the-variants.{Fields as fields, Methods as methods, Nodes as nodes};
 ghost use Rattle.script.specs.Section.{entryOf};
 ghost use Rattle.bounds.specs.Places.{indexOf, RECORDS, indexStart, IndexIs};
-ghost use Rattle.bounds.specs.Counting.{SECTIONS, mosts, fullTest, Placed, IntegersSpelt, countedOf, CountedAs, markedAt};
+ghost use Rattle.bounds.specs.Counting.{SECTIONS, mosts, fullTest, TokensLie, IntegersSpelt, countedOf, CountedAs, markedAt};
 
 // Roles of tokens: the first tokens of records, and among those of nodes, which begin with that of `null`, the first tokens of integers.
 const INTERFACE: u8 = 1;
@@ -159,7 +159,7 @@ fn count_one(counts: &mut [usize; 6], entry: usize)
 
 // Does token i begin an integer outside the range?
 fn is_outside(text: &[u8], roles: &[u8], offsets: &[u16], n: usize, i: usize) -> bool
-    requires { ⌜ Placed (now text) (now roles) (now offsets) n × (i < n) ⌝ }
+    requires { ⌜ TokensLie (now text) (now roles) (now offsets) n × (i < n) ⌝ }
     ensures { λ r. ⌜ ((ls : List Lexeme) → IntegersSpelt (now (text .entry)) (now (roles .entry)) (now (offsets .entry)) n ls →
         r ≡ outsideTest (markedAt (markedBy (take n (now (roles .entry))) ls) i) (drop (i + 1) (markedBy (take n (now (roles .entry))) ls))) ⌝ }
 {
@@ -215,7 +215,7 @@ pub fn count_records(
     n: usize,
     index: &mut [u16],
 ) -> Counted
-    requires { ⌜ Placed (now text) (now roles) (now offsets) n × (n ≤ WORD) × (length (now index) ≡ RECORDS) ⌝ }
+    requires { ⌜ TokensLie (now text) (now roles) (now offsets) n × (n ≤ WORD) × (length (now index) ≡ RECORDS) ⌝ }
     ensures { λ r. ⌜ ((ls : List Lexeme) → IntegersSpelt (now (text .entry)) (now (roles .entry)) (now (offsets .entry)) n ls →
         CountedAs n (markedBy (take n (now (roles .entry))) ls) r) ⌝ }
     ensures { λ r. ⌜ (r .fault ≡ n → IndexIs (take n (now (roles .entry))) (now (index .exit))) ⌝ }

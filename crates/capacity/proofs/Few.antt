@@ -10,7 +10,7 @@ use Rattle.script.specs.declared.Section.the-variants.{Fields as fields, Method
 use Rattle.grammar.specs.Grammar.{E, e-null, e-variable, e-select, e-update, e-call, e-let, e-new, e-cast, e-fork, e-lock, e-digits, e-minus, e-sum, e-sum-in}
 use Rattle.grammar.specs.Grammar.{Msig, Id, id-list, id-join, Md, Cd, Derivation}
 use Rattle.grammar.specs.Roles.{PLAIN, R-SIGNATURE, Scope, under, roles, rolesMsig, rolesAll, rolesId, rolesFd, rolesMd, rolesCd, rolesBefore, rolesText}
-use Rattle.grammar.specs.Files.{nodesIn, sumAll, joined, msigsOf, mdsOf}
+use Rattle.grammar.specs.Files.{nodesIn, sumAll, joined, msigsOf}
 use Rattle.capacity.specs.Extent.{TOKENS-WITHIN, WithinLimits}
 
 expression-few : (c : Scope) (e : E) → length (roles c e) ≤ 11 * nodesIn e

@@ -10,8 +10,8 @@ use lib.ListN.{length, getD, take, set}
 use Rattle.script.proofs.Tests.{true-false}
 use Rattle.grammar.specs.Tokens.{Spelling, name-token}
 use Rattle.grammar.specs.Files.{rankIn, declaredRole}
-use Rattle.spellings.specs.Table.{nameFrom, Holds}
-use Rattle.numbering.specs.Numbers.{namesAt, numbered, Tokens}
+use Rattle.spellings.specs.Table.{nameFrom, TableHolds}
+use Rattle.numbering.specs.Numbers.{namesAt, numbered, TokenArrays}
 use Rattle.numbering.specs.Chains.{FirstFrom}
 use Rattle.declarations.specs.Declaring.{FirstOf, oneMore, declaredIn, againAt, typeNamed, nowhereAt, TypedTo, TypeAsked, TypesAsked}
 use Rattle.numbering.proofs.Chains.{skipped}
@@ -62,7 +62,7 @@ module _ (roles values : List ℕ) (n : ℕ) (room : n ≤ length roles) where
       at-most true u = omega arith
       at-most false u = omega arith
 
-  -- Tokens before the next declaration are none.
+  -- TokenArrays before the next declaration are none.
   counting-on :
       {seen from i : ℕ}
       → FirstFrom (λ k. declaredRole (getD roles k 0)) from n i
@@ -103,7 +103,7 @@ module _ (text roles offsets values : List ℕ) (i : ℕ) (a : i < length roles)
       (sym (numbered-with typeNamed names (getD roles i 0) (name-token (nameFrom text (getD offsets i 0))) p (take i roles) (namesAt text (take i offsets)) before (as-many text roles offsets i a b)
       ∙ rw (roles-length text roles offsets i a b)))
 
-module _ (text roles offsets values firsts links : List ℕ) (i : ℕ) (room : Tokens text roles offsets values firsts links (i + 1)) (p : typeNamed (getD roles i 0) ≡ true)
+module _ (text roles offsets values firsts links : List ℕ) (i : ℕ) (room : TokenArrays text roles offsets values firsts links (i + 1)) (p : typeNamed (getD roles i 0) ≡ true)
     (names : List Spelling) (e count : ℕ) (q : e ≡ rankIn names (nameFrom text (getD offsets i 0))) (l : length names ≡ count) where
   pub type-known : e < count → TypeAsked names text roles offsets values i (set values i e) true
   type-known h =
@@ -125,11 +125,11 @@ pub record Asking (text roles offsets firsts links heads : List ℕ) (n count : 
   pub values-long : length values ≡ length before
   pub asked :
       (names : List Spelling)
-      → Holds text firsts links heads names
+      → TableHolds text firsts links heads names
       → length names ≡ count
       → ((k : ℕ) → k < i → nowhereAt names text roles offsets k ≡ false) × TypedTo names text roles offsets before i values
 
-module _ (text roles offsets firsts links heads : List ℕ) (n count : ℕ) (before : List ℕ) (room : Tokens text roles offsets before firsts links n) where
+module _ (text roles offsets firsts links heads : List ℕ) (n count : ℕ) (before : List ℕ) (room : TokenArrays text roles offsets before firsts links n) where
   asking-past :
       (values : List ℕ) (i : ℕ)
       → i < n
@@ -147,7 +147,7 @@ module _ (text roles offsets firsts links heads : List ℕ) (n count : ℕ) (bef
             );
       }
 
-  -- Tokens before the next name of a type are none.
+  -- TokenArrays before the next name of a type are none.
   asking-on :
       {values : List ℕ} {from i : ℕ}
       → FirstFrom (λ k. typeNamed (getD roles k 0)) from n i
@@ -160,15 +160,15 @@ module _ (text roles offsets firsts links heads : List ℕ) (n count : ℕ) (bef
   asking-first f = asking-on f (record { upto = omega arith; values-long = refl; asked = λ names h l. (λ k b. absurd (omega arith), refl) })
 
   module _ (values : List ℕ) (i : ℕ) (so-far : Asking text roles offsets firsts links heads n count before values i) where
-    pub asking-end : n ≤ i → (names : List Spelling) → Holds text firsts links heads names → length names ≡ count → TypesAsked names text roles offsets before n values n
+    pub asking-end : n ≤ i → (names : List Spelling) → TableHolds text firsts links heads names → length names ≡ count → TypesAsked names text roles offsets before n values n
     asking-end h names k l =
         let w = so-far .asked names k l in
         let e : i ≡ n = omega (arith, so-far .upto) in
         record { first = first-end n i (so-far .upto) h (w .0); valued = λ z. rw e at (w .1) }
 
     module _ (h : i < n) (values′ : List ℕ) (b : Bool)
-        (told : (names : List Spelling) → Holds text firsts links heads names → length names ≡ count → TypeAsked names text roles offsets values i values′ b) where
-      pub asking-stop : not b ≡ true → (names : List Spelling) → Holds text firsts links heads names → length names ≡ count → TypesAsked names text roles offsets before n values′ i
+        (told : (names : List Spelling) → TableHolds text firsts links heads names → length names ≡ count → TypeAsked names text roles offsets values i values′ b) where
+      pub asking-stop : not b ≡ true → (names : List Spelling) → TableHolds text firsts links heads names → length names ≡ count → TypesAsked names text roles offsets before n values′ i
       asking-stop p names k l =
           record {
             first = first-stop i h (so-far .asked names k l .0) (sym (told names k l .says) ∙ p);

@@ -21,7 +21,7 @@ use Rattle.grammar.specs.Faults.{Marked, markedBy, firstFault, declaredAmong, a
 use Rattle.spellings.specs.Table.{nameFrom, grown}
 use Rattle.spellings.proofs.Places.{Among, place-le}
 use Rattle.numbering.specs.Numbers.{namesAt, numbered, namesTo}
-use Rattle.declarations.specs.Declaring.{FirstOf, foundOf, oneMore, declaredIn, againAt, typeNamed, nowhereAt, TypesAsked, marksTo, Declarations}
+use Rattle.declarations.specs.Declaring.{FirstOf, faultBelow, oneMore, declaredIn, againAt, typeNamed, nowhereAt, TypesAsked, marksTo, Declarations}
 use Rattle.numbering.proofs.Distinct.{distinct-has, distinct-from, grown-has, grown-keeps, place-grown, place-own, length-new}
 use Rattle.numbering.proofs.NumberLaws.{roles-more, names-more, roles-length, as-many, to-past, to-with, numbered-at}
 use Rattle.declarations.proofs.Asking.{declared-with}
@@ -122,10 +122,10 @@ module _ (text roles offsets : List ℕ) (n : ℕ) (a : n ≤ length roles) (b :
         let e : r + 1 + suc m ≡ r + 1 + m + 1 = omega arith in
         rw e (fault-step (r + 1 + m) (omega arith) ∙ rw (fault-some r m (omega arith) f t))
 
-    pub fault-found : (r : ℕ) → FirstOf (λ k. test (marksTo text roles offsets k) (mark k)) n r → firstFault (λ x m y. test x m) [] (marksTo text roles offsets n) ≡ foundOf n r
+    pub fault-found : (r : ℕ) → FirstOf (λ k. test (marksTo text roles offsets k) (mark k)) n r → firstFault (λ x m y. test x m) [] (marksTo text roles offsets n) ≡ faultBelow n r
     fault-found r f = go (ltb r n) refl
       where
-        go : (q : Bool) → ltb r n ≡ q → firstFault (λ x m y. test x m) [] (marksTo text roles offsets n) ≡ foundOf n r
+        go : (q : Bool) → ltb r n ≡ q → firstFault (λ x m y. test x m) [] (marksTo text roles offsets n) ≡ faultBelow n r
         go true e =
             let h : r < n = ltb-true r n e in
             let s : r + 1 + (n - (r + 1)) ≡ n = omega arith in

@@ -23,8 +23,8 @@ someIf true r = some r
 someIf false r = none
 
 -- The same as an answer that may be none.
-abbrev pub foundOf : ℕ → ℕ → Option ℕ
-foundOf n r = someIf (ltb r n) r
+abbrev pub faultBelow : ℕ → ℕ → Option ℕ
+faultBelow n r = someIf (ltb r n) r
 
 abbrev pub oneMore : Bool → ℕ → ℕ
 oneMore true n = n + 1
@@ -68,7 +68,7 @@ marksTo text roles offsets n = markedBy (take n roles) (namesAt text (take n off
 -- 35: "a type name is declared nowhere or again", and what tells types apart if none is.
 pub record Declarations (text roles offsets before : List ℕ) (n : ℕ) (values : List ℕ) (r : ℕ) : Type 0 where
   pub within : r ≤ n
-  pub fault : declarationFault (marksTo text roles offsets n) ≡ foundOf n r
+  pub fault : declarationFault (marksTo text roles offsets n) ≡ faultBelow n r
   pub valued :
       r ≡ n
       → let names = namesTo declaredRole text roles offsets n in

@@ -11,8 +11,8 @@ ghost use lib.ListN.{length, getD};
 ghost use Rattle.grammar.specs.Tokens.{Spelling};
 ghost use Rattle.grammar.specs.Files.{declaredRole};
 ghost use Rattle.tokens.specs.Kinds.{byteKinds};
-ghost use Rattle.spellings.specs.Table.{Held, Holds};
-ghost use Rattle.numbering.specs.Numbers.{Tokens};
+ghost use Rattle.spellings.specs.Table.{TableFilled, TableHolds};
+ghost use Rattle.numbering.specs.Numbers.{TokenArrays};
 ghost use Rattle.numbering.specs.Chains.{LinkedSort, ChainsAre};
 ghost use Rattle.declarations.specs.Declaring.{FirstOf, againAt, typeNamed, TypeAsked, TypesAsked, Declarations};
 
@@ -47,11 +47,11 @@ fn type_token(
     heads: &[u32],
     count: usize,
 ) -> bool
-    requires { ⌜ Tokens (now text) (now roles) (now offsets) (now values) (now firsts) (now links) (i + 1) ⌝ }
-    requires { ⌜ Held (now text) (now firsts) (now links) (now heads) count ⌝ }
+    requires { ⌜ TokenArrays (now text) (now roles) (now offsets) (now values) (now firsts) (now links) (i + 1) ⌝ }
+    requires { ⌜ TableFilled (now text) (now firsts) (now links) (now heads) count ⌝ }
     requires { ⌜ (typeNamed (getD (now roles) i 0) ≡ true) × (now kinds ≡ byteKinds) ⌝ }
     ensures { λ r. ⌜
-        ((names : List Spelling) → Holds (now (text .entry)) (now (firsts .entry)) (now (links .entry)) (now (heads .entry)) names → length names ≡ count
+        ((names : List Spelling) → TableHolds (now (text .entry)) (now (firsts .entry)) (now (links .entry)) (now (heads .entry)) names → length names ≡ count
         → TypeAsked names (now (text .entry)) (now (roles .entry)) (now (offsets .entry)) (now (values .entry)) i (now (values .exit)) r)
         ⌝ }
 {
@@ -78,11 +78,11 @@ fn first_nowhere(
     heads: &[u32],
     count: usize,
 ) -> usize
-    requires { ⌜ Tokens (now text) (now roles) (now offsets) (now values) (now firsts) (now links) n ⌝ }
-    requires { ⌜ Held (now text) (now firsts) (now links) (now heads) count ⌝ }
+    requires { ⌜ TokenArrays (now text) (now roles) (now offsets) (now values) (now firsts) (now links) n ⌝ }
+    requires { ⌜ TableFilled (now text) (now firsts) (now links) (now heads) count ⌝ }
     requires { ⌜ LinkedSort typeNamed (now roles) n (now chain) first × (now kinds ≡ byteKinds) ⌝ }
     ensures { λ r. ⌜
-        ((names : List Spelling) → Holds (now (text .entry)) (now (firsts .entry)) (now (links .entry)) (now (heads .entry)) names → length names ≡ count
+        ((names : List Spelling) → TableHolds (now (text .entry)) (now (firsts .entry)) (now (links .entry)) (now (heads .entry)) names → length names ≡ count
         → TypesAsked names (now (text .entry)) (now (roles .entry)) (now (offsets .entry)) (now (values .entry)) n (now (values .exit)) r)
         ⌝ }
 {
@@ -121,8 +121,8 @@ pub fn declaration_fault(
     links: &mut [u16],
     heads: &mut [u32],
 ) -> usize
-    requires { ⌜ Tokens (now text) (now roles) (now offsets) (now values) (now firsts) (now links) n ⌝ }
-    requires { ⌜ Holds (now text) (now firsts) (now links) (now heads) [] ⌝ }
+    requires { ⌜ TokenArrays (now text) (now roles) (now offsets) (now values) (now firsts) (now links) n ⌝ }
+    requires { ⌜ TableHolds (now text) (now firsts) (now links) (now heads) [] ⌝ }
     requires { ⌜ ChainsAre (now roles) n (now chain) f × (now kinds ≡ byteKinds) ⌝ }
     ensures { λ r. ⌜
         Declarations (now (text .entry)) (now (roles .entry)) (now (offsets .entry)) (now (values .entry)) n (now (values .exit)) r

@@ -72,8 +72,8 @@ turnOf deed n r = record { next = n; role = r; deed = deed; back = 0; becomes = 
 abbrev pub sign : ℕ → ℕ → ℕ → Rule
 sign k n r = record { seen = fixed k; turn = turnOf GO n r }
 
-abbrev pub named : ℕ → ℕ → ℕ → Rule
-named deed n r = record { seen = name-token []; turn = turnOf deed n r }
+abbrev pub nameRule : ℕ → ℕ → ℕ → Rule
+nameRule deed n r = record { seen = name-token []; turn = turnOf deed n r }
 
 abbrev pub digits : ℕ → ℕ → Rule
 digits n r = record { seen = digits-token []; turn = turnOf GO n r }
@@ -88,12 +88,12 @@ settles k d n back r before =
 
 -- t, and x with its role.
 abbrev pub typeRules : ℕ → List Rule
-typeRules n = sign W-UNIT n R-UNIT ∷ sign W-INT n R-INT ∷ named GO n R-TYPE ∷ []
+typeRules n = sign W-UNIT n R-UNIT ∷ sign W-INT n R-INT ∷ nameRule GO n R-TYPE ∷ []
 
 abbrev pub variableRules : ℕ → ℕ → List Rule
-variableRules n r = sign W-THIS n r ∷ named OCCURS n r ∷ []
+variableRules n r = sign W-THIS n r ∷ nameRule OCCURS n r ∷ []
 
--- Points that are named more than once.
+-- Points that are nameRule more than once.
 abbrev pub TOP : ℕ
 TOP = 0
 
@@ -132,37 +132,37 @@ rules =
     -- 0 an interface, a class or the start
     (sign W-INTERFACE 1 R-INTERFACE ∷ sign W-CLASS 15 R-CLASS ∷ beginRules) ∷
     -- 1 interface T { Msigs } | interface T extends T , T
-    (named GO 2 R-DECLARED ∷ []) ∷
+    (nameRule GO 2 R-DECLARED ∷ []) ∷
     (sign S-BRACE 3 PLAIN ∷ sign W-EXTENDS 11 PLAIN ∷ []) ∷
-    (named GO 4 R-SIGNATURE ∷ sign S-UNBRACE TOP PLAIN ∷ []) ∷
+    (nameRule GO 4 R-SIGNATURE ∷ sign S-UNBRACE TOP PLAIN ∷ []) ∷
     -- 4 m ( p : t ) : t
     (sign S-OPEN 5 PLAIN ∷ []) ∷
-    (named GO 6 PLAIN ∷ []) ∷
+    (nameRule GO 6 PLAIN ∷ []) ∷
     (sign S-COLON 7 PLAIN ∷ []) ∷
     typeRules 8 ∷
     (sign S-CLOSE 9 PLAIN ∷ []) ∷
     (sign S-COLON 10 PLAIN ∷ []) ∷
     typeRules 3 ∷
     -- 11 the two interfaces of a join
-    (named GO 12 R-TYPE ∷ []) ∷
+    (nameRule GO 12 R-TYPE ∷ []) ∷
     (sign S-COMMA 13 PLAIN ∷ []) ∷
-    (named GO TOP R-TYPE ∷ []) ∷
+    (nameRule GO TOP R-TYPE ∷ []) ∷
     -- 14 a class or the start
     (sign W-CLASS 15 R-CLASS ∷ beginRules) ∷
     -- 15 class T implements T { Fds Mds }
-    (named GO 16 R-DECLARED ∷ []) ∷
+    (nameRule GO 16 R-DECLARED ∷ []) ∷
     (sign W-IMPLEMENTS 17 PLAIN ∷ []) ∷
-    (named GO 18 R-TYPE ∷ []) ∷
+    (nameRule GO 18 R-TYPE ∷ []) ∷
     (sign S-BRACE 19 PLAIN ∷ []) ∷
-    (named GO 20 R-FIELD ∷ sign W-DEF 23 R-METHOD ∷ sign S-UNBRACE TOP-C PLAIN ∷ []) ∷
+    (nameRule GO 20 R-FIELD ∷ sign W-DEF 23 R-METHOD ∷ sign S-UNBRACE TOP-C PLAIN ∷ []) ∷
     -- 20 f : t
     (sign S-COLON 21 PLAIN ∷ []) ∷
     typeRules 19 ∷
     -- 22 def m ( p : t ) : t { e }
     (sign W-DEF 23 R-METHOD ∷ sign S-UNBRACE TOP-C PLAIN ∷ []) ∷
-    (named GO 24 R-METHOD-NAME ∷ []) ∷
+    (nameRule GO 24 R-METHOD-NAME ∷ []) ∷
     (sign S-OPEN 25 PLAIN ∷ []) ∷
-    (named BINDS 26 PLAIN ∷ []) ∷
+    (nameRule BINDS 26 PLAIN ∷ []) ∷
     (sign S-COLON 27 PLAIN ∷ []) ∷
     typeRules 28 ∷
     (sign S-CLOSE 29 PLAIN ∷ []) ∷
@@ -176,17 +176,17 @@ rules =
     (settles S-EQUALS GO EXPR 3 R-UPDATE 0 ∷ settles S-OPEN PUSH-CALL EXPR 3 R-CALL R-METHOD-USED ∷ []) ∷
     variableRules ENDED R-OPERAND ∷
     -- 37 ( t ) e, and ( x + x )
-    (sign W-UNIT 39 R-UNIT ∷ sign W-INT 39 R-INT ∷ sign W-THIS 40 R-OPERAND ∷ named OCCURS 38 R-OPERAND ∷ []) ∷
+    (sign W-UNIT 39 R-UNIT ∷ sign W-INT 39 R-INT ∷ sign W-THIS 40 R-OPERAND ∷ nameRule OCCURS 38 R-OPERAND ∷ []) ∷
     (settles S-CLOSE GO EXPR 0 0 R-TYPE ∷ settles S-PLUS GO 41 2 R-SUM-IN 0 ∷ []) ∷
     (sign S-CLOSE EXPR PLAIN ∷ []) ∷
     (settles S-PLUS GO 41 2 R-SUM-IN 0 ∷ []) ∷
     variableRules 42 R-OPERAND ∷
     (sign S-CLOSE ENDED PLAIN ∷ []) ∷
     -- 43 let y = e in e
-    (named PUSH-LET 44 R-BINDER ∷ []) ∷
+    (nameRule PUSH-LET 44 R-BINDER ∷ []) ∷
     (sign S-EQUALS EXPR PLAIN ∷ []) ∷
     -- 45 new T
-    (named GO ENDED R-TYPE ∷ []) ∷
+    (nameRule GO ENDED R-TYPE ∷ []) ∷
     -- 46 finish { async { e } async { e } } ; e
     (sign S-BRACE 47 PLAIN ∷ []) ∷
     (sign W-ASYNC 48 PLAIN ∷ []) ∷

@@ -29,7 +29,7 @@ no-digit b h = rw (lt-leb b 57 h) (and-false (leb 48 b))
 no-letter : (b : ℕ) → b < 65 → letterTest b ≡ false
 no-letter b h = rw (lt-leb 65 b h, lt-leb 97 b (omega arith), ne-eqb b 95 (omega arith)) refl
 
-no-blank : (b : ℕ) → 32 < b → blankTest b ≡ false
+pub no-blank : (b : ℕ) → 32 < b → blankTest b ≡ false
 no-blank b h = rw (ne-eqb b 9 (omega arith), ne-eqb b 10 (omega arith), ne-eqb b 13 (omega arith), ne-eqb b 32 (omega arith)) refl
 
 pub letter-from : (b : ℕ) → letterTest b ≡ true → 65 ≤ b

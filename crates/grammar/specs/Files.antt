@@ -1,6 +1,6 @@
 -- The file of a derivation: "producing the script file and its length".
 use Prim.Native.Nat.{ℕ, zero, suc, _+_, _*_, _/_}
-use mathlib.Core.Bool.{Bool, true, false, not, _&&_, _||_}
+use mathlib.Core.Bool.{Bool, true, false, not, _||_}
 use mathlib.Core.List.{List, [], _∷_, _++_}
 use mathlib.Core.Option.{none, some}
 use lib.Dec.{eqb}
@@ -13,7 +13,7 @@ use Rattle.grammar.specs.Tokens.{Spelling, Lexeme, fixed, name-token, di
 use Rattle.grammar.specs.Grammar.{X, x-this, x-name, T, t-unit, t-int, t-name, E, e-null, e-variable, e-select, e-update, e-call, e-let, e-new, e-cast}
 use Rattle.grammar.specs.Grammar.{e-fork, e-lock, e-digits, e-minus, e-sum, e-sum-in, Msig, Id, id-list, id-join, Fd, Md, Cd, Derivation, spelledText}
 use Rattle.grammar.specs.Roles.{R-SIGNATURE, R-FIELD, R-DECLARED, R-METHOD-NAME, R-BINDER, R-FIELD-USED, R-METHOD-USED, BINDING, B-OTHER}
-use Rattle.grammar.specs.Roles.{Scope, under, bindingBy, rolesText}
+use Rattle.grammar.specs.Roles.{Scope, under, rolesText}
 
 -- The spelling of a name or of digits.
 abbrev pub spellingOf : Lexeme → Spelling

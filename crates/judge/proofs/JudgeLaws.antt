@@ -15,7 +15,7 @@ use Rattle.grammar.specs.Grammar.{Derivation}
 use Rattle.grammar.specs.Roles.{roles, rolesText, rolesBefore, rolesAll}
 use Rattle.grammar.specs.Parse.{State, at-top, Shifted, stuck, goes, accepts, shift, refused-at, derived, afterShift, parse, parsed, ways}
 use Rattle.tokens.specs.declared.Next.{Next}
-use Rattle.tokens.specs.Next.{NAME, DIGITS, lexemeOf, tokensAt, NextIs}
+use Rattle.tokens.specs.Next.{K-NAME, K-DIGITS, lexemeOf, tokensAt, NextIs}
 use Rattle.tokens.specs.Runs.{wordFrom, digitsFrom, byteRun}
 use Rattle.flat.specs.declared.Turn.{Turn}
 use Rattle.flat.specs.Flat.{flat-stuck, flat-goes, flatBy, flatEnds, turnUnder, turned, topOf, STUCK, GO, POINTS}
@@ -95,7 +95,7 @@ begun text roles offsets closers =
 -- A token is none of the end.
 not-end : (k : ℕ) (s : List ℕ) → (k ≡ TEXT-END → ⊥) → lexemeOf k s ≡ fixed TEXT-END → ⊥
 unfolding lexemeOf
-not-end k s n h = go (eqb k NAME) (eqb k DIGITS) h
+not-end k s n h = go (eqb k K-NAME) (eqb k K-DIGITS) h
   where
     go : (a b : Bool) → chosenLexeme a (name-token (wordFrom s)) (chosenLexeme b (digits-token (digitsFrom s)) (fixed k)) ≡ fixed TEXT-END → ⊥
     go true b e = let z : _≡_ {A = ℕ} 0 1 = cc in omega arith

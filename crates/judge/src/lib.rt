@@ -21,10 +21,10 @@ ghost use Prim.Native.Nat.{_+_, _<_, _≤_};
 ghost use lib.ListN.{length, drop, set};
 ghost use Rattle.limits.specs.Limits.{TEXT};
 ghost use Rattle.tokens.specs.Kinds.{byteKinds};
-ghost use Rattle.tokens.specs.Next.{NAME};
+ghost use Rattle.tokens.specs.Next.{K-NAME};
 ghost use Rattle.tokens.specs.Runs.{wordFrom};
 ghost use Rattle.flat.specs.Flat.{POINTS};
-ghost use Rattle.table.specs.Table.{Tight, Plain, entries, unpacked};
+ghost use Rattle.table.specs.Table.{Tight, Plain, tableEntries, unpacked};
 ghost use Rattle.judge.specs.Standing.{Advanced, Gone, EndedAs};
 ghost use Rattle.judge.specs.Judging.{Room, JudgedText};
 
@@ -62,7 +62,7 @@ fn advance(
 ) -> Standing
     requires { ⌜ (s .tokens < length (now roles)) × (s .tokens < length (now offsets)) × (s .depth < length (now closers)) × Tight (t .kind) m ⌝ }
     requires { ⌜ (s .parameter ≤ length (now text)) × (t .start < length (now text)) × (length (now text) ≤ TEXT) × (now kinds ≡ byteKinds) ⌝ }
-    requires { ⌜ (t .kind ≡ NAME → t .start + length (wordFrom (drop (t .start) (now text))) ≡ t .end) ⌝ }
+    requires { ⌜ (t .kind ≡ K-NAME → t .start + length (wordFrom (drop (t .start) (now text))) ≡ t .end) ⌝ }
     ensures { λ r. ⌜ Advanced (now (text .entry)) s t m top (now (roles .entry)) (now (closers .entry)) r (now (roles .exit)) (now (closers .exit)) ⌝ }
     ensures { λ r. ⌜ now (offsets .exit) ≡ set (now (offsets .entry)) (s .tokens) (t .start) ⌝ }
 {
@@ -116,7 +116,7 @@ fn refused(place: usize) -> Judged
 
 // The verdict at the text's end.
 fn ended(table: &[u32; 2048], text: &[u8], s: Standing) -> Judged
-    requires { ⌜ (now table ≡ entries) × (s .point < POINTS) ⌝ }
+    requires { ⌜ (now table ≡ tableEntries) × (s .point < POINTS) ⌝ }
     ensures { λ r. ⌜ EndedAs (now (text .entry)) s r ⌝ }
 {
     let m = turn_at(table, s.point, 0);
@@ -143,7 +143,7 @@ fn judge_by(
     offsets: &mut [u16],
     closers: &mut [u8],
 ) -> Judged
-    requires { ⌜ (now kinds ≡ byteKinds) × (now table ≡ entries) × Room (now text) (now roles) (now offsets) (now closers) ⌝ }
+    requires { ⌜ (now kinds ≡ byteKinds) × (now table ≡ tableEntries) × Room (now text) (now roles) (now offsets) (now closers) ⌝ }
     ensures { λ r. ⌜ JudgedText (now (text .entry)) (now (roles .entry)) (now (offsets .entry)) r (now (roles .exit)) (now (offsets .exit)) ⌝ }
 {
     let mut s = Standing {

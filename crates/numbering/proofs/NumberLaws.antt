@@ -9,9 +9,9 @@ use lib.ListN.{length, getD, take, set, length-map}
 use lib.Seq.{take-suc, length-take-le}
 use Rattle.grammar.specs.Tokens.{Spelling, Lexeme, name-token}
 use Rattle.grammar.specs.Files.{spellingOf, namesWith, distinct, rankIn}
-use Rattle.spellings.specs.Table.{nameFrom, Holds, Held, grown, PlaceIs, Grows}
+use Rattle.spellings.specs.Table.{nameFrom, TableHolds, TableFilled, grown, PlaceIs, Grows}
 use Rattle.spellings.proofs.Places.{Among, place-le}
-use Rattle.numbering.specs.Numbers.{namesAt, numbered, chosenNumber, namesTo, NumberedTo, Numbers, Tokens}
+use Rattle.numbering.specs.Numbers.{namesAt, numbered, chosenNumber, namesTo, NumberedTo, Numbers, TokenArrays}
 use Rattle.numbering.specs.Chains.{FirstFrom}
 use Rattle.numbering.proofs.Chains.{skipped}
 use Rattle.numbering.proofs.Distinct.{distinct-more, place-grown, place-own, among-first, among-behind, distinct-has, distinct-few}
@@ -147,7 +147,7 @@ module _ (text roles offsets : List ℕ) (i : ℕ) (a : i < length roles) (b : i
           → test (getD roles i 0) ≡ true
           → e ≡ rankIn (namesTo test text roles offsets i) (nameFrom text (getD offsets i 0))
           → values′ ≡ set values i e
-          → Holds text firsts′ links′ heads′ (grown (namesTo test text roles offsets i) (nameFrom text (getD offsets i 0)))
+          → TableHolds text firsts′ links′ heads′ (grown (namesTo test text roles offsets i) (nameFrom text (getD offsets i 0)))
           → length (grown (namesTo test text roles offsets i) (nameFrom text (getD offsets i 0))) ≡ count′
           → NumberedTo test text roles offsets before (i + 1) values′ firsts′ links′ heads′ count′
       number-with e values′ firsts′ links′ heads′ count′ p q v h l =
@@ -167,18 +167,18 @@ module _ (text roles offsets : List ℕ) (i : ℕ) (a : i < length roles) (b : i
           }
 
 -- No token is numbered yet.
-pub number-none : (test : ℕ → Bool) (text roles offsets values firsts links heads : List ℕ) → Holds text firsts links heads [] → NumberedTo test text roles offsets values 0 values firsts links heads 0
+pub number-none : (test : ℕ → Bool) (text roles offsets values firsts links heads : List ℕ) → TableHolds text firsts links heads [] → NumberedTo test text roles offsets values 0 values firsts links heads 0
 unfolding numbered namesWith distinct
 number-none test text roles offsets values firsts links heads h = record { values-are = refl; holds = h; counted = refl }
 
 -- The table of what is numbered.
-pub held-of : {test : ℕ → Bool} {text roles offsets before values firsts links heads : List ℕ} {n count : ℕ} → NumberedTo test text roles offsets before n values firsts links heads count → Held text firsts links heads count
+pub held-of : {test : ℕ → Bool} {text roles offsets before values firsts links heads : List ℕ} {n count : ℕ} → NumberedTo test text roles offsets before n values firsts links heads count → TableFilled text firsts links heads count
 held-of {test} {text} {roles} {offsets} {n = n} w = record { names = namesTo test text roles offsets n; holds = w .holds; counted = w .counted }
 
 -- What the code makes of token i.
 pub token-with :
     (test : ℕ → Bool) (text roles offsets values firsts links heads : List ℕ) (i count : ℕ) (e count′ : ℕ) (values′ firsts′ links′ heads′ : List ℕ)
-    → Tokens text roles offsets values firsts links (i + 1)
+    → TokenArrays text roles offsets values firsts links (i + 1)
     → test (getD roles i 0) ≡ true
     → PlaceIs text firsts links heads count (nameFrom text (getD offsets i 0)) e
     → Grows text firsts links heads count (nameFrom text (getD offsets i 0)) firsts′ links′ heads′
@@ -201,7 +201,7 @@ number-few {test} {text} {roles} {offsets} {n = n} h w =
     omega (arith, w .counted, names-once test (take n roles) (namesAt text (take n offsets)), length-take-le n roles h)
 
 -- The place of a name is a value.
-pub place-small : (text firsts links heads : List ℕ) (count : ℕ) (y : Spelling) (e : ℕ) → Held text firsts links heads count → PlaceIs text firsts links heads count y e → e ≤ count
+pub place-small : (text firsts links heads : List ℕ) (count : ℕ) (y : Spelling) (e : ℕ) → TableFilled text firsts links heads count → PlaceIs text firsts links heads count y e → e ≤ count
 place-small text firsts links heads count y e h p = omega (arith, p (h .names) (h .holds) (h .counted), place-le (h .names) y, h .counted)
 
 -- Arrays of the same lengths have the same room.
@@ -211,8 +211,8 @@ pub room-still :
     → length values′ ≡ length values
     → length firsts′ ≡ length firsts
     → length links′ ≡ length links
-    → Tokens text roles offsets values firsts links n
-    → Tokens text roles offsets values′ firsts′ links′ m
+    → TokenArrays text roles offsets values firsts links n
+    → TokenArrays text roles offsets values′ firsts′ links′ m
 room-still m h a b d t =
     record {
       few = omega (arith, t .few);
@@ -233,7 +233,7 @@ pub record Going (test : ℕ → Bool) (text roles offsets values₀ firsts₀ l
   pub links-long : length links ≡ length links₀
   pub so-far : NumberedTo test text roles offsets values₀ i values firsts links heads count
 
-module _ (test : ℕ → Bool) (text roles offsets values₀ firsts₀ links₀ : List ℕ) (n : ℕ) (room : Tokens text roles offsets values₀ firsts₀ links₀ n)
+module _ (test : ℕ → Bool) (text roles offsets values₀ firsts₀ links₀ : List ℕ) (n : ℕ) (room : TokenArrays text roles offsets values₀ firsts₀ links₀ n)
     (values firsts links heads : List ℕ) (count : ℕ) where
   -- The tokens before the next name of the sort are passed over.
   pub going-on :

@@ -9,7 +9,7 @@ use Rattle.words.specs.Word.{WORD}
 use Rattle.grammar.specs.Tokens.{Spelling, Lexeme, name-token}
 use Rattle.grammar.specs.Roles.{R-TYPE}
 use Rattle.grammar.specs.Files.{spellingOf, namesWith, distinct, rankIn, methodRole, fieldRole, otherRole, declaredRole}
-use Rattle.spellings.specs.Table.{nameFrom, Holds}
+use Rattle.spellings.specs.Table.{nameFrom, TableHolds}
 use Rattle.numbering.specs.declared.Sort.{Sort}
 use Rattle.numbering.specs.declared.Sort.the-variants.{Methods, Fields, Variables, Declared, Types}
 
@@ -43,7 +43,7 @@ namesTo test text roles offsets n = distinct (namesWith test (take n roles) (nam
 -- The first n tokens are numbered, where the values were `before`, and the table holds their names.
 pub record NumberedTo (test : ℕ → Bool) (text roles offsets before : List ℕ) (n : ℕ) (values firsts links heads : List ℕ) (count : ℕ) : Type 0 where
   pub values-are : values ≡ numbered test (namesTo test text roles offsets n) (take n roles) (namesAt text (take n offsets)) before
-  pub holds : Holds text firsts links heads (namesTo test text roles offsets n)
+  pub holds : TableHolds text firsts links heads (namesTo test text roles offsets n)
   pub counted : length (namesTo test text roles offsets n) ≡ count
 
 -- One token more is numbered.
@@ -55,7 +55,7 @@ Numbers test text roles offsets i values firsts links heads count values′ firs
     → NumberedTo test text roles offsets before (i + 1) values′ firsts′ links′ heads′ count′
 
 -- Room for n tokens, and offsets that stand in the text.
-pub record Tokens (text roles offsets values firsts links : List ℕ) (n : ℕ) : Type 0 where
+pub record TokenArrays (text roles offsets values firsts links : List ℕ) (n : ℕ) : Type 0 where
   pub few : n ≤ WORD
   pub in-roles : n ≤ length roles
   pub in-offsets : n ≤ length offsets

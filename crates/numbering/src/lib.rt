@@ -7,8 +7,8 @@ ghost use lib.Dec.{eqb};
 ghost use lib.ListN.{length, getD};
 ghost use Rattle.words.specs.Word.{WORD};
 ghost use Rattle.tokens.specs.Kinds.{byteKinds};
-ghost use Rattle.spellings.specs.Table.{Held, Holds};
-ghost use Rattle.numbering.specs.Numbers.{roleTest, chosenNumber, Tokens, NumberedTo, Numbers};
+ghost use Rattle.spellings.specs.Table.{TableFilled, TableHolds};
+ghost use Rattle.numbering.specs.Numbers.{roleTest, chosenNumber, TokenArrays, NumberedTo, Numbers};
 ghost use Rattle.numbering.specs.Chains.{nextIn, LinkedSort, firstName, ChainsAre, SORTS, sortNumber, SortIs, HeadsFrom};
 ghost use Rattle.numbering.specs.declared.Sort.{Sort};
 
@@ -153,8 +153,8 @@ fn number_token(
     heads: &mut [u32],
     count: usize,
 ) -> usize
-    requires { ⌜ Tokens (now text) (now roles) (now offsets) (now values) (now firsts) (now links) (i + 1) ⌝ }
-    requires { ⌜ Held (now text) (now firsts) (now links) (now heads) count × (count ≤ i) ⌝ }
+    requires { ⌜ TokenArrays (now text) (now roles) (now offsets) (now values) (now firsts) (now links) (i + 1) ⌝ }
+    requires { ⌜ TableFilled (now text) (now firsts) (now links) (now heads) count × (count ≤ i) ⌝ }
     requires { ⌜ (roleTest sort (getD (now roles) i 0) ≡ true) × (now kinds ≡ byteKinds) ⌝ }
     ensures { λ r. ⌜
         Numbers (roleTest sort) (now (text .entry)) (now (roles .entry)) (now (offsets .entry)) i
@@ -185,8 +185,8 @@ pub fn number_names(
     links: &mut [u16],
     heads: &mut [u32],
 ) -> usize
-    requires { ⌜ Tokens (now text) (now roles) (now offsets) (now values) (now firsts) (now links) n ⌝ }
-    requires { ⌜ Holds (now text) (now firsts) (now links) (now heads) [] ⌝ }
+    requires { ⌜ TokenArrays (now text) (now roles) (now offsets) (now values) (now firsts) (now links) n ⌝ }
+    requires { ⌜ TableHolds (now text) (now firsts) (now links) (now heads) [] ⌝ }
     requires { ⌜ LinkedSort (roleTest sort) (now roles) n (now chain) first × (now kinds ≡ byteKinds) ⌝ }
     ensures { λ r. ⌜
         NumberedTo (roleTest sort) (now (text .entry)) (now (roles .entry)) (now (offsets .entry)) (now (values .entry)) n

@@ -16,7 +16,7 @@ use Rattle.numbering.specs.declared.Sort.the-variants.{Methods, Fields, Variabl
 use Rattle.numbering.specs.declared.Firsts.{Firsts}
 use Rattle.numbering.specs.Chains.{ChainsAre}
 use Rattle.numbering.specs.Numbers.{roleTest, namesAt, numbered, namesTo}
-use Rattle.declarations.specs.Declaring.{typeNamed, foundOf, Declarations}
+use Rattle.declarations.specs.Declaring.{typeNamed, faultBelow, Declarations}
 use Rattle.declarations.proofs.Derived.{names-derived, numbered-derived, types-derived, fault-derived}
 use Rattle.bounds.specs.declared.Counted.{Counted}
 use Rattle.bounds.specs.Counting.{IntegersSpelt, CountedAs}
@@ -52,15 +52,15 @@ roomy-still z a b c d h =
       for-heads = d ∙ h .for-heads;
     }
 
-found-there : (n r : ℕ) → r < n → foundOf n r ≡ some r
+found-there : (n r : ℕ) → r < n → faultBelow n r ≡ some r
 found-there n r h = rw (lt-ltb r n h) refl
 
-found-none : (n r : ℕ) → n ≤ r → foundOf n r ≡ none
+found-none : (n r : ℕ) → n ≤ r → faultBelow n r ≡ none
 found-none n r h = rw (le-ltb r n h) refl
 
 -- 35.
 module _ {text roles offsets : List ℕ} {n start : ℕ} {chain values firsts links heads file : List ℕ} (j : JudgedDerived text roles offsets n start chain values firsts links heads file) where
-  fault-of : {values′ : List ℕ} {r : ℕ} → Declarations text roles offsets values n values′ r → declarationFault (markedText (j .judged .derived-text .derivation)) ≡ foundOf n r
+  fault-of : {values′ : List ℕ} {r : ℕ} → Declarations text roles offsets values n values′ r → declarationFault (markedText (j .judged .derived-text .derivation)) ≡ faultBelow n r
   fault-of a =
       sym (fault-derived text roles offsets n (j .judged .derived-text .derivation) (sym (derives (j .judged .derived-text))) (roles-taken (j .judged .derived-text)) (offsets-taken (j .judged .derived-text)))
       ∙ a .fault

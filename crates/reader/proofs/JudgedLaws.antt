@@ -19,7 +19,7 @@ use Rattle.tokens.specs.Runs.{HASHES}
 use Rattle.judge.specs.declared.Judged.{Judged}
 use Rattle.judge.specs.Judging.{lexemesOf, JudgedAs, JudgedText}
 use Rattle.reader.specs.declared.Read.{Read}
-use Rattle.reader.specs.Reading.{ReadAs, Lent, zeros}
+use Rattle.reader.specs.Reading.{ReadAs, LentToRead, cleared}
 use Rattle.reader.specs.Derived.{DerivedText, JudgedDerived}
 use Rattle.reader.proofs.Laws.{place-at, read-lengths, read-stuck}
 use Rattle.reader.proofs.PassLaws.{refusal-as}
@@ -54,7 +54,7 @@ pub judged-place :
     → j .place ≤ length text
 judged-place text roles offsets roles′ offsets′ j a h = place-by text roles offsets roles′ offsets′ j (parsed (lexemesOf text)) a h
 
-module _ {text roles offsets closers file : List ℕ} (l : Lent text roles offsets closers file) where
+module _ {text roles offsets closers file : List ℕ} (l : LentToRead text roles offsets closers file) where
   refused-by :
       (roles′ offsets′ : List ℕ) (j : Judged) (reply : Read) (v : Verdict)
       → parsed (lexemesOf text) ≡ v
@@ -107,25 +107,25 @@ module _ {text roles offsets closers file : List ℕ} (l : Lent text roles offse
       → DerivedText text roles′ offsets′ (j .tokens) (j .start) file
   judged-passed roles′ offsets′ j a h = passed-by roles′ offsets′ j (parsed (lexemesOf text)) refl a h
 
--- Arrays of zeros.
-zeros-long : (n : ℕ) → length (zeros n) ≡ n
-unfolding zeros
+-- Arrays of cleared.
+zeros-long : (n : ℕ) → length (cleared n) ≡ n
+unfolding cleared
 zeros-long n = length-replicate {A = ℕ} n 0
 
-zeros-are : (n : ℕ) → _≡_ {A = List ℕ} (zeros n) (replicate n 0)
-unfolding zeros
+zeros-are : (n : ℕ) → _≡_ {A = List ℕ} (cleared n) (replicate n 0)
+unfolding cleared
 zeros-are n = refl
 
--- Arrays of zeros with room for all tokens.
+-- Arrays of cleared with room for all tokens.
 pub roomy-zeros :
     {text roles offsets chain values firsts links heads file : List ℕ} {n start : ℕ} (m : ℕ)
     → n ≤ m
     → DerivedText text roles offsets n start file
-    → chain ≡ zeros m
-    → values ≡ zeros m
-    → firsts ≡ zeros m
-    → links ≡ zeros m
-    → heads ≡ zeros HASHES
+    → chain ≡ cleared m
+    → values ≡ cleared m
+    → firsts ≡ cleared m
+    → links ≡ cleared m
+    → heads ≡ cleared HASHES
     → JudgedDerived text roles offsets n start chain values firsts links heads file
 roomy-zeros m h j c v f l e =
     record {

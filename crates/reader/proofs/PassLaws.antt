@@ -14,9 +14,9 @@ use Rattle.grammar.specs.Read.{TextRead, textRefused, tokenPlace}
 use Rattle.grammar.proofs.Splitting.{splits}
 use Rattle.grammar.proofs.Written.{splits-written}
 use Rattle.grammar.proofs.Place.{parsed-derived}
-use Rattle.numbering.specs.Numbers.{Tokens}
+use Rattle.numbering.specs.Numbers.{TokenArrays}
 use Rattle.bounds.proofs.Text.{placed-text}
-use Rattle.bounds.specs.Counting.{Placed}
+use Rattle.bounds.specs.Counting.{TokensLie}
 use Rattle.capacity.proofs.Roles.{text-spelled}
 use Rattle.reader.specs.declared.Read.{Read}
 use Rattle.reader.specs.Reading.{ReadAs}
@@ -65,14 +65,14 @@ module _ {text roles offsets : List ℕ} {n start : ℕ} (k : Derived text roles
   pub in-text : n ≤ length text
   in-text = omega (arith, tokens-within (splits 0 text), k .all-tokens)
 
-  pub placed : Placed text roles offsets n
+  pub placed : TokensLie text roles offsets n
   placed = rw (k .all-tokens) (placed-text text (k .derivation) roles offsets (k .others) (k .more) derives (k .roles-are) (k .offsets-are))
 
   pub tokens-there :
       (chain values firsts links heads : List ℕ)
       → length text ≤ TEXT
       → Roomy n chain values firsts links heads
-      → Tokens text roles offsets values firsts links n
+      → TokenArrays text roles offsets values firsts links n
   tokens-there chain values firsts links heads short h =
       record {
         few = omega (arith, in-text);

@@ -30,7 +30,7 @@ use Rattle.bounds.specs.declared.Counted.{Counted}
 use Rattle.bounds.specs.Counting.{countedOf}
 use Rattle.writer.specs.declared.Counts.{Counts}
 use Rattle.writer.specs.Records.{begunAmong}
-use Rattle.writer.specs.Counted.{countIn, Writable, contentsOf, fileWords, FileIs}
+use Rattle.writer.specs.Counted.{recordsIn, Writable, contentsBy, fileWords, FileIs}
 use Rattle.reader.specs.declared.Read.{Read}
 use Rattle.reader.specs.Reading.{ReadAs}
 use Rattle.reader.specs.Derived.{NumberedText}
@@ -42,7 +42,7 @@ use Rattle.reader.proofs.PassLaws.{derives, roles-all, offsets-all, rol
 -- The six counts, one by one.
 pub counts-same :
     (c : Counted) (s : Section)
-    → countIn
+    → recordsIn
     (record { interfaces = c .interfaces; signatures = c .signatures; classes = c .classes; fields = c .fields; methods = c .methods; nodes = c .nodes })
     s
     ≡ countedOf c s
@@ -86,7 +86,7 @@ module _ {text roles offsets values index : List ℕ} {n start : ℕ} {c : Count
       (λ (h : n ≤ i). rw (List·getD-eq-default os 0 {n = i} (omega (arith, h, offsets-all k))) (omega arith))
       (lt-or-le i n))
 
-  pub writable : {c′ : Counts} → ((s : Section) → countIn c′ s ≡ countedOf c s) → Writable text (take n roles) (take n offsets) (take n values) start c′
+  pub writable : {c′ : Counts} → ((s : Section) → recordsIn c′ s ≡ countedOf c s) → Writable text (take n roles) (take n offsets) (take n values) start c′
   writable {c′} e =
       let k = j .judged .derived-text in
       let d = k .derivation in
@@ -115,13 +115,13 @@ module _ {text roles offsets values index : List ℕ} {n start : ℕ} {c : Count
       }
 
   -- The words are the file's.
-  words-are : {c′ : Counts} → ((s : Section) → countIn c′ s ≡ countedOf c s) → bytes (fileWords c′ start (itemsOf text (take n roles) (take n offsets) (take n values))) ≡ fileText (j .judged .derived-text .derivation)
-  unfolding contentsOf
+  words-are : {c′ : Counts} → ((s : Section) → recordsIn c′ s ≡ countedOf c s) → bytes (fileWords c′ start (itemsOf text (take n roles) (take n offsets) (take n values))) ≡ fileText (j .judged .derived-text .derivation)
+  unfolding contentsBy
   words-are {c′} e =
       let k = j .judged .derived-text in
       let d = k .derivation in
       let es = itemsText (numberingOf d) d in
-      let count : (s : Section) → countIn c′ s ≡ recordsOf s d = λ s. e s ∙ j .counts-are s in
+      let count : (s : Section) → recordsIn c′ s ≡ recordsOf s d = λ s. e s ∙ j .counts-are s in
       let items : itemsOf text (take n roles) (take n offsets) (take n values) ≡ es =
       ap (λ rs. itemsOf text rs (take n offsets) (take n values)) (roles-taken k)
       ∙ ap (λ os. itemsOf text (rolesText d) os (take n values)) (offsets-taken k)
@@ -147,7 +147,7 @@ module _ {text roles offsets values index : List ℕ} {n start : ℕ} {c : Count
 
   pub file-read :
       {c′ : Counts} {r : ℕ} {file′ : List ℕ} (reply : Read)
-      → ((s : Section) → countIn c′ s ≡ countedOf c s)
+      → ((s : Section) → recordsIn c′ s ≡ countedOf c s)
       → FileIs (fileWords c′ start (itemsOf text (take n roles) (take n offsets) (take n values))) file′ r
       → reply ≡ record { number = 0; length = r; place = 0 }
       → ReadAs reply file′ (readOf text file)

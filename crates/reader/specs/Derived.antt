@@ -49,7 +49,7 @@ pub record Roomy (n : ℕ) (chain values firsts links heads : List ℕ) : Type 0
   pub for-heads : length heads ≡ HASHES
 
 -- The names of types have their numbers, and no other token has one.
-pub record Typed (d : Derivation) (values : List ℕ) : Type 0 where
+pub record TypesNamed (d : Derivation) (values : List ℕ) : Type 0 where
   pub rest : List ℕ
   pub no-fault : declarationFault (markedText d) ≡ none
   pub values-are :
@@ -69,7 +69,7 @@ pub record DeclaredText (text roles offsets : List ℕ) (n start : ℕ) (chain :
   pub judged : DerivedText text roles offsets n start file
   pub roomy : Roomy n chain values firsts links heads
   pub linked : ChainsAre roles n chain f
-  pub typed : Typed (judged .derived-text .derivation) values
+  pub typed : TypesNamed (judged .derived-text .derivation) values
 
 -- Before the file is written: nothing is at fault, records are counted and indexed, and names numbered.
 pub record NumberedText (text roles offsets values index : List ℕ) (n start : ℕ) (c : Counted) (file : List ℕ) : Type 0 where

@@ -24,12 +24,12 @@ SMALL = 1024
 abbrev pub MIDDLE : ℕ
 MIDDLE = 16384
 
--- So many zeros.
-unfoldable pub zeros : ℕ → List ℕ
-zeros n = replicate n 0
+-- So many cleared.
+unfoldable pub cleared : ℕ → List ℕ
+cleared n = replicate n 0
 
 -- A text and a buffer in length, with arrays that have room for all tokens.
-pub record Lent (text roles offsets closers file : List ℕ) : Type 0 where
+pub record LentToRead (text roles offsets closers file : List ℕ) : Type 0 where
   pub short : length text ≤ TEXT
   pub whole : length file ≡ FILE
   pub for-roles : length text ≤ length roles

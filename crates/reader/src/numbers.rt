@@ -7,7 +7,7 @@ ghost use lib.ListN.{length, replicate};
 ghost use Rattle.tokens.specs.Kinds.{byteKinds};
 ghost use Rattle.tokens.specs.Runs.{HASHES};
 ghost use Rattle.numbering.specs.Chains.{ChainsAre, LinkedSort};
-ghost use Rattle.numbering.specs.Numbers.{roleTest, Tokens};
+ghost use Rattle.numbering.specs.Numbers.{roleTest, TokenArrays};
 ghost use Rattle.numbering.specs.declared.Sort.the-variants.{Methods, Fields, Variables};
 ghost use Rattle.reader.specs.Numbers.{SortNumbered, sortNumbered};
 
@@ -37,7 +37,7 @@ fn number_sort(
     links: &mut [u16],
     heads: &mut [u32],
 )
-    requires { ⌜ Tokens (now text) (now roles) (now offsets) (now values) (now firsts) (now links) n × (length (now heads) ≡ HASHES) ⌝ }
+    requires { ⌜ TokenArrays (now text) (now roles) (now offsets) (now values) (now firsts) (now links) n × (length (now heads) ≡ HASHES) ⌝ }
     requires { ⌜ LinkedSort (roleTest sort) (now roles) n (now chain) first × (now kinds ≡ byteKinds) ⌝ }
     ensures { λ r. ⌜
         SortNumbered (now (text .entry)) (now (roles .entry)) (now (offsets .entry)) n
@@ -77,7 +77,7 @@ pub fn number_rest(
     links: &mut [u16],
     heads: &mut [u32],
 )
-    requires { ⌜ Tokens (now text) (now roles) (now offsets) (now values) (now firsts) (now links) n × (length (now heads) ≡ HASHES) ⌝ }
+    requires { ⌜ TokenArrays (now text) (now roles) (now offsets) (now values) (now firsts) (now links) n × (length (now heads) ≡ HASHES) ⌝ }
     requires { ⌜ ChainsAre (now roles) n (now chain) f × (now kinds ≡ byteKinds) ⌝ }
     ensures { λ r. ⌜
         now (values .exit)

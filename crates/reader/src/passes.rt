@@ -17,7 +17,7 @@ ghost use Rattle.grammar.specs.Read.{readOf};
 ghost use Rattle.script.specs.declared.Section.{Section};
 ghost use Rattle.tokens.specs.Kinds.{byteKinds};
 ghost use Rattle.bounds.specs.Counting.{countedOf};
-ghost use Rattle.writer.specs.Counted.{countIn};
+ghost use Rattle.writer.specs.Counted.{recordsIn};
 ghost use Rattle.reader.specs.Reading.{ReadAs};
 ghost use Rattle.reader.specs.Derived.{JudgedDerived, DeclaredText, NumberedText};
 
@@ -49,7 +49,7 @@ fn offset_at(offsets: &[u16], i: usize) -> usize
 
 // The counts as the writer takes them.
 fn counts_of(c: Counted) -> Counts
-    ensures { λ r. ⌜ ((k : Section) → countIn r k ≡ countedOf c k) ⌝ }
+    ensures { λ r. ⌜ ((k : Section) → recordsIn r k ≡ countedOf c k) ⌝ }
 {
     Counts {
         interfaces: c.interfaces,

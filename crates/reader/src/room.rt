@@ -17,7 +17,7 @@ ghost use Prim.Native.Nat.{_<_, _≤_};
 ghost use Rattle.limits.specs.Limits.{TEXT};
 ghost use Rattle.grammar.specs.Read.{readOf};
 ghost use Rattle.tokens.specs.Kinds.{byteKinds};
-ghost use Rattle.reader.specs.Reading.{ReadAs, Lent, TINY, SMALL, MIDDLE};
+ghost use Rattle.reader.specs.Reading.{ReadAs, LentToRead, TINY, SMALL, MIDDLE};
 ghost use Rattle.reader.specs.Derived.{DerivedText};
 
 fn number_tiny(
@@ -189,7 +189,7 @@ pub fn ask_grammar(
     closers: &mut [u8],
     file: &mut [u8],
 ) -> Read
-    requires { ⌜ Lent (now text) (now roles) (now offsets) (now closers) (now file) ⌝ }
+    requires { ⌜ LentToRead (now text) (now roles) (now offsets) (now closers) (now file) ⌝ }
     ensures { λ r. ⌜ ReadAs r (now (file .exit)) (readOf (now (text .entry)) (now (file .entry))) ⌝ }
 {
     let kinds = byte_kinds();

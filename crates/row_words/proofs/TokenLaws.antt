@@ -16,14 +16,14 @@ use Rattle.grammar.specs.Roles.{R-INTERFACE, R-CLASS, R-SIGNATURE, R-FIELD, R-M
 use Rattle.rows.specs.Rows.{Item, noItem, rowItem, typeWord, variableWord, oneMore, owned, hop, interfaceRow}
 use Rattle.row_words.specs.declared.Members.{Members}
 use Rattle.row_words.specs.Row.{Owns}
-use Rattle.row_words.specs.Items.{Roled, Marks, Amounts, Shows, amountAt, itemsOf, ForRoles}
+use Rattle.row_words.specs.Items.{Roled, Labelled, Amounts, Described, amountAt, itemsOf, ForRoles}
 
 -- one token's role and number
 pub role-in : {roles : List ℕ} {es : List Item} → Roled roles es → {i : ℕ} (j k : ℕ) → j + k ≡ i → rowItem (drop j es) k .role ≡ getD roles i 0
 role-in {roles} {es} e {i} j k h =
     ap (λ (x : Item). x .role) (getD-drop j es k noItem) ∙ sym (List·getD-map (λ (x : Item). x .role) es (j + k) noItem) ∙ rw (e .roles-are, h)
 
-pub value-in : {roles values : List ℕ} {es : List Item} → Marks roles values es → {i : ℕ} (j k : ℕ) → j + k ≡ i → rowItem (drop j es) k .value ≡ getD values i 0
+pub value-in : {roles values : List ℕ} {es : List Item} → Labelled roles values es → {i : ℕ} (j k : ℕ) → j + k ≡ i → rowItem (drop j es) k .value ≡ getD values i 0
 value-in {es = es} m {i} j k h =
     ap (λ (x : Item). x .value) (getD-drop j es k noItem) ∙ sym (List·getD-map (λ (x : Item). x .value) es (j + k) noItem) ∙ rw (m .values-are, h)
 
@@ -171,7 +171,7 @@ unfolding interfaceRow
 list-row types es h p = three-are refl p refl ∙ rw (ne-eqb _ _ h)
 
 -- the items of tokens are items of them
-pub items-shown : (text roles offsets values : List ℕ) → length offsets ≡ length roles → length values ≡ length roles → Shows text roles offsets values (itemsOf text roles offsets values)
+pub items-shown : (text roles offsets values : List ℕ) → length offsets ≡ length roles → length values ≡ length roles → Described text roles offsets values (itemsOf text roles offsets values)
 unfolding itemsOf
 items-shown text [] [] [] p q = record { marks = record { roled = record { roles-are = refl }; values-are = refl }; amounts = record { amounts-are = refl } }
 items-shown text [] (o ∷ offsets) values p q = absurd (omega arith)

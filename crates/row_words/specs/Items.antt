@@ -13,7 +13,7 @@ use Rattle.rows.specs.Rows.{Item, rowItem}
 pub record Roled (roles : List ℕ) (es : List Item) : Type 0 where
   pub roles-are : map (λ (e : Item). e .role) es ≡ roles
 
-pub record Marks (roles values : List ℕ) (es : List Item) : Type 0 where
+pub record Labelled (roles values : List ℕ) (es : List Item) : Type 0 where
   pub roled : Roled roles es
   pub values-are : map (λ (e : Item). e .value) es ≡ values
 
@@ -25,8 +25,8 @@ amountAt text at = capped (decimal (digitsFrom (drop at text)))
 pub record Amounts (text offsets : List ℕ) (es : List Item) : Type 0 where
   pub amounts-are : map (λ (e : Item). e .amount) es ≡ map (amountAt text) offsets
 
-pub record Shows (text roles offsets values : List ℕ) (es : List Item) : Type 0 where
-  pub marks : Marks roles values es
+pub record Described (text roles offsets values : List ℕ) (es : List Item) : Type 0 where
+  pub marks : Labelled roles values es
   pub amounts : Amounts text offsets es
 
 -- And these are they, with a number and an offset for each role.
@@ -55,7 +55,7 @@ abbrev pub ForRoles : List ℕ → ℕ → (List Item → Type 0) → Type 0
 ForRoles roles i P = (es : List Item) → Roled roles es → (j k : ℕ) → j + k ≡ i → P (drop k (drop j es))
 
 abbrev pub ForToken : List ℕ → List ℕ → ℕ → (Item → Type 0) → Type 0
-ForToken roles values i P = (es : List Item) → Marks roles values es → (j k : ℕ) → j + k ≡ i → P (rowItem (drop j es) k)
+ForToken roles values i P = (es : List Item) → Labelled roles values es → (j k : ℕ) → j + k ≡ i → P (rowItem (drop j es) k)
 
 -- No expression reaches behind the last node.
 pub record Nested (sizes : List ℕ) : Type 0 where

@@ -12,10 +12,10 @@ use Rattle.row_words.specs.declared.Members.{Members}
 use Rattle.row_words.specs.declared.Row.{Row}
 use Rattle.row_words.specs.declared.Row.the-variants.{Two, Three, Four}
 
-abbrev pub wordsOf : Row → List ℕ
-wordsOf (Two a b) = a ∷ b ∷ []
-wordsOf (Three a b c) = a ∷ b ∷ c ∷ []
-wordsOf (Four a b c d) = a ∷ b ∷ c ∷ d ∷ []
+abbrev pub rowWords : Row → List ℕ
+rowWords (Two a b) = a ∷ b ∷ []
+rowWords (Three a b c) = a ∷ b ∷ c ∷ []
+rowWords (Four a b c d) = a ∷ b ∷ c ∷ d ∷ []
 
 -- The members of the declaration that these items follow: as many as come before the next one.
 pub record Owns (m : Members) (es : List Item) : Type 0 where

@@ -17,15 +17,16 @@ ghost use Rattle.tokens.specs.Runs.{BEYOND};
 ghost use Rattle.words.specs.Word.{WORD};
 ghost use Rattle.limits.specs.Limits.{TEXT};
 ghost use Rattle.rows.specs.Rows.{Item, rowItem, hop, variableWord, nodeRow};
-ghost use Rattle.row_words.specs.Items.{Small, RowFrom, Marks, Nested, WithinText, Amounts, Shows, Readable};
-ghost use Rattle.row_words.specs.Row.{wordsOf};
+ghost use Rattle.row_words.specs.Items.{Small, RowFrom, Labelled, Nested, WithinText, Amounts, Described, Readable};
+ghost use Rattle.row_words.specs.Row.{rowWords};
 
 // Null, a variable, a selection, an update, a call: the target first, then the member, then the part.
 fn member_row(roles: &[u8], values: &[u16], i: usize, n: u16) -> Row
     requires { ⌜ Small (now values) × (n + 1 < WORD) × (length (now roles) ≤ TEXT) × (i < length (now roles)) ⌝ }
     requires { ⌜ (15 < getD (now roles) i 0 % 32) × (getD (now roles) i 0 % 32 < 21) ⌝ }
     ensures { λ r. ⌜
-        ((es : List Item) → Marks (now (roles .entry)) (now (values .entry)) es → (types : ℕ) (sizes : List ℕ) → wordsOf r ≡ nodeRow types n sizes (drop i es))
+        ((es : List Item) → Labelled (now (roles .entry)) (now (values .entry)) es →
+        (types : ℕ) (sizes : List ℕ) → rowWords r ≡ nodeRow types n sizes (drop i es))
         ⌝ }
 {
     let role = role_at(roles, i) % Roles::BINDING;
@@ -58,7 +59,7 @@ fn part_behind(sizes: &[u16], from: usize, n: u16, parts: usize) -> u16
 fn let_row(values: &[u16], sizes: &[u16], i: usize, from: usize, n: u16) -> Row
     requires { ⌜ Small (now values) × Nested (now sizes) × (n + 1 + length (now sizes) < WORD) × (from ≤ WORD) × (i < TEXT) ⌝ }
     ensures { λ r. ⌜
-        wordsOf r ≡ fourWords 5 (getD (now (values .entry)) (i + 1) 0 + 2) (n + 1) (n + 1 + hop 1 (drop from (now (sizes .entry))))
+        rowWords r ≡ fourWords 5 (getD (now (values .entry)) (i + 1) 0 + 2) (n + 1) (n + 1 + hop 1 (drop from (now (sizes .entry))))
         ⌝ }
 {
     let y = value_at(values, i + 1) + 2;
@@ -70,7 +71,7 @@ fn let_row(values: &[u16], sizes: &[u16], i: usize, from: usize, n: u16) -> Row
 fn fork_row(sizes: &[u16], from: usize, n: u16) -> Row
     requires { ⌜ Nested (now sizes) × (n + 1 + length (now sizes) < WORD) × (from ≤ WORD) ⌝ }
     ensures { λ r. ⌜
-        wordsOf r ≡
+        rowWords r ≡
         fourWords 8 (n + 1) (n + 1 + hop 1 (drop from (now (sizes .entry)))) (n + 1 + hop 2 (drop from (now (sizes .entry))))
         ⌝ }
 {
@@ -84,7 +85,7 @@ fn typed_row(roles: &[u8], values: &[u16], types: u16, i: usize, n: u16) -> Row
     requires { ⌜ RowFrom (now roles) (now values) types i × (n + 1 < WORD) ⌝ }
     requires { ⌜ (21 < getD (now roles) i 0 % 32) × (getD (now roles) i 0 % 32 < 26) × (getD (now roles) i 0 % 32 ≡ 24 → ⊥) ⌝ }
     ensures { λ r. ⌜
-        ((es : List Item) → Marks (now (roles .entry)) (now (values .entry)) es → (sizes : List ℕ) → wordsOf r ≡ nodeRow types n sizes (drop i es))
+        ((es : List Item) → Labelled (now (roles .entry)) (now (values .entry)) es → (sizes : List ℕ) → rowWords r ≡ nodeRow types n sizes (drop i es))
         ⌝ }
 {
     let role = role_at(roles, i) % Roles::BINDING;
@@ -104,8 +105,8 @@ fn typed_row(roles: &[u8], values: &[u16], types: u16, i: usize, n: u16) -> Row
 fn sum_row(roles: &[u8], values: &[u16], i: usize) -> Row
     requires { ⌜ Small (now values) × (i < TEXT + 2) ⌝ }
     ensures { λ r. ⌜
-        ((es : List Item) → Marks (now (roles .entry)) (now (values .entry)) es →
-        (j k : ℕ) → j + k ≡ i → wordsOf r ≡ fourWords 11 (variableWord (rowItem (drop j es) k)) (variableWord (rowItem (drop j es) (k + 2))) 0)
+        ((es : List Item) → Labelled (now (roles .entry)) (now (values .entry)) es →
+        (j k : ℕ) → j + k ≡ i → rowWords r ≡ fourWords 11 (variableWord (rowItem (drop j es) k)) (variableWord (rowItem (drop j es) (k + 2))) 0)
         ⌝ }
 {
     let x = variable_word(roles, values, i);
@@ -115,7 +116,7 @@ fn sum_row(roles: &[u8], values: &[u16], i: usize) -> Row
 
 // An integer, of which two's complement has these bits.
 fn constant_row(bits: u32) -> Row
-    ensures { λ r. ⌜ wordsOf r ≡ fourWords 10 (bits % WORD) (bits / WORD) 0 ⌝ }
+    ensures { λ r. ⌜ rowWords r ≡ fourWords 10 (bits % WORD) (bits / WORD) 0 ⌝ }
 {
     Row::Four(10, (bits % 65536) as u16, (bits / 65536) as u16, 0)
 }
@@ -159,7 +160,7 @@ fn part_row(
     requires { ⌜ Nested (now sizes) × (n + 1 + length (now sizes) < WORD) × (from ≤ WORD) ⌝ }
     requires { ⌜ (20 < getD (now roles) i 0 % 32) × (getD (now roles) i 0 % 32 < 26) ⌝ }
     ensures { λ r. ⌜
-        ((es : List Item) → Marks (now (roles .entry)) (now (values .entry)) es → wordsOf r ≡ nodeRow types n (drop from (now (sizes .entry))) (drop i es))
+        ((es : List Item) → Labelled (now (roles .entry)) (now (values .entry)) es → rowWords r ≡ nodeRow types n (drop from (now (sizes .entry))) (drop i es))
         ⌝ }
 {
     let role = role_at(roles, i) % Roles::BINDING;
@@ -177,8 +178,8 @@ fn number_row(text: &[u8], roles: &[u8], offsets: &[u16], values: &[u16], i: usi
     requires { ⌜ Small (now values) × WithinText (now text) (now offsets) × (length (now roles) ≤ TEXT) × (i < length (now roles)) ⌝ }
     requires { ⌜ 25 < getD (now roles) i 0 % 32 ⌝ }
     ensures { λ r. ⌜
-        ((es : List Item) → Shows (now (text .entry)) (now (roles .entry)) (now (offsets .entry)) (now (values .entry)) es →
-        (types n : ℕ) (sizes : List ℕ) → wordsOf r ≡ nodeRow types n sizes (drop i es))
+        ((es : List Item) → Described (now (text .entry)) (now (roles .entry)) (now (offsets .entry)) (now (values .entry)) es →
+        (types n : ℕ) (sizes : List ℕ) → rowWords r ≡ nodeRow types n sizes (drop i es))
         ⌝ }
 {
     let role = role_at(roles, i) % Roles::BINDING;
@@ -209,8 +210,8 @@ pub fn node_row(
     requires { ⌜ Readable (now text) (now roles) (now offsets) (now values) (now sizes) types × (i < length (now roles)) ⌝ }
     requires { ⌜ (n + 1 + length (now sizes) < WORD) × (from ≤ WORD) × (15 < getD (now roles) i 0 % 32) ⌝ }
     ensures { λ r. ⌜
-        ((es : List Item) → Shows (now (text .entry)) (now (roles .entry)) (now (offsets .entry)) (now (values .entry)) es →
-        wordsOf r ≡ nodeRow types n (drop from (now (sizes .entry))) (drop i es))
+        ((es : List Item) → Described (now (text .entry)) (now (roles .entry)) (now (offsets .entry)) (now (values .entry)) es →
+        rowWords r ≡ nodeRow types n (drop from (now (sizes .entry))) (drop i es))
         ⌝ }
 {
     let role = role_at(roles, i) % Roles::BINDING;

@@ -9,13 +9,13 @@ ghost use mathlib.Core.Path.{_≡_};
 ghost use lib.ListN.{drop};
 ghost use mathlib.Core.List.{List};
 ghost use Rattle.rows.specs.Rows.{Item, interfaceRow, signatureRow, classRow, fieldRow, methodRow};
-ghost use Rattle.row_words.specs.Items.{RowFrom, Marks};
-ghost use Rattle.row_words.specs.Row.{wordsOf};
+ghost use Rattle.row_words.specs.Items.{RowFrom, Labelled};
+ghost use Rattle.row_words.specs.Row.{rowWords};
 
 // A join, whose first type is 3 tokens behind `interface`, or a list of signatures.
 pub fn interface_row(roles: &[u8], values: &[u16], types: u16, i: usize) -> Row
     requires { ⌜ RowFrom (now roles) (now values) types i ⌝ }
-    ensures { λ r. ⌜ ((es : List Item) → Marks (now (roles .entry)) (now (values .entry)) es → wordsOf r ≡ interfaceRow types (drop i es)) ⌝ }
+    ensures { λ r. ⌜ ((es : List Item) → Labelled (now (roles .entry)) (now (values .entry)) es → rowWords r ≡ interfaceRow types (drop i es)) ⌝ }
 {
     if role_at(roles, i + 3) == Roles::TYPE {
         let a = type_word(roles, values, types, i + 3);
@@ -28,7 +28,7 @@ pub fn interface_row(roles: &[u8], values: &[u16], types: u16, i: usize) -> Row
 
 pub fn signature_row(roles: &[u8], values: &[u16], types: u16, i: usize) -> Row
     requires { ⌜ RowFrom (now roles) (now values) types i ⌝ }
-    ensures { λ r. ⌜ ((es : List Item) → Marks (now (roles .entry)) (now (values .entry)) es → wordsOf r ≡ signatureRow types (drop i es)) ⌝ }
+    ensures { λ r. ⌜ ((es : List Item) → Labelled (now (roles .entry)) (now (values .entry)) es → rowWords r ≡ signatureRow types (drop i es)) ⌝ }
 {
     let name = value_at(values, i);
     let takes = type_word(roles, values, types, i + 4);
@@ -38,7 +38,7 @@ pub fn signature_row(roles: &[u8], values: &[u16], types: u16, i: usize) -> Row
 
 pub fn class_row(roles: &[u8], values: &[u16], types: u16, i: usize) -> Row
     requires { ⌜ RowFrom (now roles) (now values) types i ⌝ }
-    ensures { λ r. ⌜ ((es : List Item) → Marks (now (roles .entry)) (now (values .entry)) es → wordsOf r ≡ classRow types (drop i es)) ⌝ }
+    ensures { λ r. ⌜ ((es : List Item) → Labelled (now (roles .entry)) (now (values .entry)) es → rowWords r ≡ classRow types (drop i es)) ⌝ }
 {
     let interface = type_word(roles, values, types, i + 3);
     let members = owned(roles, i + 1);
@@ -47,7 +47,7 @@ pub fn class_row(roles: &[u8], values: &[u16], types: u16, i: usize) -> Row
 
 pub fn field_row(roles: &[u8], values: &[u16], types: u16, i: usize) -> Row
     requires { ⌜ RowFrom (now roles) (now values) types i ⌝ }
-    ensures { λ r. ⌜ ((es : List Item) → Marks (now (roles .entry)) (now (values .entry)) es → wordsOf r ≡ fieldRow types (drop i es)) ⌝ }
+    ensures { λ r. ⌜ ((es : List Item) → Labelled (now (roles .entry)) (now (values .entry)) es → rowWords r ≡ fieldRow types (drop i es)) ⌝ }
 {
     let name = value_at(values, i);
     let holds = type_word(roles, values, types, i + 2);
@@ -57,7 +57,7 @@ pub fn field_row(roles: &[u8], values: &[u16], types: u16, i: usize) -> Row
 // A method whose body's first node is `body`.
 pub fn method_row(roles: &[u8], values: &[u16], types: u16, i: usize, body: u16) -> Row
     requires { ⌜ RowFrom (now roles) (now values) types i ⌝ }
-    ensures { λ r. ⌜ ((es : List Item) → Marks (now (roles .entry)) (now (values .entry)) es → wordsOf r ≡ methodRow types body (drop i es)) ⌝ }
+    ensures { λ r. ⌜ ((es : List Item) → Labelled (now (roles .entry)) (now (values .entry)) es → rowWords r ≡ methodRow types body (drop i es)) ⌝ }
 {
     let name = value_at(values, i + 1);
     let takes = type_word(roles, values, types, i + 5);

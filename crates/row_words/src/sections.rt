@@ -17,8 +17,8 @@ ghost use Rattle.words.specs.Word.{WORD};
 ghost use Rattle.script.specs.declared.Section.the-variants.{Nodes as nodes};
 ghost use Rattle.grammar.specs.Faults.{beginsTest};
 ghost use Rattle.rows.specs.Rows.{Item, sizesOf};
-ghost use Rattle.row_words.specs.Items.{Shows, Readable};
-ghost use Rattle.row_words.specs.Row.{wordsOf, rowOf};
+ghost use Rattle.row_words.specs.Items.{Described, Readable};
+ghost use Rattle.row_words.specs.Row.{rowWords, rowOf};
 
 // Does a token of this role begin a record of the section?
 pub fn begins(section: Section, role: u8) -> bool
@@ -50,8 +50,8 @@ pub fn row_at(
     requires { ⌜ Readable (now text) (now roles) (now offsets) (now values) (now sizes) types × (i < length (now roles)) ⌝ }
     requires { ⌜ (n + 1 + length (now sizes) < WORD) × (from ≤ WORD) × (beginsTest section (getD (now roles) i 0) ≡ true) ⌝ }
     ensures { λ r. ⌜
-        ((es : List Item) → Shows (now (text .entry)) (now (roles .entry)) (now (offsets .entry)) (now (values .entry)) es →
-        (section ≡ nodes → drop from (now (sizes .entry)) ≡ sizesOf (drop (i + 1) es)) → wordsOf r ≡ rowOf section types n (drop i es))
+        ((es : List Item) → Described (now (text .entry)) (now (roles .entry)) (now (offsets .entry)) (now (values .entry)) es →
+        (section ≡ nodes → drop from (now (sizes .entry)) ≡ sizesOf (drop (i + 1) es)) → rowWords r ≡ rowOf section types n (drop i es))
         ⌝ }
 {
     match section {

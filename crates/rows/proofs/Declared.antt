@@ -1,18 +1,18 @@
 -- The rows of interfaces, signatures, classes and fields are the words of the derivation's.
-use Prim.Native.Nat.{ℕ, zero, suc, _+_, _<_}
-use mathlib.Core.Path.{_≡_, refl, sym, ap, _∙_}
-use mathlib.Core.Bool.{Bool, true, false}
-use mathlib.Core.List.{List, [], _∷_, _++_, append-assoc, append-nil}
+use Prim.Native.Nat.{ℕ, _+_, _<_}
+use mathlib.Core.Path.{_≡_, refl, ap, _∙_}
+use mathlib.Core.Bool.{false}
+use mathlib.Core.List.{List, [], _∷_, _++_, append-assoc}
 use mathlib.Core.Option.{none, some}
 use native.Mathlib.Omega.{arith}
 use lib.Dec.{eqb}
 use borrow.Author.Tests.{ne-eqb}
 use lib.ListN.{length}
-use Rattle.grammar.specs.Grammar.{T, t-name, E, Msig, Id, id-list, id-join, Fd, Md, Cd, Derivation}
+use Rattle.grammar.specs.Grammar.{t-name, Msig, Id, id-list, id-join, Fd, Md, Cd}
 use Rattle.grammar.specs.Roles.{R-INTERFACE, R-CLASS, R-METHOD, R-SIGNATURE, R-FIELD, R-DECLARED, R-TYPE, R-METHOD-NAME}
-use Rattle.grammar.specs.Files.{Numbering, wordsAll, sumAll, joined, idWords, msigWords, msigsOf, cdWords, fdWords, typeNumberIn}
+use Rattle.grammar.specs.Files.{Numbering, wordsAll, sumAll, idWords, msigWords, msigsOf, cdWords, fdWords}
 use Rattle.rows.specs.Rows.{Item, rowItem, rowsWith, owned, interfaceRow, signatureRow, classRow, fieldRow}
-use Rattle.rows.specs.Items.{plainItem, items, typeItem, methodItem, itemsAll, itemsMsig, itemsId, itemsFd, itemsMd, itemsCd, itemsBefore, itemsText}
+use Rattle.rows.specs.Items.{plainItem, items, typeItem, itemsAll, itemsMsig, itemsId, itemsFd, itemsMd, itemsCd}
 use Rattle.rows.proofs.NodeRows.{type-word}
 use Rattle.rows.proofs.Lacking.{Lacks, lacks-append, lacks-all, Record, lacks-type, lacks-plain, lacks-high, lacks-items, rows-skip, owned-skip, rows-each, owned-each}
 

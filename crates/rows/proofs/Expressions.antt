@@ -1,20 +1,17 @@
 -- The list functions of `Rows` over the items of an expression.
-use Prim.Native.Nat.{ℕ, zero, suc, _+_, _*_, _/_, _%_, _<_, _≤_}
-use mathlib.Core.Path.{_≡_, refl, sym, ap, _∙_}
-use mathlib.Core.Bool.{Bool, true, false, cond}
+use Prim.Native.Nat.{ℕ, suc, _+_, _*_, _/_, _%_, _<_}
+use mathlib.Core.Path.{_≡_, refl, sym, ap}
+use mathlib.Core.Bool.{false}
 use mathlib.Core.List.{List, [], _∷_, _++_, append-assoc}
-use mathlib.Core.Option.{none, some}
 use native.Mathlib.Omega.{arith}
-use lib.Dec.{eqb, leb}
-use lib.ListN.{length, getD, drop, length-append}
+use lib.ListN.{length, getD, length-append}
 use lib.Seq.{drop-append-seam}
-use Rattle.grammar.specs.Tokens.{Spelling, sameSpelling}
-use Rattle.grammar.specs.Grammar.{X, x-this, x-name, T, t-unit, t-int, t-name, E, e-null, e-variable, e-select, e-update, e-call, e-let, e-new, e-cast}
+use Rattle.grammar.specs.Grammar.{T, t-unit, t-int, t-name, E, e-null, e-variable, e-select, e-update, e-call, e-let, e-new, e-cast}
 use Rattle.grammar.specs.Grammar.{e-fork, e-lock, e-digits, e-minus, e-sum, e-sum-in}
-use Rattle.grammar.specs.Roles.{PLAIN, R-OPERAND, R-VARIABLE, R-SELECT, R-UPDATE, R-CALL, R-SUM, Scope, under, bindingBy, bound, BINDING}
-use Rattle.grammar.specs.Files.{Numbering, rankIn, nodesIn}
+use Rattle.grammar.specs.Roles.{R-OPERAND, R-VARIABLE, R-SELECT, R-UPDATE, R-CALL, R-SUM, Scope, under, bindingBy, BINDING}
+use Rattle.grammar.specs.Files.{Numbering, nodesIn}
 use Rattle.rows.specs.Rows.{Item, nodeItem, nodeCount, sizesOf, hop, arityOf}
-use Rattle.rows.specs.Items.{item, plainItem, items, variableItem, typeItem}
+use Rattle.rows.specs.Items.{plainItem, items, typeItem}
 
 -- A role's number without its variable's binding, and the binding.
 pub base : (r b : ℕ) → r < BINDING → (r + BINDING * b) % BINDING ≡ r

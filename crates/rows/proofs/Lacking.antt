@@ -1,14 +1,11 @@
 -- Items that a list function passes over.
-use Prim.Native.Nat.{ℕ, zero, suc, _+_, _*_, _<_, _≤_}
-use mathlib.Core.Path.{_≡_, refl, sym, ap, _∙_}
-use mathlib.Core.Bool.{Bool, true, false, cond, _||_}
+use Prim.Native.Nat.{ℕ, _+_, _*_, _<_, _≤_}
+use mathlib.Core.Path.{_≡_, refl, ap, _∙_}
+use mathlib.Core.Bool.{Bool, true, false}
 use mathlib.Core.List.{List, [], _∷_, _++_, append-assoc}
-use mathlib.Core.Logic.{_⊎_, inl, inr}
-use mathlib.Core.Option.{none, some}
 use native.Mathlib.Omega.{arith}
-use lib.Dec.{eqb}
 use borrow.Author.Tests.{ne-eqb}
-use Rattle.grammar.specs.Grammar.{X, T, t-unit, t-int, t-name, E, e-null, e-variable, e-select, e-update, e-call, e-let, e-new, e-cast}
+use Rattle.grammar.specs.Grammar.{T, t-unit, t-int, t-name, E, e-null, e-variable, e-select, e-update, e-call, e-let, e-new, e-cast}
 use Rattle.grammar.specs.Grammar.{e-fork, e-lock, e-digits, e-minus, e-sum, e-sum-in}
 use Rattle.grammar.specs.Roles.{R-INTERFACE, R-CLASS, R-METHOD, R-DECLARED, R-TYPE, R-BINDER, R-FIELD-USED, R-METHOD-USED, R-OPERAND, R-NULL, R-VARIABLE}
 use Rattle.grammar.specs.Roles.{R-SELECT, R-UPDATE, R-CALL, R-LET, R-NEW, R-CAST, R-FORK, R-LOCK, R-INTEGER, R-SUM, R-SUM-IN, R-NEGATIVE, BINDING, Scope, under, bindingBy}

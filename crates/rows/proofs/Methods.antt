@@ -1,20 +1,20 @@
 -- The rows of methods and of their bodies' nodes are the words of the derivation's.
-use Prim.Native.Nat.{ℕ, zero, suc, _+_, _<_}
+use Prim.Native.Nat.{ℕ, suc, _+_}
 use mathlib.Core.Path.{_≡_, refl, sym, ap, _∙_}
 use mathlib.Core.Bool.{Bool, true, false}
-use mathlib.Core.List.{List, [], _∷_, _++_, append-assoc, append-nil}
+use mathlib.Core.List.{List, [], _∷_, _++_, append-assoc}
 use mathlib.Core.Option.{none, some}
 use native.Mathlib.Omega.{arith}
 use lib.ListN.{length}
-use Rattle.grammar.specs.Grammar.{T, E, Msig, Id, id-list, id-join, Fd, Md, Cd, Derivation}
+use Rattle.grammar.specs.Grammar.{Msig, Id, id-list, id-join, Fd, Md, Cd}
 use Rattle.grammar.specs.Roles.{R-CLASS, R-METHOD, R-SIGNATURE, R-METHOD-NAME, R-DECLARED, R-TYPE}
 use Rattle.grammar.specs.Files.{Numbering, sumAll, joined, msigWords, nodesIn, nodeWords, mdsWords, bodiesWords}
 use Rattle.rows.specs.Rows.{Item, nodeItem, nodeCount, oneMore, methodRow, methodRows, nodeRows}
-use Rattle.rows.specs.Items.{item, plainItem, items, nameItem, typeItem, itemsAll, itemsMsig, itemsId, itemsFd, itemsMd, itemsCd}
+use Rattle.rows.specs.Items.{item, plainItem, items, nameItem, itemsAll, itemsMsig, itemsId, itemsFd, itemsMd, itemsCd}
 use Rattle.rows.proofs.Expressions.{type-inner, node-count}
 use Rattle.rows.proofs.NodeRows.{type-word, more, more-first, node-rows}
-use Rattle.rows.proofs.Lacking.{Lacks, lacks-append, lacks-all, lacks-high, lacks-plain, methods-skip}
-use Rattle.rows.proofs.Declared.{is-method, mdRest, cdRest, lacks-md-rest, lacks-fd, lacks-id}
+use Rattle.rows.proofs.Lacking.{Lacks, lacks-all, lacks-high, lacks-plain, methods-skip}
+use Rattle.rows.proofs.Declared.{is-method, mdRest, lacks-md-rest, lacks-fd}
 
 -- Nodes counted over lists.
 count-append : (a b : List Item) → nodeCount (a ++ b) ≡ nodeCount a + nodeCount b

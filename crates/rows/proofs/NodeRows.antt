@@ -1,19 +1,18 @@
 -- The rows of nodes, over the items of an expression, are the expression's words.
-use Prim.Native.Nat.{ℕ, zero, suc, _+_, _*_, _/_, _%_, _<_}
-use mathlib.Core.Path.{_≡_, refl, sym, ap, _∙_}
-use mathlib.Core.Bool.{Bool, true, false, cond}
+use Prim.Native.Nat.{ℕ, suc, _+_, _<_}
+use mathlib.Core.Path.{_≡_, refl, ap}
+use mathlib.Core.Bool.{Bool, true, false}
 use mathlib.Core.List.{List, [], _∷_, _++_, append-assoc}
 use mathlib.Core.Option.{none, some}
 use native.Mathlib.Omega.{arith}
-use lib.Dec.{eqb, leb}
-use lib.ListN.{length, getD, drop, length-append}
-use Rattle.grammar.specs.Tokens.{Spelling, sameSpelling}
+use lib.ListN.{length}
+use Rattle.grammar.specs.Tokens.{sameSpelling}
 use Rattle.grammar.specs.Grammar.{X, x-this, x-name, T, t-unit, t-int, t-name, E, e-null, e-variable, e-select, e-update, e-call, e-let, e-new, e-cast}
 use Rattle.grammar.specs.Grammar.{e-fork, e-lock, e-digits, e-minus, e-sum, e-sum-in}
-use Rattle.grammar.specs.Roles.{R-OPERAND, R-VARIABLE, R-SELECT, R-UPDATE, R-CALL, R-SUM, Scope, under, bindingBy, bound, BINDING, B-PARAMETER, B-OTHER}
-use Rattle.grammar.specs.Files.{Numbering, rankIn, nodesIn, nodeWords, fourWords, variableNumber, typeNumberIn}
-use Rattle.rows.specs.Rows.{Item, nodeItem, sizesOf, hop, nodeRow, nodeRows, variableWord, typeWord}
-use Rattle.rows.specs.Items.{item, plainItem, items, variableItem, typeItem}
+use Rattle.grammar.specs.Roles.{R-OPERAND, R-VARIABLE, R-SELECT, R-UPDATE, R-CALL, R-SUM, Scope, under, bindingBy, BINDING, B-PARAMETER, B-OTHER}
+use Rattle.grammar.specs.Files.{Numbering, nodesIn, nodeWords, variableNumber, typeNumberIn}
+use Rattle.rows.specs.Rows.{Item, sizesOf, nodeRow, nodeRows, variableWord, typeWord}
+use Rattle.rows.specs.Items.{plainItem, items, variableItem, typeItem}
 use Rattle.rows.proofs.Expressions.{base, binding, type-inner, items-sizes, sizes, hopped, hop-none}
 
 -- Words of variables and types.

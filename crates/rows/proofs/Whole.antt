@@ -1,5 +1,5 @@
 -- The words read off the items of a derivation are the words of its file.
-use Prim.Native.Nat.{ℕ, zero, suc, _+_, _*_}
+use Prim.Native.Nat.{ℕ, suc, _+_, _*_}
 use mathlib.Core.Path.{_≡_, refl, sym, ap, _∙_}
 use mathlib.Core.List.{List, [], _∷_, _++_, append-assoc, append-nil}
 use mathlib.Core.Option.{none, some}
@@ -9,7 +9,7 @@ use lib.ListN.{length, drop}
 use lib.Seq.{drop-append-seam}
 use Rattle.limits.specs.Limits.{CONTENTS}
 use Rattle.words.specs.Word.{bytes}
-use Rattle.grammar.specs.Grammar.{E, Msig, Id, id-list, id-join, Fd, Md, Cd, Derivation}
+use Rattle.grammar.specs.Grammar.{E, Id, id-list, id-join, Cd, Derivation}
 use Rattle.grammar.specs.Roles.{R-INTERFACE, R-CLASS, R-METHOD, R-SIGNATURE, R-FIELD, Scope}
 use Rattle.grammar.specs.Files.{Numbering, numberingOf, wordsAll, sumAll, joined, idWords, msigWords, msigsOf, cdWords, fdWords, mdsOf, nodesIn, nodeWords}
 use Rattle.grammar.specs.Files.{mdsWords, bodiesWords, sectionBodies, contentsFrom, fileText}

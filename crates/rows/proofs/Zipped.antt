@@ -1,23 +1,23 @@
 -- Items by roles and tokens are the derivation's items.
-use Prim.Native.Nat.{ℕ, zero, suc, _+_, _*_, _/_, _<_, _≤_}
+use Prim.Native.Nat.{ℕ, _+_, _*_, _<_, _≤_}
 use mathlib.Core.Path.{_≡_, refl, sym, ap, _∙_}
-use mathlib.Core.Bool.{Bool, true, false, cond, _||_}
+use mathlib.Core.Bool.{Bool, true, false, cond}
 use mathlib.Core.List.{List, [], _∷_, _++_, append-assoc}
 use mathlib.Core.Option.{none, some}
 use native.Mathlib.Omega.{arith}
 use lib.Dec.{eqb}
 use lib.ListN.{length, length-append}
 use borrow.Author.Tests.{ne-eqb}
-use Rattle.grammar.specs.Tokens.{Spelling, Lexeme, fixed, name-token, digits-token, sameSpelling, W-IN, W-ASYNC, S-BRACE, S-UNBRACE, S-CLOSE, S-SEMICOLON}
+use Rattle.grammar.specs.Tokens.{Spelling, Lexeme, fixed, sameSpelling, W-IN, W-ASYNC, S-BRACE, S-UNBRACE, S-CLOSE, S-SEMICOLON}
 use Rattle.grammar.specs.Grammar.{X, x-this, x-name, T, t-unit, t-int, t-name, E, e-null, e-variable, e-select, e-update, e-call, e-let, e-new, e-cast}
 use Rattle.grammar.specs.Grammar.{e-fork, e-lock, e-digits, e-minus, e-sum, e-sum-in, Msig, Id, id-list, id-join, Fd, Md, Cd, Derivation}
 use Rattle.grammar.specs.Grammar.{variableToken, typeToken, spelled, spelledMsig, spelledAll, spelledId, spelledFd, spelledMd, spelledCd, spelledText}
-use Rattle.grammar.specs.Roles.{PLAIN, R-OPERAND, R-VARIABLE, R-SELECT, R-UPDATE, R-CALL, R-SUM, R-SIGNATURE, R-METHOD-NAME, BINDING, B-PARAMETER, B-OTHER, Scope, under, bindingBy, bound}
+use Rattle.grammar.specs.Roles.{PLAIN, R-OPERAND, R-VARIABLE, R-SELECT, R-UPDATE, R-CALL, R-SUM, R-SIGNATURE, R-METHOD-NAME, BINDING, B-PARAMETER, B-OTHER, Scope, under, bound}
 use Rattle.grammar.specs.Roles.{typeRole, roles, rolesMsig, rolesAll, rolesId, rolesFd, rolesMd, rolesCd, rolesBefore, rolesText}
-use Rattle.grammar.specs.Files.{Numbering, rankIn, spellingOf, methodRole, fieldRole, otherRole, declaredRole}
+use Rattle.grammar.specs.Files.{Numbering, rankIn, spellingOf}
 use Rattle.capacity.proofs.Roles.{roles-spelled, all-spelled, msig-spelled, id-spelled, fd-spelled, md-spelled, cd-spelled}
 use Rattle.rows.specs.Rows.{Item}
-use Rattle.rows.specs.Items.{item, plainItem, items, variableItem, variableValue, typeItem, itemsMsig, itemsAll, itemsId, itemsFd, itemsMd, itemsCd, itemsBefore, itemsText}
+use Rattle.rows.specs.Items.{item, items, variableItem, variableValue, typeItem, itemsMsig, itemsAll, itemsId, itemsFd, itemsMd, itemsCd, itemsBefore, itemsText}
 use Rattle.rows.specs.Zipped.{valueBy, amountBy, itemsBy}
 use Rattle.rows.proofs.Expressions.{binding}
 

@@ -4,12 +4,11 @@ use Prim.Native.Nat.{ℕ, zero, suc, _+_, _*_, _/_, _%_}
 use mathlib.Core.Bool.{Bool, true, false, cond, _||_}
 use mathlib.Core.List.{List, [], _∷_, _++_}
 use lib.Dec.{eqb, leb}
-use lib.IntN.{ℤ, pos}
+use lib.IntN.{pos}
 use lib.ListN.{length, getD, drop}
-use Rattle.words.specs.Integer.{lowWord, highWord}
 use Rattle.limits.specs.Limits.{CONTENTS}
 use Rattle.grammar.specs.Roles.{R-INTERFACE, R-CLASS, R-METHOD, R-SIGNATURE, R-FIELD, R-TYPE, R-UNIT, R-INT, BINDING, B-OTHER}
-use Rattle.grammar.specs.Roles.{R-NULL, R-VARIABLE, R-SELECT, R-UPDATE, R-CALL, R-LET, R-NEW, R-CAST, R-FORK, R-LOCK, R-INTEGER, R-SUM, R-SUM-IN, R-NEGATIVE}
+use Rattle.grammar.specs.Roles.{R-NULL, R-VARIABLE, R-SELECT, R-UPDATE, R-CALL, R-LET, R-NEW, R-CAST, R-FORK, R-LOCK, R-INTEGER, R-SUM, R-NEGATIVE}
 use Rattle.grammar.specs.Files.{negated, fourWords, constantWords}
 
 -- A token: its role, its number among the names of its sort, and what its digits say.

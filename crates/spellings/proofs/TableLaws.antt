@@ -14,11 +14,11 @@ use Rattle.script.proofs.Lists.{zeros, lt-or-le}
 use Rattle.grammar.specs.Tokens.{Spelling, sameSpelling}
 use Rattle.grammar.specs.Files.{rankIn}
 use Rattle.tokens.specs.Runs.{spellingHash, HASHES}
-use Rattle.spellings.specs.Table.{nameFrom, Leads, leads-here, leads-on, Holds, Held, PlaceIs, Grows}
+use Rattle.spellings.specs.Table.{nameFrom, Leads, leads-here, leads-on, TableHolds, TableFilled, PlaceIs, Grows}
 use Rattle.spellings.proofs.Places.{same-is, not-same, place-le, at-place, place-before, place-behind, grown-not, grown-by}
 
 -- Cleared heads hold no name.
-pub holds-none : (text firsts links heads : List ℕ) → heads ≡ replicate HASHES 0 → Holds text firsts links heads []
+pub holds-none : (text firsts links heads : List ℕ) → heads ≡ replicate HASHES 0 → TableHolds text firsts links heads []
 holds-none text firsts links heads z =
     record {
       hashes = ap length z ∙ length-replicate {A = ℕ} HASHES 0;
@@ -38,7 +38,7 @@ pub record Looking (text firsts links heads : List ℕ) (count : ℕ) (y : Spell
   pub few : next ≤ count
   pub leads-to :
       (names : List Spelling)
-      → Holds text firsts links heads names
+      → TableHolds text firsts links heads names
       → length names ≡ count
       → (e : ℕ)
       → e < count
@@ -55,7 +55,7 @@ past e q n leads-here = absurd (n (omega arith))
 past {links} {v} {d} e q n (leads-on {k = k} t) = let p : k ≡ e = omega arith in rw p at t
 
 module _ (text firsts links heads : List ℕ) (count : ℕ) (y : Spelling) where
-  pub look-start : (hash v : ℕ) → Held text firsts links heads count → hash ≡ spellingHash y → v ≡ getD heads hash 0 → Looking text firsts links heads count y v
+  pub look-start : (hash v : ℕ) → TableFilled text firsts links heads count → hash ≡ spellingHash y → v ≡ getD heads hash 0 → Looking text firsts links heads count y v
   look-start hash v h p q =
       record {
         few = omega (arith, q, h .holds .begun hash, h .counted);
@@ -77,7 +77,7 @@ module _ (text firsts links heads : List ℕ) (count : ℕ) (y : Spelling) where
 
   pub look-on :
       (v u o : ℕ) (same : Bool)
-      → Held text firsts links heads count
+      → TableFilled text firsts links heads count
       → Looking text firsts links heads count y v
       → 0 < v
       → o ≡ getD firsts (v - 1) 0
@@ -110,7 +110,7 @@ leads-still {links} n v w {e} f b (leads-on {k = k} t) =
 
 -- A name that is not there is put behind the others.
 module _ (text firsts links heads : List ℕ) (names : List Spelling) (at hash : ℕ) (y : Spelling)
-    (held : Holds text firsts links heads names) (name : nameFrom text at ≡ y) (new : rankIn names y ≡ length names)
+    (held : TableHolds text firsts links heads names) (name : nameFrom text at ≡ y) (new : rankIn names y ≡ length names)
     (room : length names < length firsts) (link-room : length names < length links) (small : length names < WORD) (stands : at ≤ length text)
     (hashed : hash ≡ spellingHash y) (bounded : hash < HASHES) where
   abbrev firsts′ : List ℕ
@@ -158,7 +158,7 @@ module _ (text firsts links heads : List ℕ) (names : List Spelling) (at hash :
       let s : Leads links′ (getD heads h 0) e = leads-still (length names) (getD heads hash 0) (getD heads h 0) (held .falls) (held .begun h) t in
       elim (ℕ-discrete h hash) [ yes q ↦ rw (q, new-head) (leads-on {k = length names} {e = e} (rw new-link (rw q at s))) | no q ↦ rw (old-head h q) s ]
 
-  pub holds-more : Holds text firsts′ links′ heads′ (names ++ (y ∷ []))
+  pub holds-more : TableHolds text firsts′ links′ heads′ (names ++ (y ∷ []))
   holds-more =
       record {
         hashes = length-set heads hash (length names + 1) ∙ held .hashes;

@@ -19,7 +19,7 @@ pub data Leads (links : List ℕ) : ℕ → ℕ → Type 0 where
   leads-on : {k e : ℕ} → Leads links (getD links k 0) e → Leads links (suc k) e
 
 -- A table holds a list of names, none of them twice: entry e is of name e, links fall, and the head of a hash leads to each entry of that hash.
-pub record Holds (text firsts links heads : List ℕ) (names : List Spelling) : Type 0 where
+pub record TableHolds (text firsts links heads : List ℕ) (names : List Spelling) : Type 0 where
   pub hashes : length heads ≡ HASHES
   pub few : length names ≤ WORD
   pub in-firsts : length names ≤ length firsts
@@ -32,9 +32,9 @@ pub record Holds (text firsts links heads : List ℕ) (names : List Spelling) : 
   pub leads : (e : ℕ) → e < length names → Leads links (getD heads (spellingHash (getD names e [])) 0) e
 
 -- A table with so many entries holds a list.
-pub record Held (text firsts links heads : List ℕ) (count : ℕ) : Type 0 where
+pub record TableFilled (text firsts links heads : List ℕ) (count : ℕ) : Type 0 where
   pub names : List Spelling
-  pub holds : Holds text firsts links heads names
+  pub holds : TableHolds text firsts links heads names
   pub counted : length names ≡ count
 
 abbrev pub chosenNames : Bool → List Spelling → List Spelling → List Spelling
@@ -48,9 +48,9 @@ grown (z ∷ l) y = z ∷ chosenNames (sameSpelling z y) l (grown l y)
 
 -- What a search for a name answers: its place in whatever list the table holds.
 abbrev pub PlaceIs : List ℕ → List ℕ → List ℕ → List ℕ → ℕ → Spelling → ℕ → Type 0
-PlaceIs text firsts links heads count y r = (names : List Spelling) → Holds text firsts links heads names → length names ≡ count → r ≡ rankIn names y
+PlaceIs text firsts links heads count y r = (names : List Spelling) → TableHolds text firsts links heads names → length names ≡ count → r ≡ rankIn names y
 
 -- A name has been put behind whatever list the table held, unless it was there.
 abbrev pub Grows : List ℕ → List ℕ → List ℕ → List ℕ → ℕ → Spelling → List ℕ → List ℕ → List ℕ → Type 0
 Grows text firsts links heads count y firsts′ links′ heads′ =
-    (names : List Spelling) → Holds text firsts links heads names → length names ≡ count → Holds text firsts′ links′ heads′ (grown names y)
+    (names : List Spelling) → TableHolds text firsts links heads names → length names ≡ count → TableHolds text firsts′ links′ heads′ (grown names y)

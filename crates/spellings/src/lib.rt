@@ -8,7 +8,7 @@ ghost use lib.ListN.{length, getD, set};
 ghost use Rattle.words.specs.Word.{WORD};
 ghost use Rattle.tokens.specs.Kinds.{byteKinds};
 ghost use Rattle.tokens.specs.Names.{NameIs};
-ghost use Rattle.spellings.specs.Table.{nameFrom, Held, PlaceIs, Grows};
+ghost use Rattle.spellings.specs.Table.{nameFrom, TableFilled, PlaceIs, Grows};
 
 // An element as an index, which asks nothing of the slice that it comes from.
 fn wide(x: u16) -> usize
@@ -50,7 +50,7 @@ fn search(
     at: usize,
     name: Name,
 ) -> usize
-    requires { ⌜ Held (now text) (now firsts) (now links) (now heads) count × (at ≤ length (now text)) ⌝ }
+    requires { ⌜ TableFilled (now text) (now firsts) (now links) (now heads) count × (at ≤ length (now text)) ⌝ }
     requires { ⌜ (now kinds ≡ byteKinds) × NameIs (now text) at name ⌝ }
     ensures { λ r. ⌜
         PlaceIs (now (text .entry)) (now (firsts .entry)) (now (links .entry)) (now (heads .entry)) count (nameFrom (now (text .entry)) at) r
@@ -78,7 +78,7 @@ pub fn find(
     count: usize,
     at: u16,
 ) -> usize
-    requires { ⌜ Held (now text) (now firsts) (now links) (now heads) count × (at ≤ length (now text)) × (now kinds ≡ byteKinds) ⌝ }
+    requires { ⌜ TableFilled (now text) (now firsts) (now links) (now heads) count × (at ≤ length (now text)) × (now kinds ≡ byteKinds) ⌝ }
     ensures { λ r. ⌜
         PlaceIs (now (text .entry)) (now (firsts .entry)) (now (links .entry)) (now (heads .entry)) count (nameFrom (now (text .entry)) at) r
         ⌝ }
@@ -111,7 +111,7 @@ pub fn enter(
     count: usize,
     at: u16,
 ) -> usize
-    requires { ⌜ Held (now text) (now firsts) (now links) (now heads) count × (at ≤ length (now text)) × (now kinds ≡ byteKinds) ⌝ }
+    requires { ⌜ TableFilled (now text) (now firsts) (now links) (now heads) count × (at ≤ length (now text)) × (now kinds ≡ byteKinds) ⌝ }
     requires { ⌜ (count < length (now firsts)) × (count < length (now links)) × (count < WORD) ⌝ }
     ensures { λ r. ⌜
         PlaceIs (now (text .entry)) (now (firsts .entry)) (now (links .entry)) (now (heads .entry)) count (nameFrom (now (text .entry)) at) r

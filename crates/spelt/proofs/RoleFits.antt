@@ -1,14 +1,14 @@
 -- The roles of a derivation fit its tokens.
 use Prim.Native.Nat.{ℕ, _+_, _*_, _/_, _<_, _≤_}
-use mathlib.Core.Path.{_≡_, refl, sym, ap, _∙_}
-use mathlib.Core.Bool.{Bool, true, false, not, _&&_, _||_}
+use mathlib.Core.Path.{_≡_, refl}
+use mathlib.Core.Bool.{Bool, true, false, not, _||_}
 use mathlib.Core.List.{List, [], _∷_, _++_, append-assoc}
 use mathlib.Core.Option.{none, some}
 use native.Mathlib.Omega.{arith}
 use lib.Dec.{eqb}
 use lib.ListN.{length}
 use borrow.Author.Tests.{ne-eqb}
-use Rattle.grammar.specs.Tokens.{Spelling, Lexeme, fixed, name-token, digits-token, W-IN, W-ASYNC, S-BRACE, S-UNBRACE, S-OPEN, S-CLOSE, S-DOT, S-COLON, S-EQUALS, S-SEMICOLON, S-PLUS}
+use Rattle.grammar.specs.Tokens.{Lexeme, fixed, name-token, digits-token, W-IN, W-ASYNC, S-BRACE, S-UNBRACE, S-OPEN, S-CLOSE, S-DOT, S-COLON, S-EQUALS, S-SEMICOLON, S-PLUS}
 use Rattle.grammar.specs.Grammar.{X, x-this, x-name, T, t-unit, t-int, t-name, E, e-null, e-variable, e-select, e-update, e-call, e-let, e-new, e-cast}
 use Rattle.grammar.specs.Grammar.{e-fork, e-lock, e-digits, e-minus, e-sum, e-sum-in, Msig, Id, id-list, id-join, Fd, Md, Cd, Derivation}
 use Rattle.grammar.specs.Grammar.{variableToken, typeToken, spelled, spelledMsig, spelledAll, spelledId, spelledFd, spelledMd, spelledCd, spelledText}

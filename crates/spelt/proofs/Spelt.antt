@@ -1,5 +1,5 @@
 -- Every token of a text stands at its offset.
-use Prim.Native.Nat.{ℕ, _+_, _≤_}
+use Prim.Native.Nat.{ℕ, _+_}
 use mathlib.Core.Path.{_≡_, refl, sym, ap, _∙_}
 use mathlib.Core.Bool.{Bool, true, false, not, _||_}
 use mathlib.Core.List.{List, [], _∷_, _++_}
@@ -8,9 +8,9 @@ use lib.ListN.{length, drop}
 use lib.Seq.{drop-append-seam, drop-drop}
 use Rattle.script.specs.Lists.{Every}
 use Rattle.script.proofs.Tests.{true-false}
-use Rattle.grammar.specs.Tokens.{Spelling, Lexeme, fixed, name-token, digits-token, STRAY, Fixed, fixedWords, fixedSigns, fixedOr, chosenLexeme, sameSpelling, blankTest, digitTest, letterTest, wordByteTest, runTest, All, all-none, all-more, Spells, spells-word, spells-digits, spells-sign, Longest, Token, tokenAt, Splits, splits-end, splits-blank, splits-token, tokensOf}
+use Rattle.grammar.specs.Tokens.{Spelling, Lexeme, fixed, name-token, STRAY, Fixed, fixedWords, fixedSigns, fixedOr, chosenLexeme, sameSpelling, blankTest, digitTest, letterTest, wordByteTest, All, all-more, Spells, spells-word, spells-digits, spells-sign, Longest, Token, Splits, splits-end, splits-blank, splits-token, tokensOf}
 use Rattle.grammar.proofs.Splitting.{splits, ended, headTest, letter-from, digit-to}
-use Rattle.tokens.specs.Runs.{byteRun, runWith, wordFrom, digitsFrom}
+use Rattle.tokens.specs.Runs.{byteRun, wordFrom, digitsFrom}
 use Rattle.spelt.specs.Spelt.{Spelt, digitsIn}
 
 -- A run that is ended is the whole run.

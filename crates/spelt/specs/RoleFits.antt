@@ -1,10 +1,10 @@
 -- Roles and tokens that go together.
 use Prim.Native.Nat.{ℕ}
 use mathlib.Core.Path.{_≡_}
-use mathlib.Core.Bool.{Bool, true, false, not, _&&_, _||_}
+use mathlib.Core.Bool.{Bool, true, false, not, _||_}
 use mathlib.Core.List.{List, [], _∷_}
 use lib.Dec.{eqb}
-use Rattle.grammar.specs.Tokens.{Spelling, Lexeme, fixed, name-token, digits-token}
+use Rattle.grammar.specs.Tokens.{Lexeme, fixed, name-token, digits-token}
 use Rattle.grammar.specs.Roles.{R-TYPE, R-INTEGER, R-NEGATIVE}
 use Rattle.grammar.specs.Files.{methodRole, fieldRole, otherRole, declaredRole}
 

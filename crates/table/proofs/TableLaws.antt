@@ -9,12 +9,12 @@ use lib.Dec.{eqb, ltb}
 use lib.ListN.{getD, set, replicate}
 use borrow.Author.Tests.{ltb-true, eq-eqb, eqb-true}
 use Rattle.grammar.specs.Tokens.{Spelling, Lexeme, fixed, name-token, digits-token, chosenLexeme}
-use Rattle.tokens.specs.Next.{NAME, DIGITS, KINDS, lexemeOf}
+use Rattle.tokens.specs.Next.{K-NAME, K-DIGITS, KINDS, lexemeOf}
 use Rattle.tokens.specs.Runs.{wordFrom, digitsFrom}
 use Rattle.flat.specs.declared.Turn.{Turn}
 use Rattle.flat.specs.Flat.{Rule, sameSort, pickTurn, turnAt, otherTurn, rules, endingTest, turnOf, stuckTurn, GO, CLOSE, POINTS, BINDS}
 use Rattle.flat.proofs.Walks.{and-left, and-right}
-use Rattle.table.specs.Table.{packed, unpacked, Plain, entriesFrom, entries, closedTo, TurnIs}
+use Rattle.table.specs.Table.{packed, unpacked, Plain, entriesFrom, tableEntries, closedTo, TurnIs}
 
 -- Fields that fit their places, and a parameter that is a name.
 abbrev nameTest : Lexeme → Bool
@@ -132,7 +132,7 @@ unfolding turnAt lexemeOf
 spelled-not p k s = pick-sort (otherTurn p) (lexemeOf k []) (lexemeOf k s) (getD rules p []) sorts
   where
     sorts : (v : Lexeme) → sameSort (lexemeOf k []) v ≡ sameSort (lexemeOf k s) v
-    sorts v = either (eqb k NAME) (eqb k DIGITS) k (wordFrom []) (wordFrom s) (digitsFrom []) (digitsFrom s) v
+    sorts v = either (eqb k K-NAME) (eqb k K-DIGITS) k (wordFrom []) (wordFrom s) (digitsFrom []) (digitsFrom s) v
 
 -- A packed turn comes back.
 turns-same :
@@ -171,17 +171,17 @@ entry-at zero i j h = absurd (omega arith)
 entry-at (suc n) i zero h = let e : i + 0 ≡ i = omega arith in rw e
 entry-at (suc n) i (suc j) h = let e : i + suc j ≡ i + 1 + j = omega arith in rw e (entry-at n (i + 1) j (omega arith))
 
-name-kind : (k : ℕ) (s : List ℕ) → k < KINDS → nameTest (lexemeOf k s) ≡ true → k ≡ NAME
+name-kind : (k : ℕ) (s : List ℕ) → k < KINDS → nameTest (lexemeOf k s) ≡ true → k ≡ K-NAME
 unfolding lexemeOf
-name-kind k s low h = go (eqb k NAME) (eqb k DIGITS) refl h
+name-kind k s low h = go (eqb k K-NAME) (eqb k K-DIGITS) refl h
   where
-    go : (n d : Bool) → eqb k NAME ≡ n → nameTest (chosenLexeme n (name-token (wordFrom s)) (chosenLexeme d (digits-token (digitsFrom s)) (fixed k))) ≡ true → k ≡ NAME
-    go true d e q = eqb-true k NAME e
+    go : (n d : Bool) → eqb k K-NAME ≡ n → nameTest (chosenLexeme n (name-token (wordFrom s)) (chosenLexeme d (digits-token (digitsFrom s)) (fixed k))) ≡ true → k ≡ K-NAME
+    go true d e q = eqb-true k K-NAME e
     go false true e q = absurd (let z : _≡_ {A = ℕ} 0 1 = cc in omega arith)
     go false false e q = absurd (let z : _≡_ {A = ℕ} 0 1 = cc in omega arith)
 
-pub turn-is : (table : List ℕ) (p k : ℕ) → table ≡ entries → p < POINTS → k < KINDS → TurnIs p k (unpacked (getD table (p * 32 + k) 0))
-unfolding entries
+pub turn-is : (table : List ℕ) (p k : ℕ) → table ≡ tableEntries → p < POINTS → k < KINDS → TurnIs p k (unpacked (getD table (p * 32 + k) 0))
+unfolding tableEntries
 turn-is table p k t hp hk =
     let m = turnAt p (lexemeOf k []) in
     let f = turn-fits p (lexemeOf k []) in
@@ -254,6 +254,6 @@ pub ruled-all :
     → Ruled ps es n l m
     → n ≡ 117
     → l ≡ closedTo 32 (replicate 2048 0)
-    → ruledTo ps es 117 (closedTo 32 (replicate 2048 0)) ≡ entries
-    → m ≡ entries
+    → ruledTo ps es 117 (closedTo 32 (replicate 2048 0)) ≡ tableEntries
+    → m ≡ tableEntries
 ruled-all ps es n l m r e p q = r .is ∙ ap (λ (i : ℕ). ruledTo ps es i l) e ∙ ap (ruledTo ps es 117) p ∙ q

@@ -4,7 +4,7 @@ use mathlib.Core.Path.{_≡_}
 use mathlib.Core.List.{List, [], _∷_}
 use lib.ListN.{set}
 use Rattle.grammar.specs.Roles.{BINDING}
-use Rattle.tokens.specs.Next.{NAME, lexemeOf}
+use Rattle.tokens.specs.Next.{K-NAME, lexemeOf}
 use Rattle.flat.specs.declared.Turn.{Turn}
 use Rattle.flat.specs.Flat.{turnAt, turnOf, POINTS, GO, BINDS, CLOSE, VARIABLE, MEMBER, ENDED}
 
@@ -32,8 +32,8 @@ unfoldable pub entriesFrom : ℕ → ℕ → List ℕ
 entriesFrom zero i = []
 entriesFrom (suc n) i = packed (turnAt (i / 32) (lexemeOf (i % 32) [])) ∷ entriesFrom n (i + 1)
 
-unfoldable pub entries : List ℕ
-entries = entriesFrom 2048 0
+unfoldable pub tableEntries : List ℕ
+tableEntries = entriesFrom 2048 0
 
 -- A table in which at the three points where an expression may have ended the first k kinds of tokens are left to the innermost closer.
 unfoldable pub closedTo : ℕ → List ℕ → List ℕ
@@ -49,7 +49,7 @@ pub record Tight (k : ℕ) (r : Turn) : Type 0 where
   pub deed-low : r .deed < 16
   pub becomes-low : r .becomes < BINDING
   pub before-low : r .before < BINDING
-  pub binds-name : r .deed ≡ BINDS → k ≡ NAME
+  pub binds-name : r .deed ≡ BINDS → k ≡ K-NAME
 
 -- What a token of kind k does at point p, whatever it spells.
 pub record TurnIs (p k : ℕ) (r : Turn) : Type 0 where

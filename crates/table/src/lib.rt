@@ -6,7 +6,7 @@ ghost use Prim.Native.Nat.{_<_};
 ghost use lib.ListN.{replicate};
 ghost use Rattle.flat.specs.Flat.{POINTS};
 ghost use Rattle.tokens.specs.Next.{KINDS};
-ghost use Rattle.table.specs.Table.{TurnIs, Plain, unpacked, entries, closedTo};
+ghost use Rattle.table.specs.Table.{TurnIs, Plain, unpacked, tableEntries, closedTo};
 
 // The table has a row of 32 kinds for each of 64 points; these begin where an expression may have ended.
 const VARIABLE: usize = 33 * 32;
@@ -281,7 +281,7 @@ fn put_closing(table: &mut [u32; 2048])
 // Puts the rules.
 fn put_rules(table: &mut [u32; 2048])
     requires { ⌜ now table ≡ closedTo 32 (replicate 2048 0) ⌝ }
-    ensures { λ r. ⌜ now (table .exit) ≡ entries ⌝ }
+    ensures { λ r. ⌜ now (table .exit) ≡ tableEntries ⌝ }
 {
     let places = PLACES;
     let rules = RULES;
@@ -295,7 +295,7 @@ fn put_rules(table: &mut [u32; 2048])
 // Fills a table of zeros. The caller keeps it: a constant would be built anew wherever it is read, and an answer copied.
 pub fn fill_table(table: &mut [u32; 2048])
     requires { ⌜ now table ≡ replicate 2048 0 ⌝ }
-    ensures { λ r. ⌜ now (table .exit) ≡ entries ⌝ }
+    ensures { λ r. ⌜ now (table .exit) ≡ tableEntries ⌝ }
 {
     put_closing(table);
     put_rules(table);
@@ -317,7 +317,7 @@ fn unpack(e: u32) -> Turn
 
 // What a token of a kind does at a point, as an entry.
 pub fn entry_at(table: &[u32; 2048], point: u8, kind: u8) -> u32
-    requires { ⌜ (now table ≡ entries) × (point < POINTS) × (kind < KINDS) ⌝ }
+    requires { ⌜ (now table ≡ tableEntries) × (point < POINTS) × (kind < KINDS) ⌝ }
     ensures { λ r. ⌜ TurnIs point kind (unpacked r) ⌝ }
 {
     let row = point as usize * 32;
@@ -333,7 +333,7 @@ pub fn is_plain(e: u32) -> bool
 
 // What a token of a kind does at a point.
 pub fn turn_at(table: &[u32; 2048], point: u8, kind: u8) -> Turn
-    requires { ⌜ (now table ≡ entries) × (point < POINTS) × (kind < KINDS) ⌝ }
+    requires { ⌜ (now table ≡ tableEntries) × (point < POINTS) × (kind < KINDS) ⌝ }
     ensures { λ r. ⌜ TurnIs point kind r ⌝ }
 {
     unpack(entry_at(table, point, kind))

@@ -23,7 +23,7 @@ use Rattle.script.proofs.LayoutLaws.{decides-length, decides-counts, decides-pl
 use Rattle.grammar.specs.Grammar.{Id, id-list, id-join, Cd, Derivation}
 use Rattle.grammar.specs.Files.{Numbering, numberingOf, nodesIn, msigWords, idWords, msigsOf, cdWords, fdWords, joined, mdsOf, sectionBodies, fileText}
 use Rattle.texts.specs.Answers.{FileStands}
-use Rattle.texts.specs.Layout.{bodyOf, Within, LayoutAnswers, LeftOpen, interfaces-left, types-left, names-left}
+use Rattle.texts.specs.Layout.{bodyOf, KeepsLimits, LayoutAnswers, LeftOpen, interfaces-left, types-left, names-left}
 use Rattle.texts.proofs.Held.{Held, held-bytes, fileWords, count-of, body-held, places-are, length-is}
 use Rattle.texts.proofs.Rows.{length-rows, length-joined, first-record, owned}
 use Rattle.texts.proofs.Forest.{Forest, used}
@@ -127,7 +127,7 @@ module _ (k : Numbering) (d : Derivation) where
         }
 
 -- A file that was read stands: a yes to questions 1, 2, 3, 5 and 7, as the plain statements ask them.
-pub file-stands : (d : Derivation) → Within d → FileStands (fileText d)
+pub file-stands : (d : Derivation) → KeepsLimits d → FileStands (fileText d)
 unfolding sectionBodies fileText
 file-stands d within = let ws = fileWords (bodyOf (numberingOf d) d) in stands (numberingOf d) d (bytes ws) (held-bytes ws) (length-bytes ws) within
 
@@ -153,11 +153,11 @@ module _ (s : List ℕ) (l : FileStands s) where
   no-left (names-no n b) = names-left
 
 -- As the computed answers say them.
-pub layout-answers : (d : Derivation) → Within d → LayoutAnswers (fileText d)
+pub layout-answers : (d : Derivation) → KeepsLimits d → LayoutAnswers (fileText d)
 layout-answers d within = answers (fileText d) (file-stands d within)
 
 -- The first no that such a file gets to questions 1 to 8 is to 4, 6 or 8.
-pub first-left : (d : Derivation) → Within d → (r : Refusal) → firstNo (layoutQuestions (fileText d)) ≡ some r → LeftOpen (r .question)
+pub first-left : (d : Derivation) → KeepsLimits d → (r : Refusal) → firstNo (layoutQuestions (fileText d)) ≡ some r → LeftOpen (r .question)
 first-left d within r e = go (layout-says (fileText d)) e
   where
     go : {o : Option Refusal} → LayoutSays (fileText d) o → o ≡ some r → LeftOpen (r .question)

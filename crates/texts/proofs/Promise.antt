@@ -12,8 +12,8 @@ use borrow.Author.Tests.{eqb-true, leb-true, eq-eqb, le-leb}
 use Rattle.limits.specs.Limits.{FILE, TEXT}
 use Rattle.script.specs.declared.Section.the-variants.{Interfaces as interfaces, Signatures as signatures, Classes as classes}
 use Rattle.script.specs.declared.Section.the-variants.{Fields as fields, Methods as methods, Nodes as nodes}
-use Rattle.grammar.specs.Tokens.{Token, Splits, tokensOf}
-use Rattle.grammar.specs.Grammar.{Derivation, Derives, FirstMisfit}
+use Rattle.grammar.specs.Tokens.{Token, tokensOf}
+use Rattle.grammar.specs.Grammar.{Derivation, Derives}
 use Rattle.grammar.specs.Parse.{Verdict, refused-at, derived, parsed}
 use Rattle.grammar.specs.Files.{sectionBodies, fileText}
 use Rattle.grammar.specs.Faults.{markedText, declarationFault, limitFault}
@@ -21,9 +21,9 @@ use Rattle.grammar.proofs.Splitting.{splits, splits-once}
 use Rattle.grammar.proofs.Written.{Written, splits-written}
 use Rattle.grammar.proofs.Place.{derived-parsed, one-derivation, parsed-derived, refused-place, misfit-refused, refused-underived}
 use Rattle.capacity.proofs.Within.{within-limits}
-use Rattle.grammar.specs.Read.{TextRead, NO-DECLARATION, NO-ROOM, textRefused, fileRead, tokenPlace, askedLimits, askedDeclarations, askedGrammar, askedLengths, readOf}
+use Rattle.grammar.specs.Read.{TextRead, NO-DECLARATION, NO-ROOM, textRefused, fileRead, askedLimits, askedDeclarations, askedGrammar, askedLengths, readOf}
 use Rattle.texts.specs.Answers.{InLength, lexemes, ReadAnswers, by-lengths, by-grammar, by-declaration, by-limit, was-read, Legal, FileStands, ReadPromise}
-use Rattle.texts.specs.Layout.{Within}
+use Rattle.texts.specs.Layout.{KeepsLimits}
 use Rattle.texts.proofs.LayoutLaws.{file-stands}
 
 both : (p q : Bool) → p && q ≡ true → (p ≡ true) × (q ≡ true)
@@ -147,7 +147,7 @@ whole-in text b ts r (by-declaration h d e i f) = refl
 whole-in text b ts r (by-limit h d e f i g) = refl
 whole-in text b ts r (was-read h d e f g) = filled (fileText d) (within-limits d g .file-fits) ∙ sym (h .whole)
 
-within : (d : Derivation) → limitFault (markedText d) ≡ none → Within d
+within : (d : Derivation) → limitFault (markedText d) ≡ none → KeepsLimits d
 unfolding sectionBodies
 within d h interfaces = within-limits d h .counts interfaces
 within d h signatures = within-limits d h .counts signatures

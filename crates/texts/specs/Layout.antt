@@ -19,8 +19,8 @@ abbrev pub bodyOf : Numbering → Derivation → Section → SectionBody
 bodyOf k d section = getD (sectionBodies k d) (entryOf section) (record { records = 0; words = [] })
 
 -- No section has more records than "Most records" says.
-abbrev pub Within : Derivation → Type 0
-Within d = (section : Section) → bodyOf (numberingOf d) d section .records ≤ mostOf section
+abbrev pub KeepsLimits : Derivation → Type 0
+KeepsLimits d = (section : Section) → bodyOf (numberingOf d) d section .records ≤ mostOf section
 
 -- A yes to questions 1, 2, 3, 5 and 7 as computed answers. (`FileStands` has the plain statements.)
 pub record LayoutAnswers (s : List ℕ) : Type 0 where

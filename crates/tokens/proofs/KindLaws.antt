@@ -11,9 +11,9 @@ use lib.ListN.{length, getD, drop, set, replicate}
 use lib.Seq.{sets}
 use Rattle.script.proofs.Tests.{true-false}
 use Rattle.grammar.specs.Tokens.{blankTest, digitTest, letterTest, wordByteTest, runTest}
-use Rattle.grammar.proofs.Splitting.{letter-from, digit-to, firstTest}
+use Rattle.grammar.proofs.Splitting.{no-blank, letter-from, digit-to, firstTest}
 use Rattle.tokens.specs.Runs.{byteRun}
-use Rattle.tokens.specs.Next.{NAME, DIGITS, tokenKind, Skipped, NextIs}
+use Rattle.tokens.specs.Next.{K-NAME, K-DIGITS, tokenKind, Skipped, NextIs}
 use Rattle.tokens.specs.Words.{signLexeme, WordAt}
 use Rattle.tokens.specs.Kinds.{BLANK, kindBy, byteKind, kindsFrom, byteKinds, kindTest}
 use Rattle.tokens.proofs.RunLaws.{run-on}
@@ -59,9 +59,6 @@ pub ranged-all : (ranges : List (List ℕ)) (n : ℕ) (l m : List ℕ) → m ≡
 ranged-all ranges n l m h e t = h ∙ ap (λ (i : ℕ). rangedTo ranges i l) e ∙ t
 
 -- Blanks are of their kind, and nothing else is.
-no-blank : (b : ℕ) → 32 < b → blankTest b ≡ false
-no-blank b h = rw (ne-eqb b 9 (omega arith), ne-eqb b 10 (omega arith), ne-eqb b 13 (omega arith), ne-eqb b 32 (omega arith)) refl
-
 pub blank-kind : (b : ℕ) → byteKind b ≡ BLANK → blankTest b ≡ true
 unfolding byteKind
 blank-kind b e = go (letterTest b) (digitTest b) (blankTest b) e
@@ -84,34 +81,34 @@ other-kind b n = go (letterTest b) (digitTest b) (blankTest b) refl refl refl n
 
 -- A word goes on with letters and digits, of a name's kind or a higher one, and digits go on with digits.
 abbrev runKind : Bool → ℕ
-runKind true = DIGITS
-runKind false = NAME
+runKind true = K-DIGITS
+runKind false = K-NAME
 
 run-kind : (d : Bool) (b : ℕ) → kindTest (runKind d) b ≡ runTest d b
 unfolding byteKind
 run-kind true b = go (letterTest b) (digitTest b) (blankTest b) refl refl
   where
-    go : (l d k : Bool) → letterTest b ≡ l → digitTest b ≡ d → leb DIGITS (kindBy l d k b) ≡ d
+    go : (l d k : Bool) → letterTest b ≡ l → digitTest b ≡ d → leb K-DIGITS (kindBy l d k b) ≡ d
     go true true k p q = absurd (omega (arith, letter-from b p, digit-to b q))
     go true false k p q = refl
     go false true k p q = refl
     go false false true p q = refl
-    go false false false p q = lt-leb DIGITS (tokenKind (signLexeme b)) (omega (arith, sign-within b .1))
+    go false false false p q = lt-leb K-DIGITS (tokenKind (signLexeme b)) (omega (arith, sign-within b .1))
 run-kind false b = go (letterTest b) (digitTest b) (blankTest b)
   where
-    go : (l d k : Bool) → leb NAME (kindBy l d k b) ≡ (l || d)
+    go : (l d k : Bool) → leb K-NAME (kindBy l d k b) ≡ (l || d)
     go true d k = refl
     go false true k = refl
     go false false true = refl
-    go false false false = lt-leb NAME (tokenKind (signLexeme b)) (sign-within b .1)
+    go false false false = lt-leb K-NAME (tokenKind (signLexeme b)) (sign-within b .1)
 
 -- Is a byte one of a word, by its kind in the table?
 module _ (kinds : List ℕ) (b : ℕ) (table : kinds ≡ byteKinds) (byte : b < 256) where
-  pub word-in : NAME ≤ getD kinds b 0 → wordByteTest b ≡ true
-  word-in h = sym (run-kind false b) ∙ le-leb NAME (byteKind b) (omega (arith, kind-there kinds b table byte))
+  pub word-in : K-NAME ≤ getD kinds b 0 → wordByteTest b ≡ true
+  word-in h = sym (run-kind false b) ∙ le-leb K-NAME (byteKind b) (omega (arith, kind-there kinds b table byte))
 
-  pub word-out : getD kinds b 0 < NAME → wordByteTest b ≡ false
-  word-out h = sym (run-kind false b) ∙ lt-leb NAME (byteKind b) (omega (arith, kind-there kinds b table byte))
+  pub word-out : getD kinds b 0 < K-NAME → wordByteTest b ≡ false
+  word-out h = sym (run-kind false b) ∙ lt-leb K-NAME (byteKind b) (omega (arith, kind-there kinds b table byte))
 
 -- A byte behind blanks, and its kind.
 pub record KindAt (text : List ℕ) (at start kind : ℕ) : Type 0 where
@@ -135,7 +132,7 @@ module _ (text : List ℕ) (at start kind : ℕ) (known : KindAt text at start k
         ap length (run-on (runTest d) text start (known .inside) (first-on d (getD text start 0) e)),
       )
 
-  pub of-sign : kind < NAME → NextIs text at (record { kind = kind; start = start; end = start + 1 })
+  pub of-sign : kind < K-NAME → NextIs text at (record { kind = kind; start = start; end = start + 1 })
   unfolding byteKind
   of-sign h = go (letterTest b) (digitTest b) (blankTest b) refl refl refl (known .is)
     where
@@ -149,12 +146,12 @@ module _ (text : List ℕ) (at start kind : ℕ) (known : KindAt text at start k
       go false false false p q r e = at-sign text at start (known .skipped) (known .inside) kind p q e
 
   module _ (end : ℕ) (ends : end ≡ start + 1 + length (byteRun (kindTest kind) (drop (start + 1) text))) where
-    pub of-digits : kind ≡ DIGITS → NextIs text at (record { kind = kind; start = start; end = end })
+    pub of-digits : kind ≡ K-DIGITS → NextIs text at (record { kind = kind; start = start; end = end })
     of-digits k =
-        let e : digitTest (getD text start 0) ≡ true = sym (run-kind true (getD text start 0)) ∙ ap (leb DIGITS) (sym (known .is) ∙ k) in
+        let e : digitTest (getD text start 0) ≡ true = sym (run-kind true (getD text start 0)) ∙ ap (leb K-DIGITS) (sym (known .is) ∙ k) in
         rw k (at-digits text at start (known .skipped) (known .inside) end e (run-there true end e k ends))
 
-    pub word-there : NAME ≤ kind → (kind ≡ DIGITS → ⊥) → WordAt text start end
+    pub word-there : K-NAME ≤ kind → (kind ≡ K-DIGITS → ⊥) → WordAt text start end
     unfolding byteKind
     word-there h n = go (letterTest b) (digitTest b) (blankTest b) refl (known .is)
       where

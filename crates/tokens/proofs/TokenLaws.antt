@@ -17,7 +17,7 @@ use Rattle.grammar.specs.Tokens.{Lexeme, fixed, name-token, digits-token, TEXT-
 use Rattle.grammar.proofs.Splitting.{firstTest, runLexeme, blank-skipped, sign-taken, run-taken}
 use Rattle.grammar.proofs.Fixed.{every-true, fixed-or}
 use Rattle.tokens.specs.Runs.{byteRun, wordFrom, digitsFrom}
-use Rattle.tokens.specs.Next.{NAME, DIGITS, KINDS, tokenKind, lexemeOf, tokensAt, Skipped, NextIs}
+use Rattle.tokens.specs.Next.{K-NAME, K-DIGITS, KINDS, tokenKind, lexemeOf, tokensAt, Skipped, NextIs}
 use Rattle.tokens.specs.Words.{wordLexeme, signLexeme}
 use Rattle.tokens.proofs.RunLaws.{run-on, run-is, run-length}
 
@@ -48,40 +48,40 @@ record Told (s : List ℕ) (bound : ℕ) (l : Lexeme) : Type 0 where
   real : tokenKind l ≡ TEXT-END → ⊥
   is : lexemeOf (tokenKind l) s ≡ l
 
-told-fixed : (s : List ℕ) (bound k : ℕ) → NAME ≤ bound → 0 < k → k < NAME → Told s bound (fixed k)
+told-fixed : (s : List ℕ) (bound k : ℕ) → K-NAME ≤ bound → 0 < k → k < K-NAME → Told s bound (fixed k)
 unfolding tokenKind lexemeOf
 told-fixed s bound k m h l =
-    record { below = omega arith; real = λ e. omega arith; is = rw (ne-eqb k NAME (omega arith), ne-eqb k DIGITS (omega arith)) refl }
+    record { below = omega arith; real = λ e. omega arith; is = rw (ne-eqb k K-NAME (omega arith), ne-eqb k K-DIGITS (omega arith)) refl }
 
-told-list : (s : List ℕ) (bound : ℕ) (ks : List Fixed) → NAME ≤ bound → allOf (λ k. ltb 0 (k .token) && ltb (k .token) NAME) ks ≡ true → Every (λ k. Told s bound (fixed (k .token))) ks
+told-list : (s : List ℕ) (bound : ℕ) (ks : List Fixed) → K-NAME ≤ bound → allOf (λ k. ltb 0 (k .token) && ltb (k .token) K-NAME) ks ≡ true → Every (λ k. Told s bound (fixed (k .token))) ks
 told-list s bound ks m e =
-    every-map (λ k. (ltb 0 (k .token) && ltb (k .token) NAME) ≡ true) (λ k. Told s bound (fixed (k .token)))
+    every-map (λ k. (ltb 0 (k .token) && ltb (k .token) K-NAME) ≡ true) (λ k. Told s bound (fixed (k .token)))
     (λ k h. go (k .token) (ltb 0 (k .token)) refl h)
     ks
-    (every-true (λ k. ltb 0 (k .token) && ltb (k .token) NAME) ks e)
+    (every-true (λ k. ltb 0 (k .token) && ltb (k .token) K-NAME) ks e)
   where
-    go : (k : ℕ) (t : Bool) → ltb 0 k ≡ t → (t && ltb k NAME) ≡ true → Told s bound (fixed k)
-    go k true p q = told-fixed s bound k m (ltb-true 0 k p) (ltb-true k NAME q)
+    go : (k : ℕ) (t : Bool) → ltb 0 k ≡ t → (t && ltb k K-NAME) ≡ true → Told s bound (fixed k)
+    go k true p q = told-fixed s bound k m (ltb-true 0 k p) (ltb-true k K-NAME q)
     go k false p q = absurd (true-false (sym q))
 
-told-word : (s : List ℕ) → Told s DIGITS (wordLexeme (wordFrom s))
+told-word : (s : List ℕ) → Told s K-DIGITS (wordLexeme (wordFrom s))
 unfolding tokenKind lexemeOf fixedWords allOf
 told-word s =
-    fixed-or (Told s DIGITS) (name-token (wordFrom s)) fixedWords (wordFrom s)
+    fixed-or (Told s K-DIGITS) (name-token (wordFrom s)) fixedWords (wordFrom s)
     (record { below = omega arith; real = λ e. omega arith; is = refl })
-    (told-list s DIGITS fixedWords (omega arith) refl)
+    (told-list s K-DIGITS fixedWords (omega arith) refl)
 
 told-digits : (s : List ℕ) → Told s KINDS (digits-token (digitsFrom s))
 unfolding tokenKind lexemeOf
 told-digits s = record { below = omega arith; real = λ e. omega arith; is = refl }
 
-told-sign : (s : List ℕ) (b : ℕ) → Told s NAME (signLexeme b)
+told-sign : (s : List ℕ) (b : ℕ) → Told s K-NAME (signLexeme b)
 unfolding fixedSigns allOf
 told-sign s b =
-    fixed-or (Told s NAME) (fixed STRAY) fixedSigns (b ∷ []) (told-fixed s NAME STRAY (omega arith) (omega arith) (omega arith))
-    (told-list s NAME fixedSigns (omega arith) refl)
+    fixed-or (Told s K-NAME) (fixed STRAY) fixedSigns (b ∷ []) (told-fixed s K-NAME STRAY (omega arith) (omega arith) (omega arith))
+    (told-list s K-NAME fixedSigns (omega arith) refl)
 
-pub sign-within : (b : ℕ) → (0 < tokenKind (signLexeme b)) × (tokenKind (signLexeme b) < NAME)
+pub sign-within : (b : ℕ) → (0 < tokenKind (signLexeme b)) × (tokenKind (signLexeme b) < K-NAME)
 sign-within b = let t = told-sign [] b in (omega (arith, t .real), t .below)
 
 -- What stands at a byte that is no blank: a word or digits, or a sign.
@@ -142,8 +142,8 @@ module _ (text : List ℕ) (at start : ℕ) (skipped : Skipped text at start) wh
       → start < end
       → end ≤ length text
       → tokensAt text start ≡ tokenAt start l ∷ tokensAt text end
-      → (kind < bound → kind ≡ NAME → start + length (wordFrom (drop start text)) ≡ end)
-      → (kind < bound → kind ≡ DIGITS → start + length (digitsFrom (drop start text)) ≡ end)
+      → (kind < bound → kind ≡ K-NAME → start + length (wordFrom (drop start text)) ≡ end)
+      → (kind < bound → kind ≡ K-DIGITS → start + length (digitsFrom (drop start text)) ≡ end)
       → NextIs text at (record { kind = kind; start = start; end = end })
   answers kind end bound l t k m i j f p q =
       let below : kind < bound = omega (arith, t .below) in
@@ -173,7 +173,7 @@ module _ (text : List ℕ) (at start : ℕ) (skipped : Skipped text at start) wh
         → end ≡ start + length (wordFrom (drop start text))
         → NextIs text at (record { kind = kind; start = start; end = end })
     at-word kind end e k m =
-        answers kind end DIGITS (wordLexeme (wordFrom (drop start text))) (told-word (drop start text)) k (omega arith)
+        answers kind end K-DIGITS (wordLexeme (wordFrom (drop start text))) (told-word (drop start text)) k (omega arith)
         (omega (arith, ap length (run-on wordByteTest text start inside (first-on false (getD text start 0) e))))
         (omega (arith, run-length wordByteTest text start (skipped .within)))
         (rw m (run-token text start inside false e))
@@ -184,10 +184,10 @@ module _ (text : List ℕ) (at start : ℕ) (skipped : Skipped text at start) wh
         (end : ℕ)
         → digitTest (getD text start 0) ≡ true
         → end ≡ start + length (digitsFrom (drop start text))
-        → NextIs text at (record { kind = DIGITS; start = start; end = end })
+        → NextIs text at (record { kind = K-DIGITS; start = start; end = end })
     unfolding tokenKind
     at-digits end e m =
-        answers DIGITS end KINDS (digits-token (digitsFrom (drop start text))) (told-digits (drop start text)) refl (omega arith)
+        answers K-DIGITS end KINDS (digits-token (digitsFrom (drop start text))) (told-digits (drop start text)) refl (omega arith)
         (omega (arith, ap length (run-on digitTest text start inside e)))
         (omega (arith, run-length digitTest text start (skipped .within)))
         (rw m (run-token text start inside true e))
@@ -201,7 +201,7 @@ module _ (text : List ℕ) (at start : ℕ) (skipped : Skipped text at start) wh
         → kind ≡ tokenKind (signLexeme (getD text start 0))
         → NextIs text at (record { kind = kind; start = start; end = start + 1 })
     at-sign kind e f k =
-        answers kind (start + 1) NAME (signLexeme (getD text start 0)) (told-sign (drop start text) (getD text start 0)) k (omega arith)
+        answers kind (start + 1) K-NAME (signLexeme (getD text start 0)) (told-sign (drop start text) (getD text start 0)) k (omega arith)
         (omega arith)
         (omega arith)
         (sign-token text start inside e f (skipped .blankless inside))

@@ -16,9 +16,9 @@ use Rattle.grammar.specs.Tokens.{Spelling, name-token, fixed, Fixed, fixedWords
 use Rattle.grammar.proofs.Splitting.{within}
 use Rattle.grammar.proofs.Fixed.{same-is, every-true, all-true}
 use Rattle.tokens.specs.declared.words.Spelled.{Spelled}
-use Rattle.tokens.specs.Next.{NAME, tokenKind}
+use Rattle.tokens.specs.Next.{K-NAME, tokenKind}
 use Rattle.tokens.specs.Runs.{wordFrom}
-use Rattle.tokens.specs.Words.{wordLexeme, WordAt, LONGEST, SLOTS, slotOf, keyOf, RADIX, wordCode, chosenFixed, fixedAt, SpelledIs}
+use Rattle.tokens.specs.Words.{wordLexeme, WordAt, LONGEST, WORD-SLOTS, wordSlot, keyOf, RADIX, wordCode, chosenFixed, fixedAt, SpelledIs}
 use Rattle.tokens.proofs.RunLaws.{run-on, run-is, run-length, run-slice}
 
 -- A code of few bytes fits.
@@ -68,10 +68,10 @@ key-same (b ∷ v) (c ∷ w) (all-more p a) (all-more q d) e f =
     cc
 
 -- What holds of each word of a list, and of no word, holds of the one that has a slot.
-fixed-at : (P : Fixed → Type 0) (ks : List Fixed) (slot : ℕ) → P (record { token = NAME; letters = [] }) → Every P ks → P (fixedAt ks slot)
+fixed-at : (P : Fixed → Type 0) (ks : List Fixed) (slot : ℕ) → P (record { token = K-NAME; letters = [] }) → Every P ks → P (fixedAt ks slot)
 unfolding fixedAt
 fixed-at P [] slot p e = p
-fixed-at P (k ∷ ks) slot p e = go (eqb slot (slotOf (k .letters))) (fixed-at P ks slot p (e .1))
+fixed-at P (k ∷ ks) slot p e = go (eqb slot (wordSlot (k .letters))) (fixed-at P ks slot p (e .1))
   where
     go : (t : Bool) → P (fixedAt ks slot) → P (chosenFixed t k (fixedAt ks slot))
     go true r = e .0
@@ -98,7 +98,7 @@ not-among test (k ∷ ks) w h e = go (sameSpelling (k .letters) w) refl (not-amo
     go true p r = absurd (true-false (sym (e .0) ∙ ap test (same-is (k .letters) w p) ∙ h))
     go false p r = r
 
-unlike : (test : Spelling → Bool) (w : Spelling) → test w ≡ false → allOf (λ k. test (k .letters)) fixedWords ≡ true → NAME ≡ tokenKind (wordLexeme w)
+unlike : (test : Spelling → Bool) (w : Spelling) → test w ≡ false → allOf (λ k. test (k .letters)) fixedWords ≡ true → K-NAME ≡ tokenKind (wordLexeme w)
 unfolding tokenKind
 unlike test w h e = sym (ap tokenKind (not-among test fixedWords w h (every-true (λ k. test (k .letters)) fixedWords e)))
 
@@ -119,7 +119,7 @@ module _ (text : List ℕ) (start end : ℕ) (word : WordAt text start end) wher
       let n : end ≡ start + 1 + length u = omega (arith, word .ends, ap length goes) in
       ap (λ (m : ℕ). slice (start + 1) m text) n ∙ run-slice wordByteTest text (start + 1) l ∙ sym (ap (drop 1) goes)
 
-  pub long-name : LONGEST < end - start → NAME ≡ tokenKind (wordLexeme (wordFrom (drop start text)))
+  pub long-name : LONGEST < end - start → K-NAME ≡ tokenKind (wordLexeme (wordFrom (drop start text)))
   unfolding fixedWords allOf
   long-name h =
       unlike (λ v. leb (length v) LONGEST) (wordFrom (drop start text)) (lt-leb (length (wordFrom (drop start text))) LONGEST (omega (arith, word .ends))) refl
@@ -138,36 +138,36 @@ module _ (text : List ℕ) (start end : ℕ) (word : WordAt text start end) wher
       ∙ ap (λ (l : List ℕ). getD l (length w - 1) 0) (run-is wordByteTest (drop start text) .expressionWays)
       ∙ List·getD-append w (drop (length w) (drop start text)) 0 (length w - 1) (omega (arith, ap length goes))
 
-  slot-there : (getD text start 0 + 2 * getD text (end - 1) 0) % SLOTS ≡ slotOf (wordFrom (drop start text))
-  slot-there = rw last-there (ap (λ (v : Spelling). (getD v 0 0 + 2 * getD (wordFrom (drop start text)) (length (wordFrom (drop start text)) - 1) 0) % SLOTS) (sym goes))
+  slot-there : (getD text start 0 + 2 * getD text (end - 1) 0) % WORD-SLOTS ≡ wordSlot (wordFrom (drop start text))
+  slot-there = rw last-there (ap (λ (v : Spelling). (getD v 0 0 + 2 * getD (wordFrom (drop start text)) (length (wordFrom (drop start text)) - 1) 0) % WORD-SLOTS) (sym goes))
 
   module _
       (slot there : ℕ)
       (c : Spelled)
-      (slot-is : slot ≡ (getD text start 0 + 2 * getD text (end - 1) 0) % SLOTS)
+      (slot-is : slot ≡ (getD text start 0 + 2 * getD text (end - 1) 0) % WORD-SLOTS)
       (candidate : SpelledIs (fixedAt fixedWords slot) c)
       (there-is : there ≡ (end - start) * 256 + getD text start 0)
     where
-      by-slot : fixedAt fixedWords slot ≡ fixedAt fixedWords (slotOf (wordFrom (drop start text)))
+      by-slot : fixedAt fixedWords slot ≡ fixedAt fixedWords (wordSlot (wordFrom (drop start text)))
       by-slot = ap (fixedAt fixedWords) (slot-is ∙ slot-there)
 
-      pub other-key : (c .1 ≡ there → ⊥) → NAME ≡ tokenKind (wordLexeme (wordFrom (drop start text)))
+      pub other-key : (c .1 ≡ there → ⊥) → K-NAME ≡ tokenKind (wordLexeme (wordFrom (drop start text)))
       unfolding fixedWords allOf fixedAt
       other-key n =
-          unlike (λ v. eqb (keyOf (fixedAt fixedWords (slotOf v) .letters)) (keyOf v)) (wordFrom (drop start text))
+          unlike (λ v. eqb (keyOf (fixedAt fixedWords (wordSlot v) .letters)) (keyOf v)) (wordFrom (drop start text))
           (ne-eqb
-          (keyOf (fixedAt fixedWords (slotOf (wordFrom (drop start text))) .letters))
+          (keyOf (fixedAt fixedWords (wordSlot (wordFrom (drop start text))) .letters))
           (keyOf (wordFrom (drop start text)))
           (λ e. n (candidate .key-is ∙ ap (λ (k : Fixed). keyOf (k .letters)) by-slot ∙ e ∙ sym (there-is ∙ key-there))))
           refl
 
       module _ (code : ℕ) (code-is : code ≡ wordCode (slice (start + 1) end text)) where
-        pub other-rest : (c .2 ≡ code → ⊥) → NAME ≡ tokenKind (wordLexeme (wordFrom (drop start text)))
+        pub other-rest : (c .2 ≡ code → ⊥) → K-NAME ≡ tokenKind (wordLexeme (wordFrom (drop start text)))
         unfolding fixedWords allOf fixedAt wordCode
         other-rest n =
-            unlike (λ v. eqb (wordCode (drop 1 (fixedAt fixedWords (slotOf v) .letters))) (wordCode (drop 1 v))) (wordFrom (drop start text))
+            unlike (λ v. eqb (wordCode (drop 1 (fixedAt fixedWords (wordSlot v) .letters))) (wordCode (drop 1 v))) (wordFrom (drop start text))
             (ne-eqb
-            (wordCode (drop 1 (fixedAt fixedWords (slotOf (wordFrom (drop start text))) .letters)))
+            (wordCode (drop 1 (fixedAt fixedWords (wordSlot (wordFrom (drop start text))) .letters)))
             (wordCode (drop 1 (wordFrom (drop start text))))
             (λ e. n (candidate .rest-is ∙ ap (λ (k : Fixed). wordCode (drop 1 (k .letters))) by-slot ∙ e ∙ sym (code-is ∙ ap wordCode rest-there))))
             refl

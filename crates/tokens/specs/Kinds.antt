@@ -4,7 +4,7 @@ use mathlib.Core.Bool.{Bool, true, false}
 use mathlib.Core.List.{List, [], _∷_}
 use lib.Dec.{leb}
 use Rattle.grammar.specs.Tokens.{blankTest, digitTest, letterTest}
-use Rattle.tokens.specs.Next.{NAME, DIGITS, tokenKind}
+use Rattle.tokens.specs.Next.{K-NAME, K-DIGITS, tokenKind}
 use Rattle.tokens.specs.Words.{signLexeme}
 
 -- A blank begins no token.
@@ -13,8 +13,8 @@ BLANK = 0
 
 -- Is the byte a letter, a digit, a blank? If none of them, it is a sign, or begins no token.
 abbrev pub kindBy : Bool → Bool → Bool → ℕ → ℕ
-kindBy true digit blank b = NAME
-kindBy false true blank b = DIGITS
+kindBy true digit blank b = K-NAME
+kindBy false true blank b = K-DIGITS
 kindBy false false true b = BLANK
 kindBy false false false b = tokenKind (signLexeme b)
 

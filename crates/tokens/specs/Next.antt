@@ -10,23 +10,23 @@ use Rattle.tokens.specs.declared.Next.{Next}
 use Rattle.tokens.specs.Runs.{wordFrom, digitsFrom}
 
 -- Kinds of tokens: a word or sign that the grammar spells out has its number, and behind those come names and digits.
-abbrev pub NAME : ℕ
-NAME = 28
+abbrev pub K-NAME : ℕ
+K-NAME = 28
 
-abbrev pub DIGITS : ℕ
-DIGITS = 29
+abbrev pub K-DIGITS : ℕ
+K-DIGITS = 29
 
 abbrev pub KINDS : ℕ
 KINDS = 30
 
 unfoldable pub tokenKind : Lexeme → ℕ
 tokenKind (fixed k) = k
-tokenKind (name-token w) = NAME
-tokenKind (digits-token w) = DIGITS
+tokenKind (name-token w) = K-NAME
+tokenKind (digits-token w) = K-DIGITS
 
 -- The token of a kind that stands at the head of a text.
 unfoldable pub lexemeOf : ℕ → List ℕ → Lexeme
-lexemeOf k s = chosenLexeme (eqb k NAME) (name-token (wordFrom s)) (chosenLexeme (eqb k DIGITS) (digits-token (digitsFrom s)) (fixed k))
+lexemeOf k s = chosenLexeme (eqb k K-NAME) (name-token (wordFrom s)) (chosenLexeme (eqb k K-DIGITS) (digits-token (digitsFrom s)) (fixed k))
 
 -- The tokens from offset n of a text on.
 abbrev pub tokensAt : List ℕ → ℕ → List Token
@@ -50,8 +50,8 @@ pub record TokenIs (text : List ℕ) (at : ℕ) (r : Next) : Type 0 where
   pub first : tokensAt text at ≡ tokenAt (r .start) (lexemeOf (r .kind) (drop (r .start) text)) ∷ tokensAt text (r .end)
   pub kind-is : tokenKind (lexemeOf (r .kind) (drop (r .start) text)) ≡ r .kind
   pub some : r .start < r .end
-  pub name-ends : r .kind ≡ NAME → r .start + length (wordFrom (drop (r .start) text)) ≡ r .end
-  pub digits-end : r .kind ≡ DIGITS → r .start + length (digitsFrom (drop (r .start) text)) ≡ r .end
+  pub name-ends : r .kind ≡ K-NAME → r .start + length (wordFrom (drop (r .start) text)) ≡ r .end
+  pub digits-end : r .kind ≡ K-DIGITS → r .start + length (digitsFrom (drop (r .start) text)) ≡ r .end
 
 -- What stands from `at` on, blanks skipped.
 pub record NextIs (text : List ℕ) (at : ℕ) (r : Next) : Type 0 where

@@ -7,7 +7,7 @@ use lib.Dec.{eqb}
 use lib.ListN.{length, getD, drop}
 use Rattle.grammar.specs.Tokens.{Spelling, Lexeme, name-token, fixed, STRAY, Fixed, fixedWords, fixedSigns, fixedOr, letterTest}
 use Rattle.tokens.specs.declared.words.Spelled.{Spelled}
-use Rattle.tokens.specs.Next.{NAME}
+use Rattle.tokens.specs.Next.{K-NAME}
 use Rattle.tokens.specs.Runs.{wordFrom}
 
 -- A word: one that the grammar spells out, or a name. And any other byte: a sign, or a byte that begins no token.
@@ -28,11 +28,11 @@ abbrev pub LONGEST : ℕ
 LONGEST = 10
 
 -- A small number of a word, by its first and its last byte: no two words that the grammar spells out share it.
-abbrev pub SLOTS : ℕ
-SLOTS = 32
+abbrev pub WORD-SLOTS : ℕ
+WORD-SLOTS = 32
 
-abbrev pub slotOf : Spelling → ℕ
-slotOf w = (getD w 0 0 + 2 * getD w (length w - 1) 0) % SLOTS
+abbrev pub wordSlot : Spelling → ℕ
+wordSlot w = (getD w 0 0 + 2 * getD w (length w - 1) 0) % WORD-SLOTS
 
 -- The length of a word and its first byte in one number.
 abbrev pub keyOf : Spelling → ℕ
@@ -52,8 +52,8 @@ chosenFixed true k l = k
 chosenFixed false k l = l
 
 unfoldable pub fixedAt : List Fixed → ℕ → Fixed
-fixedAt [] slot = record { token = NAME; letters = [] }
-fixedAt (k ∷ ks) slot = chosenFixed (eqb slot (slotOf (k .letters))) k (fixedAt ks slot)
+fixedAt [] slot = record { token = K-NAME; letters = [] }
+fixedAt (k ∷ ks) slot = chosenFixed (eqb slot (wordSlot (k .letters))) k (fixedAt ks slot)
 
 -- What the code knows of it.
 pub record SpelledIs (k : Fixed) (r : Spelled) : Type 0 where

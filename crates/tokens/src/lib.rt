@@ -7,9 +7,9 @@ mod words;
 
 ghost use mathlib.Core.Path.{_≡_};
 ghost use Rattle.tokens.specs.Kinds.{BLANK};
-ghost use Rattle.tokens.specs.Next.{NAME, DIGITS};
+ghost use Rattle.tokens.specs.Next.{K-NAME, K-DIGITS};
 ghost use Rattle.tokens.specs.Runs.{HASHES, BEYOND};
-ghost use Rattle.tokens.specs.Words.{LONGEST, SLOTS, RADIX};
+ghost use Rattle.tokens.specs.Words.{LONGEST, WORD-SLOTS, RADIX};
 pub use kinds::byte_kinds;
 pub use names::is_name;
 pub use names::magnitude_at;
@@ -52,12 +52,12 @@ pub struct Name {
 
 // The constants and the definitions are the same numbers.
 pub fn agreed()
-    ensures { λ r. do ⌜ (← ⟦NAME⟧ .entry) ≡ NAME ⌝ }
-    ensures { λ r. do ⌜ (← ⟦DIGITS⟧ .entry) ≡ DIGITS ⌝ }
+    ensures { λ r. do ⌜ (← ⟦NAME⟧ .entry) ≡ K-NAME ⌝ }
+    ensures { λ r. do ⌜ (← ⟦DIGITS⟧ .entry) ≡ K-DIGITS ⌝ }
     ensures { λ r. do ⌜ (← ⟦BLANK⟧ .entry) ≡ BLANK ⌝ }
     ensures { λ r. do ⌜ (← ⟦HASHES⟧ .entry) ≡ HASHES ⌝ }
     ensures { λ r. do ⌜ (← ⟦BEYOND⟧ .entry) ≡ BEYOND ⌝ }
     ensures { λ r. do ⌜ (← ⟦LONGEST⟧ .entry) ≡ LONGEST ⌝ }
-    ensures { λ r. do ⌜ (← ⟦SLOTS⟧ .entry) ≡ SLOTS ⌝ }
+    ensures { λ r. do ⌜ (← ⟦SLOTS⟧ .entry) ≡ WORD-SLOTS ⌝ }
     ensures { λ r. do ⌜ (← ⟦RADIX⟧ .entry) ≡ RADIX ⌝ }
 {}

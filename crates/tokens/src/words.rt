@@ -10,7 +10,7 @@ ghost use lib.Seq.{slice};
 ghost use Rattle.grammar.specs.Tokens.{fixedWords};
 ghost use Rattle.tokens.specs.Next.{tokenKind};
 ghost use Rattle.tokens.specs.Runs.{wordFrom};
-ghost use Rattle.tokens.specs.Words.{wordLexeme, WordAt, LONGEST, SLOTS, wordCode, fixedAt, SpelledIs};
+ghost use Rattle.tokens.specs.Words.{wordLexeme, WordAt, LONGEST, WORD-SLOTS, wordCode, fixedAt, SpelledIs};
 
 // A word that the grammar spells out: its number, its key, and the code of the bytes behind its first one.
 struct Spelled(u8, usize, u64);
@@ -31,7 +31,7 @@ fn code_between(text: &[u8], start: usize, end: usize) -> u64
 
 // No two words that the grammar spells out have the same slot.
 fn slot_of(first: u8, last: u8) -> usize
-    ensures { λ r. ⌜ r ≡ (first + 2 * last) % SLOTS ⌝ }
+    ensures { λ r. ⌜ r ≡ (first + 2 * last) % WORD-SLOTS ⌝ }
 {
     (first as usize + 2 * (last as usize)) % SLOTS
 }

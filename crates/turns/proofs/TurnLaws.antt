@@ -9,7 +9,7 @@ use lib.ListN.{length, drop}
 use lib.Seq.{drop-length}
 use borrow.Author.Tests.{eq-eqb, ne-eqb, eqb-true, eqb-false}
 use Rattle.grammar.specs.Tokens.{Spelling, sameSpelling, fixed, name-token, digits-token, chosenLexeme}
-use Rattle.tokens.specs.Next.{NAME, DIGITS, lexemeOf}
+use Rattle.tokens.specs.Next.{K-NAME, K-DIGITS, lexemeOf}
 use Rattle.tokens.specs.Runs.{wordFrom, digitsFrom, byteRun}
 use Rattle.flat.specs.declared.Turn.{Turn}
 use Rattle.flat.specs.Flat.{turnAt, turnUnder, closerTurn, stuckTurn, topOf, ownTest, CLOSE, BINDS, LEAVE, POINTS}
@@ -59,19 +59,19 @@ under-closer p depth top k m r t h z u = record { is = go; tight = u .tight }
     go (c ∷ cs) s d o = u .is s ∙ ap (λ (n : ℕ). turnAt (n % POINTS) (lexemeOf k s)) o ∙ left-to-closers p k m (c ∷ cs) s t h
 
 -- The parameter's own name.
-pub name-here : (s : List ℕ) (k : ℕ) → k ≡ NAME → lexemeOf k s ≡ name-token (wordFrom s)
+pub name-here : (s : List ℕ) (k : ℕ) → k ≡ K-NAME → lexemeOf k s ≡ name-token (wordFrom s)
 unfolding lexemeOf
-name-here s k h = rw (eq-eqb k NAME h)
+name-here s k h = rw (eq-eqb k K-NAME h)
 
-pub own-not : (p : Spelling) (v : Bool) (k : ℕ) (s : List ℕ) → (k ≡ NAME → ⊥) → false ≡ ownTest p v (lexemeOf k s)
+pub own-not : (p : Spelling) (v : Bool) (k : ℕ) (s : List ℕ) → (k ≡ K-NAME → ⊥) → false ≡ ownTest p v (lexemeOf k s)
 unfolding lexemeOf
-own-not p v k s h = rw (ne-eqb k NAME h) (go (eqb k DIGITS))
+own-not p v k s h = rw (ne-eqb k K-NAME h) (go (eqb k K-DIGITS))
   where
     go : (q : Bool) → false ≡ ownTest p v (chosenLexeme q (digits-token (digitsFrom s)) (fixed k))
     go true = refl
     go false = refl
 
-pub own-hidden : (p : Spelling) (v : Bool) (k : ℕ) (s : List ℕ) → k ≡ NAME → v ≡ false → false ≡ ownTest p v (lexemeOf k s)
+pub own-hidden : (p : Spelling) (v : Bool) (k : ℕ) (s : List ℕ) → k ≡ K-NAME → v ≡ false → false ≡ ownTest p v (lexemeOf k s)
 own-hidden p v k s h z = rw (name-here s k h, z)
 
 eqb-swapped : (a b : ℕ) → eqb a b ≡ eqb b a
@@ -88,12 +88,12 @@ same-swapped [] (c ∷ w) = refl
 same-swapped (b ∷ v) [] = refl
 same-swapped (b ∷ v) (c ∷ w) = rw (eqb-swapped b c, same-swapped v w) refl
 
-pub own-same : (p : Spelling) (v r : Bool) (k : ℕ) (s : List ℕ) → k ≡ NAME → v ≡ true → r ≡ sameSpelling p (wordFrom s) → r ≡ ownTest p v (lexemeOf k s)
+pub own-same : (p : Spelling) (v r : Bool) (k : ℕ) (s : List ℕ) → k ≡ K-NAME → v ≡ true → r ≡ sameSpelling p (wordFrom s) → r ≡ ownTest p v (lexemeOf k s)
 own-same p v r k s h z e = rw (name-here s k h, z) (e ∙ same-swapped p (wordFrom s))
 
 -- Where the parameter is: at its name, nowhere, where it was.
 pub bound-here :
-    (text : List ℕ) (k start d p : ℕ) → d ≡ BINDS → (d ≡ BINDS → k ≡ NAME) → start ≤ length text → ParameterIs text k start d p start
+    (text : List ℕ) (k start d p : ℕ) → d ≡ BINDS → (d ≡ BINDS → k ≡ K-NAME) → start ≤ length text → ParameterIs text k start d p start
 bound-here text k start d p h n w = record { within = w; spells = rw (eq-eqb d BINDS h, name-here (drop start text) k (n h)) }
 
 pub left-none : (text : List ℕ) (k start d p : ℕ) → (d ≡ BINDS → ⊥) → d ≡ LEAVE → ParameterIs text k start d p (length text)

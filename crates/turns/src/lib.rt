@@ -16,15 +16,15 @@ ghost use lib.Dec.{eqb};
 ghost use lib.ListN.{length, drop};
 ghost use Rattle.grammar.specs.Roles.{BINDING, B-PARAMETER, B-OTHER};
 ghost use Rattle.tokens.specs.Kinds.{byteKinds};
-ghost use Rattle.tokens.specs.Next.{NAME, KINDS, lexemeOf};
+ghost use Rattle.tokens.specs.Next.{K-NAME, KINDS, lexemeOf};
 ghost use Rattle.tokens.specs.Runs.{wordFrom};
 ghost use Rattle.flat.specs.Flat.{POINTS, CLOSERS, OCCURS, ownTest, keptBy, popsTest, BINDS, startBy};
-ghost use Rattle.table.specs.Table.{entries};
+ghost use Rattle.table.specs.Table.{tableEntries};
 ghost use Rattle.turns.specs.Stacks.{TurnUnder, ParameterIs};
 
 // What a token of a kind does at a point, where the innermost closer says so if the point leaves it to it.
 pub fn turn_under(table: &[u32; 2048], point: u8, depth: usize, top: u8, kind: u8) -> Turn
-    requires { ⌜ (now table ≡ entries) × (point < POINTS) × (kind < KINDS) ⌝ }
+    requires { ⌜ (now table ≡ tableEntries) × (point < POINTS) × (kind < KINDS) ⌝ }
     ensures { λ r. ⌜ TurnUnder point depth top kind r ⌝ }
 {
     let m = turn_at(table, point, kind);
@@ -47,7 +47,7 @@ pub fn turn_under(table: &[u32; 2048], point: u8, depth: usize, top: u8, kind: u
 // Is the token t the parameter's name, where the parameter is visible?
 pub fn is_own(kinds: &[u8; 256], text: &[u8], t: Next, parameter: usize, visible: bool) -> bool
     requires { ⌜ (now kinds ≡ byteKinds) × (t .start ≤ length (now text)) × (parameter ≤ length (now text)) ⌝ }
-    requires { ⌜ (t .kind ≡ NAME → t .start + length (wordFrom (drop (t .start) (now text))) ≡ t .end) ⌝ }
+    requires { ⌜ (t .kind ≡ K-NAME → t .start + length (wordFrom (drop (t .start) (now text))) ≡ t .end) ⌝ }
     ensures { λ r. ⌜ r ≡ ownTest (wordFrom (drop parameter (now (text .entry)))) visible (lexemeOf (t .kind) (drop (t .start) (now (text .entry)))) ⌝ }
 {
     if t.kind != NAME {
@@ -125,7 +125,7 @@ pub fn visible_after(deed: u8, visible: bool, top: u8) -> bool
 
 // Where the parameter's name is behind a token; with no parameter it is the text's end.
 pub fn parameter_after(text: &[u8], kind: u8, start: usize, deed: u8, parameter: usize) -> usize
-    requires { ⌜ (deed ≡ BINDS → kind ≡ NAME) × (start ≤ length (now text)) × (parameter ≤ length (now text)) ⌝ }
+    requires { ⌜ (deed ≡ BINDS → kind ≡ K-NAME) × (start ≤ length (now text)) × (parameter ≤ length (now text)) ⌝ }
     ensures { λ r. ⌜ ParameterIs (now (text .entry)) kind start deed parameter r ⌝ }
 {
     if deed == flat::BINDS {

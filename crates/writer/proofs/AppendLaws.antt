@@ -10,18 +10,18 @@ use Rattle.grammar.specs.Faults.{beginsTest}
 use Rattle.grammar.specs.Roles.{R-CAST}
 use Rattle.bounds.specs.Places.{placesFrom}
 use Rattle.rows.specs.Rows.{Item, oneMore, nodeRow, sizesOf}
-use Rattle.row_words.specs.Items.{Roled, Shows, Readable, itemsOf}
+use Rattle.row_words.specs.Items.{Roled, Described, Readable, itemsOf}
 use Rattle.row_words.specs.Row.{rowOf}
 use Rattle.row_words.proofs.TokenLaws.{items-shown}
 use Rattle.writer.specs.Written.{written, Appended}
 use Rattle.writer.specs.Records.{begunAmong, Unnumbered, Stretch}
-use Rattle.writer.specs.Counted.{Sized, allRows}
+use Rattle.writer.specs.Counted.{SizesKnown, allRows}
 use Rattle.writer.proofs.WrittenLaws.{written-none, written-more, length-written}
 use Rattle.writer.proofs.PlaceLaws.{Place, begun-split, begun-next, begun-all, place-next, place-before, places-count, place-at}
 use Rattle.writer.proofs.SizeLaws.{sizes-long, sizes-next}
 use Rattle.writer.proofs.RowLaws.{roled-long, rowsBetween, between-length, nodes-skipped, rows-next, rows-none}
 
-pub shown : {text roles offsets values sizes : List ℕ} {types : ℕ} → Readable text roles offsets values sizes types → Shows text roles offsets values (itemsOf text roles offsets values)
+pub shown : {text roles offsets values sizes : List ℕ} {types : ℕ} → Readable text roles offsets values sizes types → Described text roles offsets values (itemsOf text roles offsets values)
 shown r = items-shown _ _ _ _ (r .offset-each) (r .value-each)
 
 -- the same words; and the file stays as long
@@ -228,21 +228,21 @@ module _
 -- a place and a size for each node
 pub nodes-few :
     {text roles offsets values sizes places : List ℕ} {types base : ℕ}
-    → Sized text roles offsets values sizes types base
+    → SizesKnown text roles offsets values sizes types base
     → places ≡ placesFrom nodes 0 roles
     → length places ≡ length sizes
 nodes-few {roles = roles} q e = places-count nodes roles e ∙ sym (ap length (q .sizes-are) ∙ sizes-long (items-roled (q .readable)))
 
 pub nodes-within :
     {text roles offsets values sizes : List ℕ} {types base : ℕ}
-    → Sized text roles offsets values sizes types base
+    → SizesKnown text roles offsets values sizes types base
     → (i : ℕ)
     → begunAmong nodes (take i roles) ≤ length sizes
 nodes-within {roles = roles} q i = omega (arith, ap length (q .sizes-are), sizes-long (items-roled (q .readable)), begun-split nodes roles i)
 
 -- the loop over nodes, of which node k begins at token p
 module _
-    {text roles offsets values sizes : List ℕ} {types base : ℕ} (q : Sized text roles offsets values sizes types base)
+    {text roles offsets values sizes : List ℕ} {types base : ℕ} (q : SizesKnown text roles offsets values sizes types base)
     {k p : ℕ} (z : Place nodes roles k p) where
   pub node-sizes : drop (k + 1) sizes ≡ sizesOf (drop (p + 1) (itemsOf text roles offsets values))
   node-sizes = ap (drop (k + 1)) (q .sizes-are) ∙ sizes-next (items-roled (q .readable)) z

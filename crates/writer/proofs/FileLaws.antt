@@ -18,7 +18,7 @@ use Rattle.row_words.proofs.TokenLaws.{items-shown}
 use Rattle.writer.specs.Written.{Appended}
 use Rattle.writer.specs.Records.{begunAmong, Stretch}
 use Rattle.writer.specs.declared.Counts.{Counts}
-use Rattle.writer.specs.Counted.{countIn, Within, Counted, Writable, Sized, Prepared, startAndBodies}
+use Rattle.writer.specs.Counted.{recordsIn, CountsFit, CountsRight, Writable, SizesKnown, Prepared, startAndBodies}
 use Rattle.writer.proofs.WrittenLaws.{length-written, written-more}
 use Rattle.writer.proofs.PlaceLaws.{begun-split, begun-all, places-count, index-part}
 use Rattle.writer.proofs.SizeLaws.{nested-sizes, sizes-long}
@@ -99,27 +99,27 @@ index-within nodes h = omega arith
 
 pub sized-less :
     {text roles offsets values sizes : List ℕ} {types base own : ℕ}
-    → Sized text roles offsets values sizes types base
+    → SizesKnown text roles offsets values sizes types base
     → own ≤ base
-    → Sized text roles offsets values sizes types own
+    → SizesKnown text roles offsets values sizes types own
 sized-less z h = record { readable = z .readable; sizes-are = z .sizes-are; few-nodes = omega (arith, z .few-nodes) }
 
-module _ {roles index : List ℕ} {c : Counts} (x : IndexIs roles index) (k : Counted roles c) (w : Within c) where
-  pub part-within : (s : Section) → indexOf s + countIn c s ≤ length index
+module _ {roles index : List ℕ} {c : Counts} (x : IndexIs roles index) (k : CountsRight roles c) (w : CountsFit c) where
+  pub part-within : (s : Section) → indexOf s + recordsIn c s ≤ length index
   part-within s = omega (arith, x .long, index-within s (w .within s))
 
-  pub part-places : (s : Section) → take (indexOf s + countIn c s - indexOf s) (drop (indexOf s) index) ≡ placesFrom s 0 roles
+  pub part-places : (s : Section) → take (indexOf s + recordsIn c s - indexOf s) (drop (indexOf s) index) ≡ placesFrom s 0 roles
   part-places s =
-      let e : indexOf s + countIn c s - indexOf s ≡ countIn c s = omega arith in index-part x s (k .counts-are s) (index-within s (w .within s)) e
+      let e : indexOf s + recordsIn c s - indexOf s ≡ recordsIn c s = omega arith in index-part x s (k .counts-are s) (index-within s (w .within s)) e
 
-  pub part-of : (s : Section) {first count : ℕ} → first ≡ indexOf s → count ≡ countIn c s → take (first + count - first) (drop first index) ≡ placesFrom s 0 roles
+  pub part-of : (s : Section) {first count : ℕ} → first ≡ indexOf s → count ≡ recordsIn c s → take (first + count - first) (drop first index) ≡ placesFrom s 0 roles
   part-of s a b = rw (a, b) (part-places s)
 
 module _ {text roles offsets values index sizes : List ℕ} {types : ℕ} {c : Counts} (q : Prepared text roles offsets values index sizes types c) where
-  pub section-places : (s : Section) → take (indexOf s + countIn c s - indexOf s) (drop (indexOf s) index) ≡ placesFrom s 0 roles
+  pub section-places : (s : Section) → take (indexOf s + recordsIn c s - indexOf s) (drop (indexOf s) index) ≡ placesFrom s 0 roles
   section-places = part-places (q .indexed) (q .counted) (q .few-records)
 
-  pub section-within : (s : Section) → indexOf s + countIn c s ≤ length index
+  pub section-within : (s : Section) → indexOf s + recordsIn c s ≤ length index
   section-within = part-within (q .indexed) (q .counted) (q .few-records)
 
   -- the start's nodes are at most all

@@ -24,7 +24,7 @@ use Rattle.row_words.proofs.TokenLaws.{items-shown}
 use Rattle.row_words.specs.Row.{rowOf}
 use Rattle.writer.specs.Records.{begunAmong, rowIf, rowsOf}
 use Rattle.writer.specs.declared.Counts.{Counts}
-use Rattle.writer.specs.Counted.{countIn, Counted, Within, Tokens, Writable, Prepared, FileIs, contentsOf, fileWords, allRows}
+use Rattle.writer.specs.Counted.{recordsIn, CountsRight, CountsFit, TokensStand, Writable, Prepared, FileIs, contentsBy, fileWords, allRows}
 use Rattle.writer.specs.Counted.{plainRows, recordRows, startAndBodies}
 use Rattle.writer.specs.Written.{written, Appended}
 use Rattle.writer.proofs.WrittenLaws.{written-more}
@@ -72,13 +72,13 @@ sections-are types start es =
     )
     (simp append-assoc)
 
-module _ {roles : List ℕ} {es : List Item} (e : Roled roles es) {c : Counts} (k : Counted roles c) (types : ℕ) where
-  all-length : (s : Section) (n : ℕ) → 2 * length (allRows s types n es) ≡ sizeOf s * countIn c s
+module _ {roles : List ℕ} {es : List Item} (e : Roled roles es) {c : Counts} (k : CountsRight roles c) (types : ℕ) where
+  all-length : (s : Section) (n : ℕ) → 2 * length (allRows s types n es) ≡ sizeOf s * recordsIn c s
   all-length s n =
       rows-length s types (length es) n es
       ∙ rw (e .roles-are, take-all (length es) roles (omega (arith, roled-long e)), ← k .counts-are s)
 
-  nodes-length : (start n : ℕ) → start ≤ length roles → 2 * length (startAndBodies types start n es) ≡ 8 * countIn c nodes
+  nodes-length : (start n : ℕ) → start ≤ length roles → 2 * length (startAndBodies types start n es) ≡ 8 * recordsIn c nodes
   unfolding begunAmong
   nodes-length start n h =
       let a : 2 * length (rowsBetween nodes types start (length es) 0 es) + 8 * begunAmong nodes (take start roles) ≡ 8 * begunAmong nodes (take (length es) roles) =
@@ -94,7 +94,7 @@ module _ {roles : List ℕ} {es : List Item} (e : Roled roles es) {c : Counts} (
         k .counts-are nodes,
       )
 
-  sections-fit : Within c → (start n : ℕ) → start ≤ length roles → 24 + 2 * length (recordRows types n es ++ startAndBodies types start n es) ≤ 13592
+  sections-fit : CountsFit c → (start n : ℕ) → start ≤ length roles → 24 + 2 * length (recordRows types n es ++ startAndBodies types start n es) ≤ 13592
   sections-fit w start n h =
       let a = allRows interfaces types 0 es in
       let b = allRows signatures types 0 es in
@@ -143,13 +143,13 @@ pub words-fit :
     → CONTENTS + 2 * length (sectionsWords (c .interfaces + c .classes) start (itemsOf text roles offsets values)) ≤ FILE
 words-fit {text} {roles} {offsets} {values} {start} {c} w =
     let es : List Item = itemsOf text roles offsets values in
-    let k : Tokens text roles offsets values start = w .tokens in
+    let k : TokensStand text roles offsets values start = w .tokens in
     let e : Roled roles es = items-shown text roles offsets values (k .offset-each) (k .value-each) .marks .roled in
     let types : ℕ = c .interfaces + c .classes in
     rw (← sections-are types start es) (sections-fit e (w .counted) types (w .few-records) start (nodeCount (drop start es)) (k .starts))
 
-pub contents-long : (c : Counts) → 2 * length (contentsOf c) ≡ CONTENTS
-unfolding contentsOf
+pub contents-long : (c : Counts) → 2 * length (contentsBy c) ≡ CONTENTS
+unfolding contentsBy
 contents-long c = refl
 
 pub whole-fits :
@@ -161,7 +161,7 @@ whole-fits {text} {roles} {offsets} {values} {start} {c} w =
       arith,
       words-fit w,
       contents-long c,
-      length-append (contentsOf c) (sectionsWords (c .interfaces + c .classes) start (itemsOf text roles offsets values)),
+      length-append (contentsBy c) (sectionsWords (c .interfaces + c .classes) start (itemsOf text roles offsets values)),
     )
 
 -- four words, three times

@@ -16,24 +16,24 @@ use Rattle.writer.specs.declared.Counts.{Counts}
 use Rattle.writer.specs.Records.{begunAmong, rowsOf}
 
 -- The count of a section.
-abbrev pub countIn : Counts → Section → ℕ
-countIn c interfaces = c .interfaces
-countIn c signatures = c .signatures
-countIn c classes = c .classes
-countIn c fields = c .fields
-countIn c methods = c .methods
-countIn c nodes = c .nodes
+abbrev pub recordsIn : Counts → Section → ℕ
+recordsIn c interfaces = c .interfaces
+recordsIn c signatures = c .signatures
+recordsIn c classes = c .classes
+recordsIn c fields = c .fields
+recordsIn c methods = c .methods
+recordsIn c nodes = c .nodes
 
 -- No section has too many records.
-pub record Within (c : Counts) : Type 0 where
-  pub within : (s : Section) → countIn c s ≤ mostOf s
+pub record CountsFit (c : Counts) : Type 0 where
+  pub within : (s : Section) → recordsIn c s ≤ mostOf s
 
 -- These are the counts of the records that begin at tokens with these roles.
-pub record Counted (roles : List ℕ) (c : Counts) : Type 0 where
-  pub counts-are : (s : Section) → countIn c s ≡ begunAmong s roles
+pub record CountsRight (roles : List ℕ) (c : Counts) : Type 0 where
+  pub counts-are : (s : Section) → recordsIn c s ≡ begunAmong s roles
 
--- Tokens of a text, each with an offset and a number; `start` of them come before the start.
-pub record Tokens (text roles offsets values : List ℕ) (start : ℕ) : Type 0 where
+-- TokensStand of a text, each with an offset and a number; `start` of them come before the start.
+pub record TokensStand (text roles offsets values : List ℕ) (start : ℕ) : Type 0 where
   pub small : Small values
   pub within-text : WithinText text offsets
   pub few-tokens : length roles ≤ TEXT
@@ -43,30 +43,30 @@ pub record Tokens (text roles offsets values : List ℕ) (start : ℕ) : Type 0 
 
 -- And their records are counted.
 pub record Writable (text roles offsets values : List ℕ) (start : ℕ) (c : Counts) : Type 0 where
-  pub tokens : Tokens text roles offsets values start
-  pub counted : Counted roles c
-  pub few-records : Within c
+  pub tokens : TokensStand text roles offsets values start
+  pub counted : CountsRight roles c
+  pub few-records : CountsFit c
 
 -- What is written of the text's tokens: they can be read, and `sizes` are those of all nodes; the first `base` numbers are the start's nodes'.
-pub record Sized (text roles offsets values sizes : List ℕ) (types base : ℕ) : Type 0 where
+pub record SizesKnown (text roles offsets values sizes : List ℕ) (types base : ℕ) : Type 0 where
   pub readable : Readable text roles offsets values sizes types
   pub sizes-are : sizes ≡ sizesOf (itemsOf text roles offsets values)
   pub few-nodes : base + 1 + 2 * length sizes < WORD
 
 -- And all records are indexed and counted. The start's nodes are at most all.
 pub record Prepared (text roles offsets values index sizes : List ℕ) (types : ℕ) (c : Counts) : Type 0 where
-  pub sized : Sized text roles offsets values sizes types (length sizes)
+  pub sized : SizesKnown text roles offsets values sizes types (length sizes)
   pub indexed : IndexIs roles index
-  pub counted : Counted roles c
-  pub few-records : Within c
+  pub counted : CountsRight roles c
+  pub few-records : CountsFit c
 
 -- The contents.
-unfoldable pub contentsOf : Counts → List ℕ
-contentsOf c = contentsWords (c .interfaces) (c .signatures) (c .classes) (c .fields) (c .methods) (c .nodes)
+unfoldable pub contentsBy : Counts → List ℕ
+contentsBy c = contentsWords (c .interfaces) (c .signatures) (c .classes) (c .fields) (c .methods) (c .nodes)
 
 -- The words of the file.
 abbrev pub fileWords : Counts → ℕ → List Item → List ℕ
-fileWords c start es = contentsOf c ++ sectionsWords (c .interfaces + c .classes) start es
+fileWords c start es = contentsBy c ++ sectionsWords (c .interfaces + c .classes) start es
 
 -- The records of a section among all items.
 abbrev pub allRows : Section → ℕ → ℕ → List Item → List ℕ

@@ -16,7 +16,7 @@ ghost use Rattle.row_words.specs.Items.{Readable, itemsOf};
 ghost use Rattle.row_words.specs.Row.{rowOf};
 ghost use Rattle.writer.specs.Written.{Appended};
 ghost use Rattle.writer.specs.Records.{Unnumbered, Stretch, begunAmong, rowsOf};
-ghost use Rattle.writer.specs.Counted.{Sized, allRows};
+ghost use Rattle.writer.specs.Counted.{SizesKnown, allRows};
 
 // Appends the record of a section that begins at token i, and answers where the file ends then. The next node is node n, and the sizes of the nodes behind it
 // stand from `from` on.
@@ -76,7 +76,7 @@ pub fn append_plain(
     file: &mut [u8],
     at: usize,
 ) -> usize
-    requires { ⌜ Sized (now text) (now roles) (now offsets) (now values) (now sizes) types 0 ⌝ }
+    requires { ⌜ SizesKnown (now text) (now roles) (now offsets) (now values) (now sizes) types 0 ⌝ }
     requires { ⌜ Unnumbered section × (now places ≡ placesFrom section 0 (now roles)) ⌝ }
     requires { ⌜ at + 2 * length (allRows section types 0 (itemsOf (now text) (now roles) (now offsets) (now values))) ≤ length (now file) ⌝ }
     ensures { λ r. ⌜
@@ -138,7 +138,7 @@ pub fn append_methods(
     file: &mut [u8],
     at: usize,
 ) -> usize
-    requires { ⌜ Sized (now text) (now roles) (now offsets) (now values) (now sizes) types base ⌝ }
+    requires { ⌜ SizesKnown (now text) (now roles) (now offsets) (now values) (now sizes) types base ⌝ }
     requires { ⌜ (now places ≡ placesFrom methods 0 (now roles)) × (now nodes ≡ placesFrom nodes-section 0 (now roles)) ⌝ }
     requires { ⌜ at + 2 * length (allRows methods types base (itemsOf (now text) (now roles) (now offsets) (now values))) ≤ length (now file) ⌝ }
     ensures { λ r. ⌜
@@ -187,7 +187,7 @@ pub fn append_nodes(
     file: &mut [u8],
     at: usize,
 ) -> usize
-    requires { ⌜ Sized (now text) (now roles) (now offsets) (now values) (now sizes) types base ⌝ }
+    requires { ⌜ SizesKnown (now text) (now roles) (now offsets) (now values) (now sizes) types base ⌝ }
     requires { ⌜ (now places ≡ placesFrom nodes-section 0 (now roles)) × (from ≤ to) × (to ≤ length (now places)) ⌝ }
     requires { ⌜ at + 8 * (to - from) ≤ length (now file) ⌝ }
     ensures { λ r. ⌜

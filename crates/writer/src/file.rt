@@ -23,7 +23,7 @@ ghost use Rattle.rows.specs.Rows.{contentsWords, sectionsWords};
 ghost use Rattle.row_words.specs.Items.{itemsOf};
 ghost use Rattle.writer.specs.Written.{written, Appended};
 ghost use Rattle.writer.specs.Records.{begunAmong, Unnumbered};
-ghost use Rattle.writer.specs.Counted.{Within, Writable, Sized, Prepared, FileIs, countIn, contentsOf, fileWords};
+ghost use Rattle.writer.specs.Counted.{CountsFit, Writable, SizesKnown, Prepared, FileIs, recordsIn, contentsBy, fileWords};
 ghost use Rattle.writer.specs.Counted.{allRows, plainRows, recordRows, startAndBodies};
 
 // Puts the contents: for each section where its body begins, and how many records it has.
@@ -70,7 +70,7 @@ fn index_of(section: Section) -> usize
 
 // How many records a section has.
 fn count_of(c: Counts, section: Section) -> usize
-    ensures { λ r. ⌜ r ≡ countIn c section ⌝ }
+    ensures { λ r. ⌜ r ≡ recordsIn c section ⌝ }
 {
     match section {
         Section::Interfaces => c.interfaces,
@@ -291,7 +291,7 @@ fn append_expressions(
     file: &mut [u8],
     at: usize,
 ) -> usize
-    requires { ⌜ Sized (now text) (now roles) (now offsets) (now values) (now sizes) types own ⌝ }
+    requires { ⌜ SizesKnown (now text) (now roles) (now offsets) (now values) (now sizes) types own ⌝ }
     requires { ⌜ (now places ≡ placesFrom nodes-section 0 (now roles)) × (own ≤ length (now places)) ⌝ }
     requires { ⌜ at + 8 * length (now places) ≤ length (now file) ⌝ }
     ensures { λ r. ⌜
@@ -383,8 +383,8 @@ fn append_sections(
 
 // Puts the contents of a file with so many records.
 fn put_counts(file: &mut [u8], c: Counts)
-    requires { ⌜ Within c × (CONTENTS ≤ length (now file)) ⌝ }
-    ensures { λ r. ⌜ now (file .exit) ≡ written (now (file .entry)) 0 (contentsOf c) ⌝ }
+    requires { ⌜ CountsFit c × (CONTENTS ≤ length (now file)) ⌝ }
+    ensures { λ r. ⌜ now (file .exit) ≡ written (now (file .entry)) 0 (contentsBy c) ⌝ }
 {
     let interfaces = c.interfaces as u16;
     let signatures = c.signatures as u16;

@@ -5,7 +5,7 @@ ghost use mathlib.Core.Path.{_≡_};
 ghost use mathlib.Core.List.{[], _∷_};
 ghost use Prim.Native.Nat.{_+_, _*_, _≤_};
 ghost use lib.ListN.{length};
-ghost use Rattle.row_words.specs.Row.{wordsOf};
+ghost use Rattle.row_words.specs.Row.{rowWords};
 ghost use Rattle.writer.specs.Written.{written, Appended};
 
 fn put_pair(file: &mut [u8], at: usize, a: u16, b: u16)
@@ -18,8 +18,8 @@ fn put_pair(file: &mut [u8], at: usize, a: u16, b: u16)
 
 // Puts a row at byte `at`, and answers where it ends.
 pub fn put_row(file: &mut [u8], at: usize, row: Row) -> usize
-    requires { ⌜ at + 2 * length (wordsOf row) ≤ length (now file) ⌝ }
-    ensures { λ r. ⌜ Appended (now (file .entry)) at (now (file .exit)) r (wordsOf row) ⌝ }
+    requires { ⌜ at + 2 * length (rowWords row) ≤ length (now file) ⌝ }
+    ensures { λ r. ⌜ Appended (now (file .entry)) at (now (file .exit)) r (rowWords row) ⌝ }
 {
     match row {
         Row::Two(a, b) => {

@@ -1,7 +1,7 @@
 use Rattle.flat.specs.Flat.{turnAt, pickTurn}
 use Rattle.tokens.specs.Runs.{byteRun}
 use Rattle.tokens.specs.Next.{lexemeOf}
-use Rattle.table.specs.Table.{closedTo, entries, entriesFrom}
+use Rattle.table.specs.Table.{closedTo, tableEntries, entriesFrom}
 use Rattle.table.proofs.TableLaws.{ruledTo, Ruled, ruled-none, ruled-more, ruled-all}
 use native.Mathlib.Omega.{arith}
 use mathlib.Core.Path.{_≡_, refl}
@@ -22,7 +22,7 @@ loop-again : tie.Need-loop-again Inv-loop μ-loop
 loop-again c = (omega arith, ruled-more _ _ _ _ _ refl (c .before .loop .inv .1))
 
 returns : tie.Need-returns Inv-loop μ-loop
-returns c = let e : c .before .loop .n ≡ 117 = omega arith in ruled-all _ _ _ _ _ (c .before .loop .inv .1) e (c .before .before .pre) (unfold ruledTo closedTo entries entriesFrom turnAt lexemeOf pickTurn byteRun in refl)
+returns c = let e : c .before .loop .n ≡ 117 = omega arith in ruled-all _ _ _ _ _ (c .before .loop .inv .1) e (c .before .before .pre) (unfold ruledTo closedTo tableEntries entriesFrom turnAt lexemeOf pickTurn byteRun in refl)
 
 pub put-rules-spec : {M : Type 1} → statement M
 put-rules-spec =

@@ -48,12 +48,8 @@ use Rattle.sections.proofs.node_word.Reads as node-word-reads
 use Rattle.inference.proofs.expressions.given_fits.Reads as given-fits-reads
 use Rattle.members.proofs.method_of.Reads as method-of-reads
 use Rattle.subtypes.proofs.int_of.Reads as int-of-reads
-use Rattle.inference.proofs.expressions.+check+check_part+infer+infer_call+infer_cast+infer_fork+infer_let+infer_lock+infer_update.{
-  statement,
-}
-use Rattle.inference.proofs.expressions.+check+check_part+infer+infer_call+infer_cast+infer_fork+infer_let+infer_lock+infer_update.Tie.{
-  close,
-}
+use Rattle.inference.proofs.expressions.+check+check_part+infer+infer_call+infer_cast+infer_fork+infer_let+infer_lock+infer_update.{statement}
+use Rattle.inference.proofs.expressions.+check+check_part+infer+infer_call+infer_cast+infer_fork+infer_let+infer_lock+infer_update.Tie.{close}
 
 abbrev μ-check : Measures 4 check-kinds.ps ℕ
 μ-check κs a = 4 * (countOf (a .0 .now) nodes - a .1 .1 .1 .1 .0) + 2

@@ -9,7 +9,7 @@ use lib.Dec.{ltb}
 use lib.ListN.{length, getD, drop}
 use Rattle.grammar.specs.Tokens.{sameSpelling, wordByteTest}
 use Rattle.tokens.specs.Kinds.{byteKinds}
-use Rattle.tokens.specs.Next.{NAME}
+use Rattle.tokens.specs.Next.{K-NAME}
 use Rattle.tokens.specs.Runs.{wordFrom}
 use Rattle.tokens.proofs.RunLaws.{run-on, run-stops, run-ends}
 use Rattle.tokens.proofs.KindLaws.{word-in, word-out}
@@ -21,11 +21,11 @@ ends-there :
     → kinds ≡ byteKinds
     → getD text at 0 < 256
     → at < length text
-    → ltb (getD kinds (getD text at 0) 0) NAME ≡ sameSpelling (wordFrom (drop at text)) []
+    → ltb (getD kinds (getD text at 0) 0) K-NAME ≡ sameSpelling (wordFrom (drop at text)) []
 unfolding sameSpelling
-ends-there kinds text at t b h = go (ltb (getD kinds (getD text at 0) 0) NAME) refl
+ends-there kinds text at t b h = go (ltb (getD kinds (getD text at 0) 0) K-NAME) refl
   where
-    go : (q : Bool) → ltb (getD kinds (getD text at 0) 0) NAME ≡ q → q ≡ sameSpelling (wordFrom (drop at text)) []
+    go : (q : Bool) → ltb (getD kinds (getD text at 0) 0) K-NAME ≡ q → q ≡ sameSpelling (wordFrom (drop at text)) []
     go true e = rw (run-stops wordByteTest text at h (word-out kinds _ t b (ltb-true _ _ e))) refl
     go false e = rw (run-on wordByteTest text at h (word-in kinds _ t b (ltb-false _ _ e))) refl
 

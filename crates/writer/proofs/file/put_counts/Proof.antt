@@ -1,7 +1,7 @@
 use native.Mathlib.Omega.{arith}
 use Rattle.script.specs.declared.Section.the-variants.{Interfaces as interfaces, Signatures as signatures, Classes as classes}
 use Rattle.script.specs.declared.Section.the-variants.{Fields as fields, Methods as methods, Nodes as nodes}
-use Rattle.writer.specs.Counted.{contentsOf}
+use Rattle.writer.specs.Counted.{contentsBy}
 use borrow.Author.Needs.{needs}
 use Rattle.writer.proofs.file.put_counts.Statement.{statement}
 use Rattle.writer.proofs.file.put_counts.Tie as tie
@@ -28,7 +28,7 @@ put-contents-requires : tie.Need-put-contents-requires
 put-contents-requires c κs = let w = c .before .before .before .before .before .before .before .before .pre .0 .within in ((w interfaces, w signatures, w classes, w fields, w methods), c .before .before .before .before .before .before .before .before .pre .1)
 
 returns : tie.Need-returns
-unfolding contentsOf
+unfolding contentsBy
 returns c = c .before .before .put-contents .ensures
 
 pub put-counts-spec : {M : Type 1} → statement M

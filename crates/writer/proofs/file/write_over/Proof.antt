@@ -7,7 +7,7 @@ use Rattle.script.specs.declared.Section.the-variants.{Interfaces as interfaces
 use Rattle.rows.specs.Rows.{sectionsWords}
 use Rattle.row_words.specs.Items.{itemsOf}
 use Rattle.writer.specs.Written.{Appended}
-use Rattle.writer.specs.Counted.{contentsOf}
+use Rattle.writer.specs.Counted.{contentsBy}
 use Rattle.writer.proofs.FileLaws.{appended-both}
 use Rattle.writer.proofs.SectionLaws.{words-fit, whole-fits, contents-long}
 use borrow.Author.Needs.{needs}
@@ -34,9 +34,9 @@ returns c =
     let w = s .pre .0 in
     let v = sectionsWords (a .c .interfaces + a .c .classes) (a .start) (itemsOf (a .text .now) (a .roles .now) (a .offsets .now) (a .values .now)) in
     let l = contents-long (a .c) in
-    let h : 0 + 2 * length (contentsOf (a .c) ++ v) ≤ length (a .file .now) = omega (arith, whole-fits w, s .pre .2) in
-    let p : Appended (a .file .now) 0 _ CONTENTS (contentsOf (a .c)) = record { file-is = c .before .before .before .before .before .before .before .put-counts .ensures; end-is = omega (arith, l) } in
-    appended-both (a .file .now) 0 (contentsOf (a .c)) v h p (c .before .before .write-sections .ensures)
+    let h : 0 + 2 * length (contentsBy (a .c) ++ v) ≤ length (a .file .now) = omega (arith, whole-fits w, s .pre .2) in
+    let p : Appended (a .file .now) 0 _ CONTENTS (contentsBy (a .c)) = record { file-is = c .before .before .before .before .before .before .before .put-counts .ensures; end-is = omega (arith, l) } in
+    appended-both (a .file .now) 0 (contentsBy (a .c)) v h p (c .before .before .write-sections .ensures)
 
 pub write-over-spec : {M : Type 1} → statement M
 write-over-spec =
