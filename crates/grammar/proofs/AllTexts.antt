@@ -63,7 +63,7 @@ Computes x =
 texts : Every (λ x. Computes x) textExamples
 unfolding bytes lowWord highWord sections fileOf fixedWords fixedSigns sameSpelling fixedOr decimalFrom once spelled spelledMsig spelledAll spelledId spelledFd spelledMd spelledCd spelledText closes choose parse roles rolesAll rolesId rolesMd rolesCd rolesBefore rolesText namesWith withoutName distinct rankIn nodesIn nodeWords wordsAll sumAll mdsWords bodiesWords joined sectionBodies contentsFrom fileText markedBy firstFault declaredAmong declarationFault begunIn tooManyTest limitFault tokenPlace quotedFrom interfacesFrom textExamples
 texts =
-    ((refl, λ b. refl), ((refl, λ b. refl), ((refl, λ b. refl), ((refl, λ b. refl), ((refl, λ b. refl), ((refl, λ b. refl), ((refl, λ b. refl), ((refl, λ b. refl), ((refl, λ b. refl), ((refl, λ b. refl), ((refl, λ b. refl), ((refl, λ b. refl), ((refl, λ b. refl), ((refl, λ b. refl), ((refl, λ b. refl), ((refl, λ b. refl), ((refl, λ b. refl), ((refl, λ b. refl), ((refl, λ b. refl), ((refl, λ b. refl), ((refl, λ b. refl), ((refl, λ b. refl), ((refl, λ b. refl), ((refl, λ b. refl), ((refl, λ b. refl), ((refl, λ b. refl), ((refl, λ b. refl), ((refl, λ b. refl), ((refl, λ b. refl), tt)))))))))))))))))))))))))))))
+    ((refl, λ b. refl), ((refl, λ b. refl), ((refl, λ b. refl), ((refl, λ b. refl), ((refl, λ b. refl), ((refl, λ b. refl), ((refl, λ b. refl), ((refl, λ b. refl), ((refl, λ b. refl), ((refl, λ b. refl), ((refl, λ b. refl), ((refl, λ b. refl), ((refl, λ b. refl), ((refl, λ b. refl), ((refl, λ b. refl), ((refl, λ b. refl), ((refl, λ b. refl), ((refl, λ b. refl), ((refl, λ b. refl), ((refl, λ b. refl), ((refl, λ b. refl), ((refl, λ b. refl), ((refl, λ b. refl), ((refl, λ b. refl), ((refl, λ b. refl), ((refl, λ b. refl), ((refl, λ b. refl), ((refl, λ b. refl), ((refl, λ b. refl), ((refl, λ b. refl), tt))))))))))))))))))))))))))))))
 
 holds : (x : TextExample) → Computes x → TextHolds x
 unfolding readOf

@@ -1,9 +1,4 @@
 pub mod AllTexts
 pub mod Splitting
 pub mod Fixed
-pub mod Written
 pub mod Ways
-pub mod Said
-pub mod Walks
-pub mod Completed
-pub mod Place

@@ -59,6 +59,8 @@ textExamples =
     isRefused NO-GRAMMAR 1 (quoted "x#") ∷
     isRefused NO-GRAMMAR 5 (quoted "x.m(x}") ∷
     isRefused NO-GRAMMAR 0 [] ∷
+    -- P ::= Ids Cds e: no interface stands behind a class
+    isRefused NO-GRAMMAR 22 (quoted "class C implements C{}interface I{}1") ∷
     isRefused NO-GRAMMAR 4 (quoted "(x) ") ∷
     -- "decimal integers with an optional minus": the least, the greatest, and 0
     isRead (quoted "-2147483648") (startFile (10 ∷ 0 ∷ 32768 ∷ 0 ∷ [])) ∷

@@ -13,7 +13,7 @@ use Rattle.grammar.specs.Grammar.{X, x-this, x-name, T, t-unit, t-int, t-name, 
 use Rattle.grammar.specs.Grammar.{e-fork, e-lock, e-digits, e-minus, e-sum, e-sum-in, Msig, Id, id-list, id-join, Fd, Md, Cd, Derivation}
 use Rattle.grammar.specs.Grammar.{variableToken, typeToken, spelled, spelledMsig, spelledAll, spelledId, spelledFd, spelledMd, spelledCd, spelledText}
 use Rattle.grammar.specs.Files.{negated, joined}
-use Rattle.grammar.proofs.Written.{every-append}
+use Rattle.parsing.proofs.Written.{every-append}
 use Rattle.tokens.specs.Runs.{digitsFrom, BEYOND, capped}
 use Rattle.spelt.specs.Spelt.{digitsIn, Spelt}
 use Rattle.capacity.specs.Extent.{Ranged, WithinLimits}

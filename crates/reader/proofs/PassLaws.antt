@@ -12,8 +12,8 @@ use Rattle.grammar.specs.Grammar.{Derivation, spelledText}
 use Rattle.grammar.specs.Roles.{roles as exprRoles, rolesText, rolesBefore}
 use Rattle.grammar.specs.Read.{TextRead, textRefused, tokenPlace}
 use Rattle.grammar.proofs.Splitting.{splits}
-use Rattle.grammar.proofs.Written.{splits-written}
-use Rattle.grammar.proofs.Place.{parsed-derived}
+use Rattle.parsing.proofs.Written.{splits-written}
+use Rattle.parsing.proofs.Place.{parsed-derived}
 use Rattle.numbering.specs.Numbers.{TokenArrays}
 use Rattle.bounds.proofs.Text.{placed-text}
 use Rattle.bounds.specs.Counting.{TokensLie}

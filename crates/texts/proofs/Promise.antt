@@ -18,8 +18,8 @@ use Rattle.grammar.specs.Parse.{Verdict, refused-at, derived, parsed}
 use Rattle.grammar.specs.Files.{sectionBodies, fileText}
 use Rattle.grammar.specs.Faults.{markedText, declarationFault, limitFault}
 use Rattle.grammar.proofs.Splitting.{splits, splits-once}
-use Rattle.grammar.proofs.Written.{Written, splits-written}
-use Rattle.grammar.proofs.Place.{derived-parsed, one-derivation, parsed-derived, refused-place, misfit-refused, refused-underived}
+use Rattle.parsing.proofs.Written.{Written, splits-written}
+use Rattle.parsing.proofs.Place.{derived-parsed, one-derivation, parsed-derived, refused-place, misfit-refused, refused-underived}
 use Rattle.capacity.proofs.Within.{within-limits}
 use Rattle.grammar.specs.Read.{TextRead, NO-DECLARATION, NO-ROOM, textRefused, fileRead, askedLimits, askedDeclarations, askedGrammar, askedLengths, readOf}
 use Rattle.texts.specs.Answers.{InLength, lexemes, ReadAnswers, by-lengths, by-grammar, by-declaration, by-limit, was-read, Legal, FileStands, ReadPromise}

@@ -7,13 +7,13 @@ use native.Mathlib.Omega.{arith}
 use native.Mathlib.Decide.{decLt}
 use lib.ListN.{length, take, drop, length-append, take-append-drop}
 use lib.Seq.{take-append-seam, take-append-add, take-take}
 use Rattle.grammar.specs.Tokens.{Lexeme, fixed, TEXT-END}
 use Rattle.grammar.specs.Grammar.{Derivation, spelledText, spelledAll, Viable, FirstMisfit}
 use Rattle.grammar.specs.Parse.{State, at-top, Shifted, stuck, goes, accepts, isFixed, shift, Verdict, refused-at, derived, afterShift, parse, parsed}
-use Rattle.grammar.proofs.Said.{saying, sayingAround, Says, shift-says}
-use Rattle.grammar.proofs.Walks.{after, run, reads}
-use Rattle.grammar.proofs.Completed.{completed}
-use Rattle.grammar.proofs.Written.{Spellable, Written, not-end, text-of, every-append}
+use Rattle.parsing.proofs.Said.{saying, sayingAround, Says, shift-says}
+use Rattle.parsing.proofs.Walks.{after, run, reads}
+use Rattle.parsing.proofs.Completed.{completed}
+use Rattle.parsing.proofs.Written.{Spellable, Written, not-end, text-of, every-append}
 
 -- A run that is stuck or has accepted stays so.
 run-stuck : (ts : List Lexeme) → run stuck ts ≡ stuck

@@ -4,21 +4,21 @@ use mathlib.Core.Path.{_≡_, ap, _∙_}
 use mathlib.Core.List.{List, [], _∷_, _++_, append-assoc, append-nil}
 use lib.ListN.{drop}
 use Rattle.script.specs.Questions.{allOf}
 use Rattle.grammar.specs.Tokens.{Spelling, Lexeme, fixed, W-IN, W-ASYNC, W-NULL, W-UNIT, S-BRACE, S-UNBRACE, S-CLOSE, S-COLON, S-SEMICOLON}
 use Rattle.grammar.specs.Tokens.{fixedWords, fixedSigns, fixedOr, sameSpelling}
 use Rattle.grammar.specs.Grammar.{x-this, T, t-unit, t-name, Msig, spelledMsig, spelledAll, Id, id-list, id-join, spelledId, spelledFd, Md}
 use Rattle.grammar.specs.Grammar.{spelledMd, Cd, spelledCd, Derivation, spelledText, E, e-null, e-variable, e-select, e-update, e-call, e-let, e-new}
 use Rattle.grammar.specs.Grammar.{e-cast, e-fork, e-lock, e-minus, e-sum, e-sum-in, spelled}
 use Rattle.grammar.specs.Parse.{Heading, Around, around-start, in-body, around-let, argument, first-async, second-async, in-update, in-let, in-cast}
 use Rattle.grammar.specs.Parse.{in-fork, in-lock, Owner, of-interface, of-class, State, at-top, at-top-c, at-iface-name, at-iface-body, at-sigs}
 use Rattle.grammar.specs.Parse.{at-ext-1, at-ext-comma, at-ext-2, at-sig-open, at-sig-param, at-sig-colon, at-sig-type, at-sig-close, at-sig-colon2}
 use Rattle.grammar.specs.Parse.{at-sig-result, at-class-name, at-class-impl, at-class-type, at-class-open, at-fields, at-field-colon, at-field-type}
 use Rattle.grammar.specs.Parse.{at-methods, at-def-name, at-def-brace, at-expr, at-ended, at-variable, at-dot, at-plus, at-member, at-paren}
 use Rattle.grammar.specs.Parse.{at-paren-plus, at-inside, at-cast-close, at-plus-in, at-sum-close, at-let-name, at-let-eq, at-new-name, at-minus}
 use Rattle.grammar.specs.Parse.{at-fork-brace, at-fork-async, at-fork-open, at-second-async, at-second-open, at-second-shut, at-fork-semi}
 use Rattle.grammar.specs.Parse.{at-lock-open, at-lock-var, at-lock-close, at-lock-in, signed, fieldAdded, classOf}
-use Rattle.grammar.proofs.Said.{saying, sayingAround, sayingOwner, one-more, signed-says}
-use Rattle.grammar.proofs.Written.{Spellable, Written, every-append, lettersOf, spellable, someName, someDigits}
+use Rattle.parsing.proofs.Said.{saying, sayingAround, sayingOwner, one-more, signed-says}
+use Rattle.parsing.proofs.Written.{Spellable, Written, every-append, lettersOf, spellable, someName, someDigits}
 
 -- Tokens that make a text of what a state has read.
 pub record Completed (s : State) : Type 0 where

@@ -1,0 +1,5 @@
+pub mod Written
+pub mod Said
+pub mod Walks
+pub mod Completed
+pub mod Place
