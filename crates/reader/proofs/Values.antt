@@ -10,9 +10,8 @@ use Rattle.grammar.specs.Tokens.{Lexeme}
 use Rattle.grammar.specs.Files.{Numbering, spellingOf, rankIn, methodRole, fieldRole, otherRole, declaredRole}
 use Rattle.grammar.specs.Roles.{R-TYPE}
 use Rattle.rows.specs.Zipped.{valueBy, itemsBy}
-use Rattle.numbering.specs.declared.Sort.the-variants.{Methods, Fields, Variables}
-use Rattle.numbering.specs.Numbers.{roleTest, numbered, chosenNumber}
-use Rattle.reader.specs.Numbers.{sortNumbered}
+use Rattle.numbering.specs.Numbers.{numbered, chosenNumber}
+use Rattle.reader.specs.Numbers.{SortNumbered, sortNumbered}
 use Rattle.declarations.specs.Declaring.{typeNamed}
 
 -- One token after the other sorts of names.
@@ -50,14 +49,17 @@ values-numbered k (r ∷ rs) (l ∷ ls) rest h =
     )
     refl
 
--- Three sorts, one after another.
-pub three-sorts :
-    (text roles offsets : List ℕ) (n : ℕ) (v₀ v₁ v₂ v₃ : List ℕ)
-    → v₁ ≡ sortNumbered (roleTest Methods) text roles offsets n v₀
-    → v₂ ≡ sortNumbered (roleTest Fields) text roles offsets n v₁
-    → v₃ ≡ sortNumbered (roleTest Variables) text roles offsets n v₂
-    → v₃
-    ≡ sortNumbered (roleTest Variables) text roles offsets n
-    (sortNumbered (roleTest Fields) text roles offsets n (sortNumbered (roleTest Methods) text roles offsets n v₀))
-three-sorts text roles offsets n v₀ v₁ v₂ v₃ a b c =
-    c ∙ ap (sortNumbered (roleTest Variables) text roles offsets n) (b ∙ ap (sortNumbered (roleTest Fields) text roles offsets n) a)
+-- A sort more, behind those that are numbered.
+pub sorts-on :
+    (test : ℕ → Bool) (text roles offsets : List ℕ) (n : ℕ) (v f l h due v₁ f₁ l₁ h₁ v₂ f₂ l₂ h₂ : List ℕ)
+    → SortNumbered text roles offsets n v f l h due v₁ f₁ l₁ h₁
+    → SortNumbered text roles offsets n v₁ f₁ l₁ h₁ (sortNumbered test text roles offsets n v₁) v₂ f₂ l₂ h₂
+    → SortNumbered text roles offsets n v f l h (sortNumbered test text roles offsets n due) v₂ f₂ l₂ h₂
+sorts-on test text roles offsets n v f l h due v₁ f₁ l₁ h₁ v₂ f₂ l₂ h₂ a b =
+    record {
+      values-are = b .values-are ∙ ap (sortNumbered test text roles offsets n) (a .values-are);
+      values-long = b .values-long ∙ a .values-long;
+      firsts-long = b .firsts-long ∙ a .firsts-long;
+      links-long = b .links-long ∙ a .links-long;
+      heads-long = b .heads-long ∙ a .heads-long;
+    }

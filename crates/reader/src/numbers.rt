@@ -63,8 +63,8 @@ fn number_sort(
     );
 }
 
-// Numbers the names of methods, of fields and of variables.
-pub fn number_rest(
+// Numbers the names of methods and of fields.
+fn number_members(
     kinds: &[u8; 256],
     text: &[u8],
     roles: &[u8],
@@ -80,10 +80,11 @@ pub fn number_rest(
     requires { ⌜ TokenArrays (now text) (now roles) (now offsets) (now values) (now firsts) (now links) n × (length (now heads) ≡ HASHES) ⌝ }
     requires { ⌜ ChainsAre (now roles) n (now chain) f × (now kinds ≡ byteKinds) ⌝ }
     ensures { λ r. ⌜
-        now (values .exit)
-        ≡ sortNumbered (roleTest Variables) (now (text .entry)) (now (roles .entry)) (now (offsets .entry)) n
+        SortNumbered (now (text .entry)) (now (roles .entry)) (now (offsets .entry)) n
+        (now (values .entry)) (now (firsts .entry)) (now (links .entry)) (now (heads .entry))
         (sortNumbered (roleTest Fields) (now (text .entry)) (now (roles .entry)) (now (offsets .entry)) n
         (sortNumbered (roleTest Methods) (now (text .entry)) (now (roles .entry)) (now (offsets .entry)) n (now (values .entry))))
+        (now (values .exit)) (now (firsts .exit)) (now (links .exit)) (now (heads .exit))
         ⌝ }
 {
     number_sort(
@@ -109,6 +110,44 @@ pub fn number_rest(
         chain,
         f.fields,
         Sort::Fields,
+        values,
+        firsts,
+        links,
+        heads,
+    );
+}
+
+// Numbers the names of methods, of fields and of variables.
+pub fn number_rest(
+    kinds: &[u8; 256],
+    text: &[u8],
+    roles: &[u8],
+    offsets: &[u16],
+    n: usize,
+    chain: &[u16],
+    f: Firsts,
+    values: &mut [u16],
+    firsts: &mut [u16],
+    links: &mut [u16],
+    heads: &mut [u32],
+)
+    requires { ⌜ TokenArrays (now text) (now roles) (now offsets) (now values) (now firsts) (now links) n × (length (now heads) ≡ HASHES) ⌝ }
+    requires { ⌜ ChainsAre (now roles) n (now chain) f × (now kinds ≡ byteKinds) ⌝ }
+    ensures { λ r. ⌜
+        now (values .exit)
+        ≡ sortNumbered (roleTest Variables) (now (text .entry)) (now (roles .entry)) (now (offsets .entry)) n
+        (sortNumbered (roleTest Fields) (now (text .entry)) (now (roles .entry)) (now (offsets .entry)) n
+        (sortNumbered (roleTest Methods) (now (text .entry)) (now (roles .entry)) (now (offsets .entry)) n (now (values .entry))))
+        ⌝ }
+{
+    number_members(
+        kinds,
+        text,
+        roles,
+        offsets,
+        n,
+        chain,
+        f,
         values,
         firsts,
         links,

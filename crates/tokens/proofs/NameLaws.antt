@@ -54,9 +54,9 @@ module _ (text : List ℕ) (i j : ℕ) (inside : i < length text) (word : Word t
   unfolding sameSpelling
   same-on e = rw (run-on wordByteTest text i inside (ap wordByteTest e ∙ word .byte), word .goes, eq-eqb (getD text i 0) (getD text j 0) e) refl
 
-pub none-left : (w : Spelling) → length w ≡ 0 → w ≡ []
-none-left [] e = refl
-none-left (b ∷ w) e = absurd (omega arith)
+pub no-bytes : (w : Spelling) → length w ≡ 0 → w ≡ []
+no-bytes [] e = refl
+no-bytes (b ∷ w) e = absurd (omega arith)
 
 -- A hash and a value go on with the next byte.
 pub hash-on :

@@ -34,7 +34,7 @@ fn skip_last(kinds: &[u8; 256], text: &[u8], at: usize) -> usize
     i
 }
 
-// The same, four bytes a turn while so many are left: where the compiler puts a loop of one byte, that can take twice as long.
+// The same, four bytes a turn while so many are left: a loop of one byte a turn has taken twice as long in some builds.
 fn skip_blanks(kinds: &[u8; 256], text: &[u8], at: usize) -> usize
     requires { ⌜ (now kinds ≡ byteKinds) × (at ≤ length (now text)) ⌝ }
     ensures { λ r. ⌜ Skipped (now (text .entry)) at r ⌝ }

@@ -6,7 +6,7 @@ use lib.ListN.{length, drop}
 use Rattle.grammar.specs.Tokens.{sameSpelling, wordByteTest}
 use Rattle.tokens.specs.Runs.{wordFrom}
 use Rattle.tokens.proofs.RunLaws.{run-length}
-use Rattle.tokens.proofs.NameLaws.{Word, word-there, sizes-differ, same-not, same-on, none-left}
+use Rattle.tokens.proofs.NameLaws.{Word, word-there, sizes-differ, same-not, same-on, no-bytes}
 use Rattle.tokens.proofs.names.is_name.Statement.{statement}
 use Rattle.tokens.proofs.names.is_name.Tie as tie
 
@@ -49,7 +49,7 @@ returns-3 c =
     let loop = c .before .before .loop in
     let text = c .before .before .before .before .before .args .text .now in
     let e : loop .i ≡ c .before .before .before .before .before .args .a + c .before .before .before .before .before .args .size = omega (arith, loop .inv .0, c .before .loop-test .left) in
-    c .word-ends .ensures ∙ sym (loop .inv .4 ∙ rw (e, none-left (wordFrom (drop (loop .j) text)) (omega (arith, loop .inv .3))) refl)
+    c .word-ends .ensures ∙ sym (loop .inv .4 ∙ rw (e, no-bytes (wordFrom (drop (loop .j) text)) (omega (arith, loop .inv .3))) refl)
 
 pub is-name-spec : {M : Type 1} → statement M
 is-name-spec =
