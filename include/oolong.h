@@ -30,8 +30,9 @@
  * The block. A run's whole state is in the 65,536 bytes of the block, which is yours; BLOCK.md says what each byte means. A state has exactly one block: two runs of a script are in the
  * same state just where memcmp of their blocks is 0. All numbers in it stand low byte first on every machine. Between calls you may keep a block as long as you like, move it, save it to a
  * file and load it again, copy it to come back to that state later, and run the copies on in different ways. Lend it with the script that it was started with. You may also lend a block
- * that was changed, damaged or made by hand: if it is no well-formed state of the script the call is refused with OOLONG_NO_BLOCK_FORM, and if it is one, the run goes on from there.
- * A block that was written by a library of major version 1 (layout 1, 49,152 bytes) is refused with OOLONG_NO_BLOCK_LENGTH: let the old library end its runs, or start them anew.
+ * that was changed, damaged or made by hand: if it is one of the well-formed states of the script, the run goes on from there, and else the call is refused with the number of the first part that
+ * is bad: OOLONG_NO_BLOCK_OBJECTS, OOLONG_NO_BLOCK_BINDINGS or OOLONG_NO_BLOCK_THREADS. OOLONG_IS_BLOCK_FAULT asks for any of the three.
+ * A block of major version 2 is as good as before; one that was written by a library of major version 1 (layout 1, 49,152 bytes) is refused with OOLONG_NO_BLOCK_LENGTH: let the old library end its runs, or start them anew.
  *
  * Stack. The calls that are lent a script go as deep as its expressions are nested: OOLONG_STACK_FOR says what a thread needs that makes them. oolong_read needs the same for every nesting, and
  * more of it: OOLONG_READ_STACK.
@@ -50,9 +51,9 @@ extern "C" {
 #endif
 
 /* The major version changes where a call, a reply, a number's meaning or the block's layout does; the minor where something is added; the patch where neither does. */
-#define OOLONG_VERSION_MAJOR 2
-#define OOLONG_VERSION_MINOR 1
-#define OOLONG_VERSION_PATCH 1
+#define OOLONG_VERSION_MAJOR 3
+#define OOLONG_VERSION_MINOR 0
+#define OOLONG_VERSION_PATCH 0
 #define OOLONG_VERSION (OOLONG_VERSION_MAJOR * 10000 + OOLONG_VERSION_MINOR * 100 + OOLONG_VERSION_PATCH)
 
 /* The number of the block's layout: it changes where a byte of the block changes its meaning. A block that you keep in a file is best kept with this number. */
@@ -88,7 +89,7 @@ extern "C" {
 #define OOLONG_THREADS_MOST 32u      /* threads at one time; with the joins between them at most 63 tree positions */
 
 /* Why a call is refused: the first question, in this order, that gets a no. oolong_check asks those to 15, oolong_start these and OOLONG_NO_BLOCK_LENGTH, oolong_offer and oolong_run
- * all down to OOLONG_NO_BLOCK_FORM; oolong_read asks the last three and no others. */
+ * all down to OOLONG_NO_BLOCK_THREADS; oolong_read asks the last three and no others. */
 enum oolong_number {
     OOLONG_OK = 0,
     OOLONG_NO_LENGTH = 1,      /* the file is not 24 to 13,592 bytes; place 0 */
@@ -107,15 +108,35 @@ enum oolong_number {
     OOLONG_NO_FIT = 14,        /* an inferred type is not below the wanted one (place: the node that does not fit: an operand, an argument, a value to write or a method's body; of a let, a lock or a fork the innermost last part),
                                   a null stands where Int is wanted (place: the null), or a variable of a sum is not of type Int (place: the sum) */
     OOLONG_NO_SHARING = 15,    /* the two asyncs of a fork share a variable (place: the fork) */
-    OOLONG_NO_BLOCK_LENGTH = 20,  /* the block is not 65,536 bytes, as one of layout 1 is not; place 0 */
-    OOLONG_NO_BUFFER_LENGTH = 22, /* there are more than 4,096 choices (oolong_run), or the flags are not 63 bytes (oolong_offer); place 0. Asked before 21 */
-    OOLONG_NO_BLOCK_FORM = 21,    /* the block is no well-formed state of this script; place 0 */
+    OOLONG_NO_BLOCK_LENGTH = 20,   /* the block is not 65,536 bytes, as one of layout 1 is not; place 0 */
+    OOLONG_NO_BUFFER_LENGTH = 22,  /* there are more than 4,096 choices (oolong_run), or the flags are not 63 bytes (oolong_offer); place 0. Asked before 21 */
+    OOLONG_NO_BLOCK_OBJECTS = 21,  /* the block's objects are bad: there are more than 256, a class is no class of this script, a lock word is neither 0 nor 1, a field's value is none, names no
+                                      object that is there or does not fit the field's type, or an unused byte of their area is not 0; place 0 */
+    OOLONG_NO_BLOCK_BINDINGS = 26, /* the objects are sound, and the variable bindings are bad: there are more than 2,048, a type is no type of this script, a value is none, names no object that
+                                      is there or does not fit the type, a link does not run to an earlier binding, or an unused byte of their area is not 0; place 0 */
+    OOLONG_NO_BLOCK_THREADS = 27,  /* objects and bindings are sound, and the rest is bad: the frames, the tree of threads, which objects are shut, or an unused byte of no other area; place 0 */
     OOLONG_NO_GRAMMAR = 34,     /* the token at the place fits nothing that can be typed behind what stands before it; where the text ends too soon, the place is its length */
     OOLONG_NO_DECLARATION = 35, /* a type has a name that the text declares nowhere, or a name is declared again, as an interface or a class (place: the first such name) */
     OOLONG_NO_ROOM = 36         /* the text is above 65,536 bytes or the buffer is not 13,592 (both asked before 34; place 0), or there are more interfaces, signatures, classes, fields, methods
                                    or nodes than a file may have (place: the first token of the first one too many), or an integer is below -2,147,483,648 or above 2,147,483,647
                                    (place: its first token, which is its minus if it has one): the lowest of these places */
 };
+
+/* Up to version 2 this was the number of every block that is no well-formed state of the script. Now it is that of bad objects only, and compilers that can warn of its use: a program that wants
+ * to know whether a save is damaged asks OOLONG_IS_BLOCK_FAULT instead. */
+#if defined(__clang__) || __GNUC__ >= 6
+#define OOLONG_OLD_NAME(text) __attribute__((__deprecated__(text)))
+#else
+#define OOLONG_OLD_NAME(text)
+#endif
+enum { OOLONG_NO_BLOCK_FORM OOLONG_OLD_NAME("it means objects only; OOLONG_IS_BLOCK_FAULT is true for every bad block") = OOLONG_NO_BLOCK_OBJECTS };
+
+/* 1 if a call was refused with this number because its block is no well-formed state of the script, whichever part is bad, and else 0. The number is evaluated once. */
+#define OOLONG_IS_BLOCK_FAULT(number) oolong_is_block_fault(number)
+
+static __inline__ int oolong_is_block_fault(unsigned number) {
+    return number == OOLONG_NO_BLOCK_OBJECTS || number == OOLONG_NO_BLOCK_BINDINGS || number == OOLONG_NO_BLOCK_THREADS;
+}
 
 /* Why oolong_run came back. */
 enum oolong_stop {
@@ -233,8 +254,10 @@ static __inline__ const char *oolong_number_text(unsigned number) {
     case OOLONG_NO_FIT: return "a type does not fit the wanted one, or a null stands where a number is wanted";
     case OOLONG_NO_SHARING: return "the two asyncs of a fork share a variable";
     case OOLONG_NO_BLOCK_LENGTH: return "the block is not 65,536 bytes long";
-    case OOLONG_NO_BLOCK_FORM: return "the block is no well-formed state of this script";
     case OOLONG_NO_BUFFER_LENGTH: return "there are more than 4,096 choices, or the flags are not 63 bytes long";
+    case OOLONG_NO_BLOCK_OBJECTS: return "the block's objects are damaged, or not those of a state of this script";
+    case OOLONG_NO_BLOCK_BINDINGS: return "the block's variable bindings are damaged, or not those of a state of this script";
+    case OOLONG_NO_BLOCK_THREADS: return "the block's frames, threads or locks are damaged, or not those of a state of this script";
     case OOLONG_NO_GRAMMAR: return "the token at the place, or the end of the text, does not fit what stands before it";
     case OOLONG_NO_DECLARATION: return "a type's name is declared nowhere, or again";
     case OOLONG_NO_ROOM: return "the text is above 65,536 bytes, the buffer is not 13,592, the text has too much for one file, or an integer is out of range";

@@ -1,4 +1,4 @@
-//! Question 21, which Offer and Run ask each time: blocks with many frames, bindings and objects. Each is timed in Offer and in a Run of one choice.
+//! Questions 21, 26 and 27, which Offer and Run ask each time: blocks with many frames, bindings and objects. Each is timed in Offer and in a Run of one choice.
 
 use crate::blocks::{bindings, frames, numbers, objects, recursion};
 use crate::lent::{made, offer_times, run_on, run_times};
@@ -7,12 +7,13 @@ use crate::table::{heading, row};
 use second::program::Program;
 use second::script::Script;
 use second::state::State;
+use second::wellformed::state_of;
 use second::MOST_CHOICES;
 
 type Lent = (Vec<u8>, Vec<u8>);
 
 pub fn bench() {
-    heading("Question 21", "records", "");
+    heading("Questions 21, 26 and 27", "records", "");
     for joins in [63, 0] {
         let script = recursive(joins, 338);
         let reached = |choices| run_on(&script, choices);
@@ -49,6 +50,6 @@ fn both(name: &str, size: usize, (file, lent): Lent, (half_file, half): Lent) {
 fn frames_of(script: &Script, (file, lent): &Lent) -> usize {
     assert_eq!(&script.encode(), file);
     let program = Program::read(file).expect("the script is accepted");
-    let state = second::block::read(lent, &program.types).expect("the block is in order");
+    let state = state_of(&program, lent).expect("the block is well formed");
     state.tree.positions().iter().map(|position| position.tree.frames.len()).sum()
 }

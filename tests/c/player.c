@@ -1,7 +1,8 @@
 /*
  * A converter that plays a script. `player STOP MOVES OBJECTS [NUMBER] < script` starts it, always moves the first tree position that Offer flags, and must come to that stop after that many moves
  * and with that many objects; it finishes with a number just where one is given, and with that one. Then it plays the same choices again, as many as fit into each call, and asks for every refusal
- * of Offer and Run. It prints the number that the script finished with, and else nothing unless something is wrong.
+ * of Offer and Run. It prints the number that the script finished with, and else nothing unless something is wrong. `player damaged < script` plays it too, and says of its last block, kept as a save
+ * and damaged in one byte, which part is bad, for each part.
  */
 #include "lent.h"
 #include "oolong.h"
@@ -17,9 +18,16 @@ static void must(int holds, const char *what) {
     exit(EXIT_FAILURE);
 }
 
+/* A call that may not be refused: else says why it was, and of a block which part is bad. */
+static void must_pass(const char *call, unsigned number, unsigned place) {
+    if (number == OOLONG_OK && place == 0) return;
+    printf("FAIL  %s is refused with %u at %u%s: %s\n", call, number, place, OOLONG_IS_BLOCK_FAULT(number) ? ", a damaged save" : "", oolong_number_text(number));
+    exit(EXIT_FAILURE);
+}
+
 static void started(uint8_t *block) {
     struct oolong_start_reply reply = oolong_start(script, script_len, block, OOLONG_BLOCK);
-    must(reply.number == OOLONG_OK && reply.place == 0, "the script is not started");
+    must_pass("Start", reply.number, reply.place);
 }
 
 /* The first position that can move; OOLONG_FLAGS if there is none. */
@@ -27,7 +35,7 @@ static size_t first_offered(const uint8_t *block) {
     uint8_t flags[OOLONG_FLAGS];
     memset(flags, 0xaa, sizeof flags);
     struct oolong_offer_reply reply = oolong_offer(script, script_len, block, OOLONG_BLOCK, flags, sizeof flags);
-    must(reply.number == OOLONG_OK && reply.place == 0, "Offer is refused");
+    must_pass("Offer", reply.number, reply.place);
     size_t first = OOLONG_FLAGS;
     for (size_t position = OOLONG_FLAGS; position-- > 0;) {
         must(flags[position] <= 1, "a flag is neither 0 nor 1");
@@ -38,7 +46,7 @@ static size_t first_offered(const uint8_t *block) {
 
 static struct oolong_run_reply ran(uint8_t *block, const uint8_t *choices, size_t count) {
     struct oolong_run_reply reply = oolong_run(script, script_len, block, OOLONG_BLOCK, choices, count);
-    must(reply.number == OOLONG_OK && reply.place == 0, "Run is refused");
+    must_pass("Run", reply.number, reply.place);
     must(reply.moves <= reply.read && reply.read <= count, "Run read or moved too often");
     return reply;
 }
@@ -83,6 +91,12 @@ struct refusal {
     unsigned number, place;
 };
 
+/* The block, the flags and the choices have their lengths. */
+static struct refusal bad_block(const char *what, unsigned number) {
+    struct refusal r = {what, script_len, OOLONG_BLOCK, OOLONG_FLAGS, OOLONG_CHOICES_MOST, number, 0};
+    return r;
+}
+
 static void expect_refusal(const struct refusal *r, const uint8_t *bytes) {
     struct lent lent_script = lend_to_read(script, r->script_len), read_block = lend_to_read(bytes, r->block_len), block = lend(bytes, r->block_len);
     struct lent flags = lend(NULL, r->flags_len), same_flags = lend(NULL, r->flags_len), choices = lend_to_read(NULL, r->choices_len);
@@ -97,19 +111,71 @@ static void expect_refusal(const struct refusal *r, const uint8_t *bytes) {
 }
 
 /* A block in which one type has another high byte, which no type has: that of the first record of an area, if there is one. docs/BLOCK.md: where its count and the type are. */
-static void expect_refused_type(const uint8_t *block, size_t count_at, size_t type_at) {
+static void expect_refused_type(const uint8_t *block, size_t count_at, size_t type_at, unsigned number) {
     static uint8_t damaged[OOLONG_BLOCK];
-    const struct refusal r = {"a type above 255", script_len, OOLONG_BLOCK, OOLONG_FLAGS, OOLONG_CHOICES_MOST, OOLONG_NO_BLOCK_FORM, 0};
+    const struct refusal r = bad_block("a type above 255", number);
     if (get(block, count_at) == 0) return;
     memcpy(damaged, block, OOLONG_BLOCK);
     damaged[type_at + 1] = 1;
     expect_refusal(&r, damaged);
 }
 
+/* A word that makes a part of the block bad, whatever else stands there: where there is no first object or binding, its words are unused, and bad by that. docs/BLOCK.md says where each of them
+ * stands. */
+struct fault {
+    const char *what;
+    size_t at;
+    unsigned word, number;
+};
+
+static const struct fault faults[] = {
+    {"an object of no class", 8, 65535, OOLONG_NO_BLOCK_OBJECTS},
+    {"an object neither open nor shut", 10, 2, OOLONG_NO_BLOCK_OBJECTS},
+    {"257 objects", 0, OOLONG_OBJECTS_MOST + 1, OOLONG_NO_BLOCK_OBJECTS},
+    {"a word at the end of the objects", 13318, 65535, OOLONG_NO_BLOCK_OBJECTS},
+    {"a binding of no type", 13322, 65535, OOLONG_NO_BLOCK_BINDINGS},
+    {"a binding beneath itself", 13330, 1, OOLONG_NO_BLOCK_BINDINGS},
+    {"2,049 bindings", 2, OOLONG_BINDINGS_MOST + 1, OOLONG_NO_BLOCK_BINDINGS},
+    {"a word at the end of the bindings", 37894, 65535, OOLONG_NO_BLOCK_BINDINGS},
+    {"no thread", 6, 0, OOLONG_NO_BLOCK_THREADS},
+    {"2,049 frames", 4, OOLONG_FRAMES_MOST + 1, OOLONG_NO_BLOCK_THREADS},
+    {"a position that is nothing", 37896, 5, OOLONG_NO_BLOCK_THREADS},
+    {"a word at the end of the block", OOLONG_BLOCK - 2, 1, OOLONG_NO_BLOCK_THREADS},
+};
+
+enum { FAULTS = sizeof faults / sizeof *faults };
+
+/* Each fault, and every two of them: then the earlier part is named. */
+static void expect_faults(const uint8_t *block) {
+    static uint8_t damaged[OOLONG_BLOCK];
+    for (size_t i = 0; i < FAULTS; i++)
+        for (size_t j = i; j < FAULTS; j++) {
+            const struct refusal r = bad_block(faults[i].what, faults[i].number);
+            memcpy(damaged, block, OOLONG_BLOCK);
+            put(damaged, faults[j].at, faults[j].word);
+            put(damaged, faults[i].at, faults[i].word);
+            expect_refusal(&r, damaged);
+        }
+}
+
+/* Which objects are shut is asked with the threads: of a run that has finished none is. */
+static void expect_no_shut(const uint8_t *block) {
+    static uint8_t damaged[OOLONG_BLOCK];
+    const struct refusal r = bad_block("a shut object that no thread holds", OOLONG_NO_BLOCK_THREADS);
+    if (get(block, 0) == 0) return;
+    memcpy(damaged, block, OOLONG_BLOCK);
+    put(damaged, 10, 1);
+    expect_refusal(&r, damaged);
+}
+
+static void expect_numbers(void) {
+    for (unsigned number = 0; number <= UINT16_MAX; number++)
+        must(OOLONG_IS_BLOCK_FAULT(number) == (number == 21 || number == 26 || number == 27), "OOLONG_IS_BLOCK_FAULT");
+}
+
 static void refusals(const uint8_t *block) {
     static uint8_t damaged[OOLONG_BLOCK + 1];
-    memcpy(damaged, block, OOLONG_BLOCK);
-    damaged[OOLONG_BLOCK - 1] = 1;
+    memset(damaged, 0, sizeof damaged);
     const struct refusal cases[] = {
         {"a script that is cut", script_len - 1, OOLONG_BLOCK - 1, OOLONG_FLAGS, 0, OOLONG_NO_PLACES, 0},
         {"a short block", script_len, OOLONG_BLOCK - 1, OOLONG_FLAGS - 1, OOLONG_CHOICES_MOST + 1, OOLONG_NO_BLOCK_LENGTH, 0},
@@ -118,16 +184,32 @@ static void refusals(const uint8_t *block) {
         {"a block of layout 1", script_len, 49152, OOLONG_FLAGS, 0, OOLONG_NO_BLOCK_LENGTH, 0},
         {"short flags, long choices", script_len, OOLONG_BLOCK, OOLONG_FLAGS - 1, OOLONG_CHOICES_MOST + 1, OOLONG_NO_BUFFER_LENGTH, 0},
         {"long flags, long choices", script_len, OOLONG_BLOCK, OOLONG_FLAGS + 1, OOLONG_CHOICES_MOST + 1, OOLONG_NO_BUFFER_LENGTH, 0},
-        {"a damaged block", script_len, OOLONG_BLOCK, OOLONG_FLAGS, OOLONG_CHOICES_MOST, OOLONG_NO_BLOCK_FORM, 0},
+        {"a block of zeros", script_len, OOLONG_BLOCK, OOLONG_FLAGS, OOLONG_CHOICES_MOST, OOLONG_NO_BLOCK_THREADS, 0},
     };
     for (size_t i = 0; i < sizeof cases / sizeof *cases; i++) expect_refusal(&cases[i], damaged);
-    expect_refused_type(block, 0, 8);     /* the class of object 0 */
-    expect_refused_type(block, 2, 13322); /* the type of binding 0 */
+    expect_refused_type(block, 0, 8, OOLONG_NO_BLOCK_OBJECTS);      /* the class of object 0 */
+    expect_refused_type(block, 2, 13322, OOLONG_NO_BLOCK_BINDINGS); /* the type of binding 0 */
+    expect_faults(block);
+}
+
+/* What a converter says of a save that is damaged: the block with a byte of each part changed. */
+static void tell_damage(uint8_t *block) {
+    static const size_t bytes[] = {13319, 37895, OOLONG_BLOCK - 1};
+    static const unsigned numbers[] = {OOLONG_NO_BLOCK_OBJECTS, OOLONG_NO_BLOCK_BINDINGS, OOLONG_NO_BLOCK_THREADS};
+    for (size_t i = 0; i < 3; i++) {
+        uint8_t flags[OOLONG_FLAGS];
+        block[bytes[i]] ^= 1;
+        unsigned number = oolong_offer(script, script_len, block, OOLONG_BLOCK, flags, sizeof flags).number;
+        block[bytes[i]] ^= 1;
+        must(OOLONG_IS_BLOCK_FAULT(number) && number == numbers[i], "that is not the part that is bad");
+        printf("byte %zu changed: a damaged save, %u: %s\n", bytes[i], number, oolong_number_text(number));
+    }
 }
 
 int main(int count, char **words) {
     static uint8_t block[OOLONG_BLOCK], again[OOLONG_BLOCK], first[OOLONG_BLOCK], choices[MOST_MOVES];
-    must(count == 4 || count == 5, "usage: player STOP MOVES OBJECTS [NUMBER] < script");
+    int tells = count == 2 && strcmp(words[1], "damaged") == 0;
+    must(tells || count == 4 || count == 5, "usage: player STOP MOVES OBJECTS [NUMBER] < script, or player damaged < script");
     script_len = fread(script, 1, sizeof script, stdin);
     must(oolong_check(script, script_len).number == OOLONG_OK, "the script is not accepted");
     memset(block, 0xaa, sizeof block);
@@ -138,6 +220,7 @@ int main(int count, char **words) {
 
     size_t made = 0;
     unsigned stop = play(block, choices, &made);
+    if (tells) return tell_damage(block), EXIT_SUCCESS;
     size_t moves = made - (stop >= OOLONG_FULL_OBJECTS);
     unsigned objects = get(block, 0); /* docs/BLOCK.md: the first count of the header */
     if (stop != (unsigned)atoi(words[1]) || moves != (size_t)atoi(words[2]) || objects != (unsigned)atoi(words[3])) {
@@ -150,5 +233,7 @@ int main(int count, char **words) {
     must(memcmp(block, first, sizeof block) != 0, "nothing has moved");
     refusals(first);
     refusals(block);
+    if (stop == OOLONG_FINISHED) expect_no_shut(block);
+    expect_numbers();
     return EXIT_SUCCESS;
 }

@@ -1,5 +1,5 @@
 -- The block is canonical: a configuration that fits is got back from its block, and a block is that of the configuration got from it.
-use mathlib.Core.Path.{_≡_, refl, sym}
+use mathlib.Core.Path.{_≡_, refl, sym, _∙_}
 use mathlib.Core.Bool.{Bool, true, false, cond, _&&_, and-eq-true-iff}
 use mathlib.Core.List.{List, [], _∷_, map, reverse, reverse-reverse, List·Memᴰ·head, List·Memᴰ·tail}
 use mathlib.Core.Option.{none, some}
@@ -10,7 +10,8 @@ use lib.ListN.{length, getD}
 use borrow.Author.Tests.{eqb-true, eq-eqb}
 use Rattle.limits.specs.Limits.{CLASS-FIELDS}
 use Rattle.script.specs.Lists.{_∈_}
-use Rattle.script.proofs.Tests.{true-false, says-yes, yes-said}
+use Rattle.script.specs.Asking.{Decides}
+use Rattle.script.proofs.Tests.{true-false, decides, says-yes, yes-said}
 use Rattle.machine.specs.declared.Value.{Value}
 use Rattle.machine.specs.declared.Frame.{Frame}
 use Rattle.machine.specs.declared.Frame.the-variants.{Awaits as awaits, Casts as casts, Locks as locks}
@@ -56,7 +57,7 @@ frame-back (casts p) = refl
 frame-back (locks o) = refl
 
 module _ (fieldCount : ℕ → ℕ) (c : Config) (fit : Fits fieldCount c) where
-  config-back : configIn fieldCount (encode c) ≡ c
+  pub config-back : configIn fieldCount (encode c) ≡ c
   unfolding configIn
   config-back = λ t. record { stores = record { objects = os t; bindings = bs t }; tree = tr t }
     where
@@ -91,6 +92,9 @@ same-is [] [] e = refl
 same-is [] (y ∷ ys) e = absurd (true-false (sym e))
 same-is (x ∷ xs) [] e = absurd (true-false (sym e))
 same-is (x ∷ xs) (y ∷ ys) e = let h = and-eq-true-iff (eqb x y) (same xs ys) .0 e in let k = eqb-true x y (h .0) in let r = same-is xs ys (h .1) in cc
+
+pub decides-same : (xs ys : List ℕ) → Decides (xs ≡ ys) (same xs ys)
+decides-same xs ys = decides (same xs ys) (same-is xs ys) (λ n e. true-false (sym (rw (← e) (same-self xs)) ∙ n))
 
 -- a configuration that fits is got back from its block
 pub decode-encode : (fieldCount : ℕ → ℕ) (c : Config) → Fits fieldCount c → decode fieldCount (encode c) ≡ some c

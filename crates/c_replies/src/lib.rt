@@ -8,7 +8,7 @@ mod start;
 pub use check::CheckReply;
 pub use check::check_reply;
 pub use offer::OfferReply;
-pub use offer::offer_refusal;
+pub use offer::offer_reply;
 pub use read::ReadReply;
 pub use read::read_reply;
 pub use run::RunReply;

@@ -8,8 +8,8 @@ pub struct OfferReply {
     pub place: u16,
 }
 
-// "A refusal returns its number and place"
-pub fn offer_refusal(number: u16, place: u16) -> OfferReply
+// "A refusal returns its number and place", and "A call that is not refused has number 0 and place 0."
+pub fn offer_reply(number: u16, place: u16) -> OfferReply
     ensures { λ r. ⌜ r ≡ record { number = number; place = place } ⌝ }
 {
     OfferReply { number, place }

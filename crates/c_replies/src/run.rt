@@ -24,12 +24,12 @@ pub fn run_refusal(number: u16, place: u16) -> RunReply
     }
 }
 
-// "A call that is not refused has number 0 and place 0."
-pub fn run_reply(stop: u16, read: u16, moves: u16) -> RunReply
-    ensures { λ r. ⌜ r ≡ record { number = 0; place = 0; stop = stop; read = read; moves = moves } ⌝ }
+// "A call that is not refused has number 0 and place 0.", and a no to a question about a block has place 0 too.
+pub fn run_reply(number: u16, stop: u16, read: u16, moves: u16) -> RunReply
+    ensures { λ r. ⌜ r ≡ record { number = number; place = 0; stop = stop; read = read; moves = moves } ⌝ }
 {
     RunReply {
-        number: 0,
+        number,
         place: 0,
         stop,
         read,

@@ -1,6 +1,6 @@
--- The calls answer what document 01 says, and the question about the block's form, on bytes, decides whether a block stands for a well-formed configuration.
+-- The calls answer what documents 01 and 02 say, and the question about the whole block, on bytes, decides whether it stands for a well-formed configuration.
 use mathlib.Core.Path.{_≡_, refl, sym, ap}
-use mathlib.Core.Bool.{Bool, true, false}
+use mathlib.Core.Bool.{Bool, true, false, not}
 use mathlib.Core.List.{List}
 use mathlib.Core.Option.{Option, none, some}
 use Prim.Native.Nat.{ℕ, _<_, _≤_}
@@ -9,7 +9,7 @@ use lib.ListN.{length, getD}
 use borrow.Author.Tests.{eqb-true, eqb-false, leb-true, leb-false}
 use Rattle.limits.specs.Limits.{BLOCK, CHOICES, FLAGS}
 use Rattle.script.specs.Asking.{Decides, holds, fails}
-use Rattle.script.proofs.Tests.{says-yes, yes-said}
+use Rattle.script.proofs.Tests.{says-yes, yes-said, decides-not}
 use Rattle.typing.specs.declared.Verdict.{Verdict}
 use Rattle.typing.specs.declared.Verdict.the-variants.{Accepted, Refused}
 use Rattle.typing.specs.Check.{checkOf}
@@ -23,10 +23,13 @@ use Rattle.machine.proofs.Decide.{decides-well-formed}
 use Rattle.block.specs.Fits.{Fits}
 use Rattle.block.specs.Decode.{decode}
 use Rattle.block.proofs.Decode.{decode-encode, encode-decode}
-use Rattle.calls.specs.declared.LentQuestion.the-variants.{BlockLength, BufferLength}
-use Rattle.calls.specs.Calls.{Questioned, no-at, yes-with, askScript, ask, askForm, wellFormed, configOf, blockLong, choicesFew, flagsLong, startAsked, blockAsked, checkedFrom, checkedOf, startedFrom, startOf, offeredFrom, offerOf, ranFrom, runOf}
-use Rattle.calls.specs.Answers.{Holds, Stands, found, CheckAnswers, check-refused, checked, FirstNoTo, by-script, by-length, by-buffer, by-form, StartAnswers, start-refused, started, OfferAnswers, offer-refused, offered, RunAnswers, run-refused, has-run}
+use Rattle.calls.specs.declared.LentQuestion.the-variants.{BlockLength, BufferLength, BlockObjects, BlockBindings}
+use Rattle.calls.specs.Calls.{Questioned, no-at, yes-with, askScript, ask, askThreads, wellFormed, configOf, partsAsked, blockLong, choicesFew, flagsLong, startAsked, blockAsked, checkedFrom, checkedOf, startedFrom, startOf, offeredFrom, offerOf, ranFrom, runOf}
+use Rattle.calls.specs.Answers.{Holds, Stands, found, CheckAnswers, check-refused, checked, FirstNoTo, by-script, by-length, by-buffer, by-objects, by-bindings, by-threads, StartAnswers, start-refused, started, OfferAnswers, offer-refused, offered, RunAnswers, run-refused, has-run}
+use Rattle.parts.specs.Parts.{ObjectsAre, BindingsAre, objectsSound, bindingsSound}
+use Rattle.parts.proofs.Parts.{decides-objects, decides-bindings}
 use Rattle.calls.proofs.Fits.{well-fits}
+use Rattle.calls.proofs.Parts.{parts-stand}
 
 only-some : (a : Bool) (x c : Config) → only a (some x) ≡ some c → (a ≡ true) × (x ≡ c)
 only-some true x c e = (refl, cc)
@@ -72,19 +75,33 @@ module _ (s : List ℕ) (bytes : (i : ℕ) → getD s i 0 < 256) where
     decides-stands b = stands-found b (configOf s t b) refl
 
   module _ (b : List ℕ) {Fine Off : Type 0} (lent : Bool) (fine : lent ≡ true → Fine) (off : lent ≡ false → Off) where
-    by-config : (t : ℕ) → checkOf s ≡ Accepted t → length b ≡ BLOCK → Fine → (o : Option Config) → configOf s t b ≡ o → Answers s b Fine Off (askForm o)
-    by-config t acc l f none e = said-no (by-form acc l f (λ x. let y = holds-config t acc (x .holds) in let z : _≡_ {A = ℕ} 0 1 = cc in omega arith))
-    by-config t acc l f (some c) e = said-yes acc f (config-holds t acc b c e)
+    module _ (t : ℕ) (acc : checkOf s ≡ Accepted t) (l : length b ≡ BLOCK) (f : Fine) where
+      by-config : ObjectsAre s b → BindingsAre s b → (o : Option Config) → configOf s t b ≡ o → Answers s b Fine Off (askThreads o)
+      by-config x y none e =
+          said-no (by-threads acc l f x y (λ z. let h = holds-config t acc (parts-stand acc l .1 (x, y, z) .holds) in let n : _≡_ {A = ℕ} 0 1 = cc in omega arith))
+      by-config x y (some c) e = said-yes acc f (config-holds t acc b c e)
 
-    by-lent : (t : ℕ) → checkOf s ≡ Accepted t → length b ≡ BLOCK → (a : Bool) → lent ≡ a → Answers s b Fine Off (ask BufferLength a (askForm (configOf s t b)))
-    by-lent t acc l true e = by-config t acc l (fine e) (configOf s t b) refl
+      by-vars : ObjectsAre s b → (a : Bool) → bindingsSound s b ≡ a → Answers s b Fine Off (ask BlockBindings a (askThreads (configOf s t b)))
+      by-vars x true e = by-config x (says-yes (decides-bindings (accepts t acc) b x) e) (configOf s t b) refl
+      by-vars x false e = said-no (by-bindings acc l f x (says-yes (decides-not (decides-bindings (accepts t acc) b x)) (ap not e)))
+
+      by-heap : (a : Bool) → objectsSound s b ≡ a → Answers s b Fine Off (ask BlockObjects a (ask BlockBindings (bindingsSound s b) (askThreads (configOf s t b))))
+      by-heap true e = by-vars (says-yes (decides-objects (accepts t acc) b) e) (bindingsSound s b) refl
+      by-heap false e = said-no (by-objects acc l f (says-yes (decides-not (decides-objects (accepts t acc) b)) (ap not e)))
+
+      by-parts : Answers s b Fine Off (partsAsked s t b)
+      unfolding partsAsked
+      by-parts = by-heap (objectsSound s b) refl
+
+    by-lent : (t : ℕ) → checkOf s ≡ Accepted t → length b ≡ BLOCK → (a : Bool) → lent ≡ a → Answers s b Fine Off (ask BufferLength a (partsAsked s t b))
+    by-lent t acc l true e = by-parts t acc l (fine e)
     by-lent t acc l false e = said-no (by-buffer acc l (off e))
 
-    by-block : (t : ℕ) → checkOf s ≡ Accepted t → (a : Bool) → blockLong b ≡ a → Answers s b Fine Off (ask BlockLength a (ask BufferLength lent (askForm (configOf s t b))))
+    by-block : (t : ℕ) → checkOf s ≡ Accepted t → (a : Bool) → blockLong b ≡ a → Answers s b Fine Off (ask BlockLength a (ask BufferLength lent (partsAsked s t b)))
     by-block t acc true e = by-lent t acc (eqb-true (length b) BLOCK e) lent refl
     by-block t acc false e = said-no (by-length acc (eqb-false (length b) BLOCK e))
 
-    by-check : (v : Verdict) → checkOf s ≡ v → Answers s b Fine Off (askScript v (λ t. ask BlockLength (blockLong b) (ask BufferLength lent (askForm (configOf s t b)))))
+    by-check : (v : Verdict) → checkOf s ≡ v → Answers s b Fine Off (askScript v (λ t. ask BlockLength (blockLong b) (ask BufferLength lent (partsAsked s t b))))
     by-check (Accepted t) e = by-block t e (blockLong b) refl
     by-check (Refused q place) e = said-no (by-script e)
 

@@ -1,11 +1,14 @@
 pub mod AllLent
 pub mod Fits
+pub mod Parts
 pub mod Answers
+pub mod Which
 pub mod Replies
 pub mod Lists
 pub mod Runs
 pub mod Still
 pub mod Reached
 pub mod Bytes
+pub mod Damaged
 pub mod Lent
 pub mod Promise

@@ -7,6 +7,8 @@ use Rattle.machine.specs.Machine.{limits}
 use Rattle.published.proofs.Traces.{silent-bound, initial-reads}
 use Rattle.calls.specs.Promise.{Promise}
 use Rattle.calls.proofs.Answers.{accepts, check-answers, start-answers, offer-answers, run-answers}
+use Rattle.calls.proofs.Parts.{parts-stand}
+use Rattle.calls.proofs.Which.{which-part-offer, which-part-run}
 use Rattle.calls.proofs.Replies.{start-writes}
 use Rattle.calls.proofs.Runs.{run-left, run-trace-bytes}
 use Rattle.calls.proofs.Reached.{steps-reached-bytes}
@@ -22,6 +24,9 @@ promise s bytes =
             start = start-answers s;
             offer = offer-answers s bytes;
             run = run-answers s bytes;
+            parts = λ acc. parts-stand acc;
+            offer-part = λ acc b fl. which-part-offer s bytes acc b fl;
+            run-part = λ acc b ns. which-part-run s bytes acc b ns;
           };
       two =
           record {

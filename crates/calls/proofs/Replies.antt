@@ -8,6 +8,7 @@ use borrow.Author.Tests.{eq-eqb, le-leb, lt-leb}
 use Rattle.limits.specs.Limits.{BLOCK, CHOICES, FLAGS}
 use Rattle.script.specs.Lists.{_∈_}
 use Rattle.script.proofs.Lists.{getD-run}
+use Rattle.script.proofs.Tests.{yes-said}
 use Rattle.typing.specs.declared.Verdict.the-variants.{Accepted}
 use Rattle.typing.specs.Check.{checkOf}
 use Rattle.machine.specs.Config.{Config, codeOf}
@@ -19,8 +20,10 @@ use Rattle.published.proofs.Traces.{run-trace}
 use Rattle.block.proofs.Words.{encode-length}
 use Rattle.block.proofs.Fits.{encode-bytes}
 use Rattle.calls.specs.declared.LentQuestion.the-variants.{BufferLength}
-use Rattle.calls.specs.Calls.{Questioned, no-at, yes-with, lentNumber, flagsLong, startAsked, blockAsked, startOf, flagsOf, offeredFrom, offerOf, ran, runOf}
+use Rattle.calls.specs.Calls.{Questioned, no-at, yes-with, lentNumber, flagsLong, startAsked, partsAsked, blockAsked, startOf, flagsOf, offeredFrom, offerOf, ran, runOf}
 use Rattle.calls.specs.Answers.{Holds, TraceOf}
+use Rattle.parts.proofs.Parts.{decides-objects, decides-bindings}
+use Rattle.calls.proofs.Parts.{holds-parts}
 use Rattle.calls.proofs.Answers.{accepts, holds-fits, holds-config}
 
 -- Offer never changes the block.
@@ -51,16 +54,23 @@ module _ (s : List ℕ) (bytes : (i : ℕ) → getD s i 0 < 256) (t : ℕ) (acc 
   unfolding startOf startAsked
   start-writes b l = rw (acc, eq-eqb (length b) BLOCK l) (record { is = refl; well = initial-well (accepts s bytes t acc) })
 
+  -- Every part of a block that holds a configuration gets a yes.
+  parts-reply : {b : List ℕ} {c : Config} → Holds s t b c → partsAsked s t b ≡ yes-with c
+  unfolding partsAsked
+  parts-reply {b} {c} h =
+      let p = holds-parts acc (holds-long h) h in
+      rw (yes-said (decides-objects (accepts s bytes t acc) b) (p .0), yes-said (decides-bindings (accepts s bytes t acc) b (p .0)) (p .1), holds-config s bytes t acc h) refl
+
   -- Offer's flags where it is not refused.
   pub offer-reply : {b : List ℕ} {c : Config} → Holds s t b c → (fl : List ℕ) → length fl ≡ FLAGS
       → offerOf s b fl ≡ record { number = 0; place = 0; block = b; flags = flagsOf s c }
   unfolding offerOf blockAsked
-  offer-reply {b} {c} h fl l = rw (acc, eq-eqb (length b) BLOCK (holds-long h), eq-eqb (length fl) FLAGS l, holds-config s bytes t acc h) refl
+  offer-reply {b} {c} h fl l = rw (acc, eq-eqb (length b) BLOCK (holds-long h), eq-eqb (length fl) FLAGS l, parts-reply h) refl
 
   -- Run replies what the machine's run says, and leaves its block.
   pub run-reply : {b : List ℕ} {c : Config} → Holds s t b c → (ns : List ℕ) → length ns ≤ CHOICES → runOf s b ns ≡ ran (report (codeOf s) limits c ns)
   unfolding runOf blockAsked
-  run-reply {b} {c} h ns l = rw (acc, eq-eqb (length b) BLOCK (holds-long h), le-leb (length ns) CHOICES l, holds-config s bytes t acc h) refl
+  run-reply {b} {c} h ns l = rw (acc, eq-eqb (length b) BLOCK (holds-long h), le-leb (length ns) CHOICES l, parts-reply h) refl
 
   pub run-holds : {b : List ℕ} {c : Config} → Holds s t b c → (ns : List ℕ) → length ns ≤ CHOICES
       → Holds s t (runOf s b ns .block) (report (codeOf s) limits c ns .config)

@@ -26,7 +26,7 @@ use Rattle.soundness.proofs.FullStore.{stop-short}
 use Rattle.soundness.proofs.Promise.{flag-set, flag-clear}
 use Rattle.block.specs.Block.{encode}
 use Rattle.calls.specs.Calls.{Offered, Ran, ran, flagsOf, offerOf, runOf}
-use Rattle.calls.specs.Answers.{Holds, FirstNoTo, by-script, by-length, by-buffer, by-form, OfferAnswers, offer-refused, offered, RunAnswers, run-refused, has-run, NotRefused, TraceOf}
+use Rattle.calls.specs.Answers.{Holds, FirstNoTo, by-script, by-length, by-buffer, by-objects, by-bindings, by-threads, OfferAnswers, offer-refused, offered, RunAnswers, run-refused, has-run, NotRefused, TraceOf}
 use Rattle.calls.specs.Lists.{runOnto}
 use Rattle.calls.proofs.Answers.{accepts, run-answers, offer-answers}
 use Rattle.calls.proofs.Replies.{flag-is, run-reply, run-holds, run-traced}
@@ -53,7 +53,9 @@ refusal-numbered : {s b : List ℕ} {Fine Off : Type 0} {n place : ℕ} → Firs
 refusal-numbered (by-script {q = q} x) e = number-some q e
 refusal-numbered (by-length x y) e = omega arith
 refusal-numbered (by-buffer x y z) e = omega arith
-refusal-numbered (by-form x y z w) e = omega arith
+refusal-numbered (by-objects x y z w) e = omega arith
+refusal-numbered (by-bindings x y z v w) e = omega arith
+refusal-numbered (by-threads x y z u v w) e = omega arith
 
 record Opened (s b : List ℕ) (Fine : Type 0) : Type 0 where
   pub type : ℕ

@@ -3,7 +3,7 @@ use Prim.Native.Nat.{ℕ, _<_, _≤_}
 use mathlib.Core.Path.{_≡_}
 use mathlib.Core.Bool.{Bool, true, false}
 use mathlib.Core.List.{List, [], _∷_, _++_}
-use mathlib.Core.Logic.{_⊎_}
+use mathlib.Core.Logic.{_⊎_, _↔_}
 use mathlib.Core.Option.{Option, none, some}
 use lib.ListN.{length, take}
 use Rattle.limits.specs.Limits.{BLOCK, CHOICES, FLAGS}
@@ -24,7 +24,8 @@ use Rattle.machine.specs.FullStore.{StopsShort}
 use Rattle.published.specs.Reach.{OneRun}
 use Rattle.published.specs.Traces.{Trace}
 use Rattle.block.specs.Block.{encode}
-use Rattle.calls.specs.declared.LentQuestion.the-variants.{BlockLength, BufferLength, BlockForm}
+use Rattle.parts.specs.Parts.{ObjectsAre, BindingsAre, ThreadsAre}
+use Rattle.calls.specs.declared.LentQuestion.the-variants.{BlockLength, BufferLength, BlockObjects, BlockBindings, BlockThreads}
 use Rattle.calls.specs.Calls.{lentNumber, Checked, Started, Offered, flagsOf, Ran, ran, runOf}
 
 -- The block stands for this configuration, well formed for the script, whose start has type t.
@@ -52,7 +53,22 @@ pub data FirstNoTo (s b : List ℕ) (Fine Off : Type 0) : ℕ → ℕ → Type 0
   by-script : {q : Question} {place : ℕ} → checkOf s ≡ Refused q place → FirstNoTo s b Fine Off (numberOf q) place
   by-length : {t : ℕ} → checkOf s ≡ Accepted t → (length b ≡ BLOCK → ⊥) → FirstNoTo s b Fine Off (lentNumber BlockLength) 0
   by-buffer : {t : ℕ} → checkOf s ≡ Accepted t → length b ≡ BLOCK → Off → FirstNoTo s b Fine Off (lentNumber BufferLength) 0
-  by-form : {t : ℕ} → checkOf s ≡ Accepted t → length b ≡ BLOCK → Fine → (Stands s t b → ⊥) → FirstNoTo s b Fine Off (lentNumber BlockForm) 0
+  by-objects : {t : ℕ} → checkOf s ≡ Accepted t → length b ≡ BLOCK → Fine → (ObjectsAre s b → ⊥) → FirstNoTo s b Fine Off (lentNumber BlockObjects) 0
+  by-bindings : {t : ℕ} → checkOf s ≡ Accepted t → length b ≡ BLOCK → Fine → ObjectsAre s b → (BindingsAre s b → ⊥)
+      → FirstNoTo s b Fine Off (lentNumber BlockBindings) 0
+  by-threads : {t : ℕ} → checkOf s ≡ Accepted t → length b ≡ BLOCK → Fine → ObjectsAre s b → BindingsAre s b → (ThreadsAre s t b → ⊥)
+      → FirstNoTo s b Fine Off (lentNumber BlockThreads) 0
+
+-- "A block was refused before exactly when it is refused after": the three parts together are the question 21 that was.
+abbrev pub PartsStand : List ℕ → ℕ → List ℕ → Type 0
+PartsStand s t b = Stands s t b ↔ (ObjectsAre s b × BindingsAre s b × ThreadsAre s t b)
+
+-- "21 now means objects; 26 bindings, after 21; 27 frames, threads and which objects are shut, after 26.": each number n of Offer or Run exactly.
+pub record WhichPart (s : List ℕ) (t : ℕ) (b : List ℕ) (n : ℕ) : Type 0 where
+  pub objects : (n ≡ 21) ↔ (ObjectsAre s b → ⊥)
+  pub bindings : (n ≡ 26) ↔ (ObjectsAre s b × (BindingsAre s b → ⊥))
+  pub threads : (n ≡ 27) ↔ (ObjectsAre s b × BindingsAre s b × (ThreadsAre s t b → ⊥))
+  pub sound : (n ≡ 0) ↔ Stands s t b
 
 -- Start asks of the block's length only.
 pub data StartAnswers (s b : List ℕ) : Started → Type 0 where

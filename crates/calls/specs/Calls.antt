@@ -19,8 +19,9 @@ use Rattle.machine.specs.Decide.{only, wellFormedTest}
 use Rattle.machine.specs.Runs.{Report, report}
 use Rattle.block.specs.Block.{encode}
 use Rattle.block.specs.Decode.{decode}
+use Rattle.parts.specs.Parts.{objectsSound, bindingsSound}
 use Rattle.calls.specs.declared.LentQuestion.{LentQuestion}
-use Rattle.calls.specs.declared.LentQuestion.the-variants.{BlockLength, BufferLength, BlockForm}
+use Rattle.calls.specs.declared.LentQuestion.the-variants.{BlockLength, BufferLength, BlockObjects, BlockBindings, BlockThreads}
 
 -- What the questions to a call come to: the first no, with its number and place; or yes to all, with the configuration to go on with.
 pub data Questioned : Type 0 where
@@ -33,20 +34,19 @@ askScript (Accepted t) next = next t
 askScript (Refused q place) next = no-at (numberOf q) place
 
 -- "Is the state block 49,152 bytes? 20" ("The block grows to 65,536 bytes, so question 20 asks that"), "Is the choice list at most 4,096 bytes (Run), or the
--- flag buffer exactly 63 (Offer)? 22", "Is the block a well-formed configuration of this script? 21"
+-- flag buffer exactly 63 (Offer)? 22", "Is the block a well-formed configuration of this script? 21", but "21 now means objects; 26 bindings, after 21; 27
+-- frames, threads and which objects are shut, after 26."
 abbrev pub lentNumber : LentQuestion → ℕ
 lentNumber BlockLength = 20
 lentNumber BufferLength = 22
-lentNumber BlockForm = 21
+lentNumber BlockObjects = 21
+lentNumber BlockBindings = 26
+lentNumber BlockThreads = 27
 
 -- A question about "a block, a choice list or another lent buffer" has place 0.
 abbrev pub ask : LentQuestion → Bool → Questioned → Questioned
 ask q true next = next
 ask q false next = no-at (lentNumber q) 0
-
-abbrev pub askForm : Option Config → Questioned
-askForm none = no-at (lentNumber BlockForm) 0
-askForm (some c) = yes-with c
 
 -- The configuration, if it is well formed for a script whose start has type t.
 abbrev pub wellFormed : List ℕ → ℕ → Option Config → Option Config
@@ -56,6 +56,15 @@ wellFormed s t (some c) = only (wellFormedTest (codeOf s) limits t c) (some c)
 -- The configuration that a block stands for, if it is a well-formed one.
 unfoldable pub configOf : List ℕ → ℕ → List ℕ → Option Config
 configOf s t b = wellFormed s t (decode (fieldCount s) b)
+
+-- "Objects are examined first, then bindings, then frames and threads, each part assuming the earlier ones sound." The last question is whether the block is
+-- well formed at all: where objects and bindings are sound, a no is due to the rest (`parts-stand`).
+abbrev pub askThreads : Option Config → Questioned
+askThreads none = no-at (lentNumber BlockThreads) 0
+askThreads (some c) = yes-with c
+
+unfoldable pub partsAsked : List ℕ → ℕ → List ℕ → Questioned
+partsAsked s t b = ask BlockObjects (objectsSound s b) (ask BlockBindings (bindingsSound s b) (askThreads (configOf s t b)))
 
 -- "Is the state block 49,152 bytes?", but "The block grows to 65,536 bytes, so question 20 asks that."
 abbrev pub blockLong : List ℕ → Bool
@@ -73,7 +82,7 @@ unfoldable pub startAsked : List ℕ → List ℕ → Questioned
 startAsked s b = askScript (checkOf s) (λ t. ask BlockLength (blockLong b) (yes-with initial))
 
 unfoldable pub blockAsked : List ℕ → List ℕ → Bool → Questioned
-blockAsked s b lent = askScript (checkOf s) (λ t. ask BlockLength (blockLong b) (ask BufferLength lent (askForm (configOf s t b))))
+blockAsked s b lent = askScript (checkOf s) (λ t. ask BlockLength (blockLong b) (ask BufferLength lent (partsAsked s t b)))
 
 -- "A refusal returns its number and place, with every other number 0, and lent buffers unchanged. A call that is not refused has number 0 and place 0."
 pub record Checked : Type 0 where

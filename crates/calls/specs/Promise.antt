@@ -5,7 +5,7 @@ use mathlib.Core.Path.{_≡_}
 use mathlib.Core.List.{List}
 use mathlib.Core.Logic.{_↔_}
 use lib.ListN.{length}
-use Rattle.limits.specs.Limits.{BLOCK, SILENT}
+use Rattle.limits.specs.Limits.{BLOCK, CHOICES, FLAGS, SILENT}
 use Rattle.script.specs.declared.Question.{Question}
 use Rattle.script.specs.Reading.{programOf}
 use Rattle.script.specs.Statements.{WithinLayout}
@@ -19,7 +19,8 @@ use Rattle.published.specs.ReadAs.{Reading, reading, Steps, initialReading}
 use Rattle.published.specs.Reach.{site}
 use Rattle.published.specs.Traces.{Trace, OnlySilent, silentMoves}
 use Rattle.calls.specs.Calls.{checkedOf, startOf, offerOf, runOf}
-use Rattle.calls.specs.Answers.{Holds, Stands, CheckAnswers, StartAnswers, OfferAnswers, RunAnswers, NotRefused, TraceOf, ReachedBy}
+use Rattle.calls.specs.Answers.{Holds, Stands, CheckAnswers, StartAnswers, OfferAnswers, RunAnswers, PartsStand, WhichPart}
+use Rattle.calls.specs.Answers.{NotRefused, TraceOf, ReachedBy}
 use Rattle.calls.specs.Lists.{Lent, DemandThreeOf}
 
 -- Demand 1: "The converter gets a reply from every call .., without checking them first; a bad one gets document 01's refusal number and changes no lent byte."
@@ -33,6 +34,11 @@ pub record DemandOneOf (s : List ℕ) : Type 0 where
   pub start : (b : List ℕ) → StartAnswers s b (startOf s b)
   pub offer : (b fl : List ℕ) → OfferAnswers s b fl (offerOf s b fl)
   pub run : (b ns : List ℕ) → RunAnswers s b ns (runOf s b ns)
+  -- request 5, of a block of the right length beside an accepted script: "A block was refused before exactly when it is refused after."; and the number that it
+  -- gets, from Offer and from Run
+  pub parts : {t : ℕ} → checkOf s ≡ Accepted t → {b : List ℕ} → length b ≡ BLOCK → PartsStand s t b
+  pub offer-part : {t : ℕ} → checkOf s ≡ Accepted t → (b fl : List ℕ) → length b ≡ BLOCK → length fl ≡ FLAGS → WhichPart s t b (offerOf s b fl .number)
+  pub run-part : {t : ℕ} → checkOf s ≡ Accepted t → (b ns : List ℕ) → length b ≡ BLOCK → length ns ≤ CHOICES → WhichPart s t b (runOf s b ns .number)
 
 pub record DemandTwoOf (s : List ℕ) : Type 0 where
   -- "A script within layout and limits is accepted exactly when OOlong's published typing rules give it a type", and no other script is

@@ -4,15 +4,14 @@ use mathlib.Core.Bool.{Bool, true, false, not}
 use mathlib.Core.List.{List}
 use Prim.Native.Nat.{ℕ, _<_, _≤_}
 use native.Mathlib.Omega.{arith}
-use lib.ListN.{length, getD}
-use Rattle.limits.specs.Limits.{BLOCK, POSITIONS}
+use Rattle.limits.specs.Limits.{POSITIONS}
 use Rattle.script.specs.Asking.{Decides, fails}
 use Rattle.script.proofs.Tests.{decides-as}
 use Rattle.block.specs.declared.Area.{Area}
-use Rattle.block.specs.declared.Area.the-variants.{Objects, Bindings, Positions, Frames}
+use Rattle.block.specs.declared.Area.the-variants.{Positions, Frames}
 use Rattle.block.specs.Layout.{WORDS, END, most, counted}
-use Rattle.representation.specs.InOrder.{Unused, RecordsOk, Blank, AreaOk, OneTree, FramesAdd, wordsOf, InOrder}
-use Rattle.canonical.specs.Parts.{ThreadsOk}
+use Rattle.representation.specs.InOrder.{Unused, RecordsOk, Blank, AreaOk, OneTree, FramesAdd, wordsOf}
+use Rattle.parts.specs.Parts.{ThreadsOk}
 use Rattle.in_order.proofs.Answers.{after-yes, after-no}
 
 -- One area.
@@ -40,21 +39,3 @@ module _ {fields : ℕ → ℕ} {b : List ℕ} where
       decides-as
       (λ z. record { positions = after-yes pd pe; frames = after-yes qd qe; one-tree = after-yes td te; all-frames = after-yes ud ue; rest = z })
       (λ o. o .rest)
-
-  -- All parts, of which the bytes are in order.
-  pub order-asked :
-      {p q r : Bool} → length b ≡ BLOCK → ((i : ℕ) → getD b i 0 < 256) → Decides (AreaOk fields b Objects) p → not p ≡ false
-      → Decides (AreaOk fields b Bindings) q → not q ≡ false → Decides (ThreadsOk fields b) r → Decides (InOrder fields b) r
-  order-asked long small pd pe qd qe = decides-as there back
-    where
-      there : ThreadsOk fields b → InOrder fields b
-      there t = record { long = long; small = small; areas = every; one-tree = t .one-tree; all-frames = t .all-frames; rest = t .rest }
-        where
-          every : (a : Area) → AreaOk fields b a
-          every Objects = after-yes pd pe
-          every Bindings = after-yes qd qe
-          every Positions = t .positions
-          every Frames = t .frames
-
-      back : InOrder fields b → ThreadsOk fields b
-      back o = record { positions = o .areas Positions; frames = o .areas Frames; one-tree = o .one-tree; all-frames = o .all-frames; rest = o .rest }

@@ -13,8 +13,8 @@ ghost use Rattle.limits.specs.Limits.{BLOCK};
 ghost use Rattle.script.specs.Asking.{Decides};
 ghost use Rattle.script.specs.Statements.{WithinLayout};
 ghost use Rattle.machine.specs.Machine.{fieldCount};
-ghost use Rattle.representation.specs.InOrder.{AreaOk, InOrder};
-ghost use Rattle.canonical.specs.Parts.{ThreadsOk};
+ghost use Rattle.representation.specs.InOrder.{AreaOk};
+ghost use Rattle.parts.specs.Parts.{ThreadsOk};
 
 // Has an area at most as many records as places, each in order, and 0 in the other places?
 pub fn area_in_order(s: &[u8], block: &[u8], a: Area) -> bool
@@ -50,18 +50,4 @@ pub fn threads_in_order(s: &[u8], block: &[u8]) -> bool
         return false;
     }
     zeros(block, Layout::END, Layout::WORDS)
-}
-
-// 21, first half: are the bytes in order?
-pub fn in_order(s: &[u8], block: &[u8]) -> bool
-    requires { ⌜ WithinLayout (now s) × (length (now block) ≡ BLOCK) ⌝ }
-    ensures { λ r. ⌜ Decides (InOrder (fieldCount (now (s .entry))) (now (block .entry))) r ⌝ }
-{
-    if !area_in_order(s, block, Area::Objects) {
-        return false;
-    }
-    if !area_in_order(s, block, Area::Bindings) {
-        return false;
-    }
-    threads_in_order(s, block)
 }

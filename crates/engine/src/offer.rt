@@ -3,7 +3,7 @@ use c_replies::OfferReply;
 ghost use mathlib.Core.Path.{_≡_};
 ghost use Rattle.calls.specs.Calls.{offerOf};
 
-// Offer: questions 1 to 15 about the script, then 20, 22 and 21. A yes to all sets the flags; a no leaves them as they were. The block is only read.
+// Offer: questions 1 to 15 about the script, then 20, 22, 21, 26 and 27. A yes to all sets the flags; a no leaves them as they were. The block is only read.
 #[no_mangle]
 pub extern "C" fn oolong_offer(script: &[u8], block: &[u8], flags: &mut [u8]) -> OfferReply
     ensures script { λ r. ⌜ now (script .exit) ≡ now (script .entry) ⌝ }

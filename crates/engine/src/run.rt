@@ -3,7 +3,7 @@ use c_replies::RunReply;
 ghost use mathlib.Core.Path.{_≡_};
 ghost use Rattle.calls.specs.Calls.{runOf};
 
-// Run: questions 1 to 15 about the script, then 20, 22 and 21. A yes to all makes the moves that the choices name; a no leaves every byte as it was.
+// Run: questions 1 to 15 about the script, then 20, 22, 21, 26 and 27. A yes to all makes the moves that the choices name; a no leaves every byte as it was.
 #[no_mangle]
 pub extern "C" fn oolong_run(script: &[u8], block: &mut [u8], choices: &[u8]) -> RunReply
     ensures script { λ r. ⌜ now (script .exit) ≡ now (script .entry) ⌝ }

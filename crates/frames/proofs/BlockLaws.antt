@@ -11,7 +11,8 @@ use Rattle.block.specs.Fits.{AllStorable, Fits}
 use Rattle.block.proofs.Decode.{encode-decode}
 use Rattle.representation.proofs.InOrder.{in-order-decodes}
 use Rattle.areas.proofs.Laws.{frames-counted}
-use Rattle.frames.specs.Expecting.{configRead, framesIn}
+use Rattle.parts.specs.Parts.{configRead}
+use Rattle.frames.specs.Expecting.{framesIn}
 use Rattle.awaited.specs.Awaited.{ScopedBlock}
 
 module _ {s starts facts table b : List ℕ} (y : ScopedBlock s starts facts table b) where

@@ -21,7 +21,8 @@ use Rattle.awaited.specs.declared.Expects.{Expects}
 use Rattle.awaited.specs.declared.Expects.the-variants.{No, Wants}
 use Rattle.awaited.specs.declared.Waits.{Waits}
 use Rattle.awaited.specs.Awaited.{expectsOf, wantsOf, ScopedBlock}
-use Rattle.frames.specs.Expecting.{configRead, AwaitsAs, CastsAs, frameStep, framesIn, framesFrom}
+use Rattle.parts.specs.Parts.{configRead}
+use Rattle.frames.specs.Expecting.{AwaitsAs, CastsAs, frameStep, framesIn, framesFrom}
 use Rattle.frames.proofs.BlockLaws.{in-block, frames-many}
 
 -- what an answer says

@@ -2,5 +2,5 @@ pub mod FrameLaws
 pub mod PositionLaws
 pub mod BlockLaws
 pub mod StepLaws
-pub mod StoresPassed
+pub mod BindingsPassed
 pub mod TreeLaws

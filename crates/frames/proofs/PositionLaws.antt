@@ -32,7 +32,8 @@ use Rattle.environments.specs.Chains.{bindingsIn}
 use Rattle.awaited.specs.declared.Expects.{Expects}
 use Rattle.awaited.specs.declared.Expects.the-variants.{No, Wants}
 use Rattle.awaited.specs.Awaited.{expectsOf, ScopedBlock}
-use Rattle.frames.specs.Expecting.{configRead, framesIn, framesFrom, framesBefore, placeAt, nodeMeetsTest, positionTest}
+use Rattle.parts.specs.Parts.{configRead}
+use Rattle.frames.specs.Expecting.{framesIn, framesFrom, framesBefore, placeAt, nodeMeetsTest, positionTest}
 use Rattle.frames.proofs.BlockLaws.{in-block, storable, frames-many}
 use Rattle.frames.proofs.FrameLaws.{is-none, is-some}
 use Rattle.values.proofs.ReadLaws.{bindings-read}

@@ -20,7 +20,8 @@ use Rattle.machine.specs.Decide.{wantTest, atTest, expects, treeTest}
 use Rattle.block.specs.declared.Area.the-variants.{Positions, Frames}
 use Rattle.block.specs.Layout.{counted, wordIn, WAITING}
 use Rattle.block.specs.Block.{preorder}
-use Rattle.frames.specs.Expecting.{configRead, framesBefore, placeAt, positionTest, wantAt}
+use Rattle.parts.specs.Parts.{configRead}
+use Rattle.frames.specs.Expecting.{framesBefore, placeAt, positionTest, wantAt}
 use Rattle.awaited.specs.Awaited.{ScopedBlock}
 use Rattle.frames.proofs.PositionLaws.{places-many, frames-within}
 

@@ -1,4 +1,4 @@
--- What question 21 asks of the frames and threads of a block in order, position by position and frame by frame. "what a let frame waits for fits the type
+-- What question 27 asks of the frames and threads of a block in order, position by position and frame by frame. "what a let frame waits for fits the type
 -- inferred for the let's first part"
 use Prim.Native.Nat.{ℕ, zero, suc}
 use mathlib.Core.Path.{_≡_}
@@ -13,20 +13,16 @@ use Rattle.machine.specs.declared.Frame.{Frame}
 use Rattle.machine.specs.declared.Frame.the-variants.{Awaits as awaits, Casts as casts, Locks as locks}
 use Rattle.machine.specs.declared.Want.{Want}
 use Rattle.machine.specs.declared.Want.the-variants.{Any as any}
-use Rattle.machine.specs.Config.{Code, codeOf, Binding, Stores, Tree, running, returning, failed, join, Config}
-use Rattle.machine.specs.Machine.{fieldCount, context}
+use Rattle.machine.specs.Config.{Code, codeOf, Binding, Stores, Tree, running, returning, failed, join}
+use Rattle.machine.specs.Machine.{context}
 use Rattle.machine.specs.Decide.{given, only, valueFitsTest, atTest, wants, awaited, castType, expects, wantTest}
 use Rattle.block.specs.declared.Area.the-variants.{Positions}
 use Rattle.block.specs.Layout.{wordIn, WAITING}
 use Rattle.block.specs.Block.{preorder, framesOf}
-use Rattle.block.specs.Decode.{configIn}
+use Rattle.parts.specs.Parts.{configRead}
 use Rattle.environments.specs.Chains.{bindingsIn}
 use Rattle.awaited.specs.declared.Waits.{Waits}
 use Rattle.awaited.specs.Awaited.{wantsOf}
-
--- The configuration that is read from the block b.
-abbrev pub configRead : List ℕ → List ℕ → Config
-configRead s b = configIn (fieldCount s) b
 
 -- What is expected of the value that goes on above a frame, where v is expected beneath it: one step of `expects`.
 abbrev pub awaitsStep : Code → List Binding → Point → ℕ → Want → Option Want

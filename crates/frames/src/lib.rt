@@ -1,4 +1,4 @@
-// Question 21 in code, frames and threads: do they fit?
+// Question 27 in code, frames and threads: do they fit?
 mod frames;
 mod places;
 

@@ -14,7 +14,8 @@ ghost use Rattle.machine.specs.Config.{codeOf};
 ghost use Rattle.machine.specs.Decide.{treeTest};
 ghost use Rattle.block.specs.declared.Area.the-variants.{Positions};
 ghost use Rattle.block.specs.Layout.{counted};
-ghost use Rattle.frames.specs.Expecting.{configRead, framesBefore, placeAt, positionTest};
+ghost use Rattle.parts.specs.Parts.{configRead};
+ghost use Rattle.frames.specs.Expecting.{framesBefore, placeAt, positionTest};
 ghost use Rattle.awaited.specs.Awaited.{ScopedBlock};
 ghost use Rattle.memo.specs.Memo.{Remembers, MemoReady};
 

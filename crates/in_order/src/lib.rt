@@ -1,4 +1,4 @@
-// Question 21 in code, the records: is each in order by itself, and are words without a meaning 0?
+// Questions 21, 26 and 27 in code, the records: is each in order by itself, and are words without a meaning 0?
 mod blanks;
 mod records;
 mod values;

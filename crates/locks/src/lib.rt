@@ -1,4 +1,4 @@
-// Question 21 in code, lock frames and shut objects: do they fit?
+// Question 27 in code, lock frames and shut objects: do they fit?
 mod locks;
 
 pub use locks::locks_fit;

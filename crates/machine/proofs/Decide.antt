@@ -3,7 +3,7 @@ use Prim.Native.Nat.{ℕ, zero, suc, _+_, _≤_, _<_}
 use native.Mathlib.Omega.{arith}
 use native.Mathlib.Decide.{decLt, ℕ-discrete}
 use mathlib.Core.Path.{_≡_, refl, sym}
-use mathlib.Core.Bool.{Bool, true, false, cond, _&&_, _||_}
+use mathlib.Core.Bool.{Bool, true, false, cond, _&&_, _||_, and-assoc}
 use mathlib.Core.List.{List, [], _∷_, map, List·Memᴰ·head, List·Memᴰ·tail, List·Memᴰ·cases-cons, List·Memᴰ·not-nil}
 use mathlib.Core.Logic.{_⊎_, inl, inr, ⊎-elim}
 use mathlib.Core.Option.{Option, none, some, Option·none-ne-some}
@@ -43,7 +43,7 @@ use Rattle.machine.specs.Config.{Code, Object, Binding, Stores, Tree, ru
 use Rattle.machine.specs.Machine.{scope, slot, context, object, Places}
 use Rattle.machine.specs.declared.Want.{Want}
 use Rattle.machine.specs.declared.Want.the-variants.{Any as any, Upto as upto}
-use Rattle.machine.specs.WellFormed.{Meets, meets-any, meets-type, NullMeets, null-any, null-type, ValueFits, fits-nil, fits-ref, fits-int, Gives, gives-type, NodeGives, BindingOk, BindingsOk, no-bindings, a-binding, FieldsOk, no-fields, a-field, StoresOk, Awaits, a-let, a-write, a-call, FramesOk, no-frames, a-node, a-cast, a-lock, TreeOk, running-ok, returning-ok, failed-ok, join-ok, lockCount, failures, shutAt, Within, WellFormed}
+use Rattle.machine.specs.WellFormed.{Meets, meets-any, meets-type, NullMeets, null-any, null-type, ValueFits, fits-nil, fits-ref, fits-int, Gives, gives-type, NodeGives, BindingOk, BindingsOk, no-bindings, a-binding, FieldsOk, no-fields, a-field, TypedObject, StoresOk, Awaits, a-let, a-write, a-call, FramesOk, no-frames, a-node, a-cast, a-lock, TreeOk, running-ok, returning-ok, failed-ok, join-ok, lockCount, failures, shutAt, Within, WellFormed}
 use Rattle.machine.specs.Accepted.{LaterPart, AcceptedCode}
 use Rattle.machine.specs.Decide.{given, ifTyped, only, meetsTest, objectTest, nullMeetsTest, valueFitsTest, isTyped, givesTest, atTest, isClassTest, fieldsTest, bindingTest, bindingsTest, storesTest, awaited, castType, expects, wantTest, treeTest, lockList, distinctTest, numbersBelow, coveredTest, withinLimitsTest, wellFormedTest}
 use Rattle.machine.proofs.Types.{null-unit, check-gives, infer-computes, check-computes, env-next, gives-checks, gives-some, rules-function, start-type}
@@ -192,14 +192,21 @@ module _ {s : Code} {start : ℕ} (acc : AcceptedCode s start) where
     decides-bindings [] = holds no-bindings
     decides-bindings (b ∷ bs) = decides-as (λ h. a-binding (h .0) (h .1)) bindings-both (decides-and (decides-binding (length bs) b) (decides-bindings bs))
 
+  -- Γ ⊢ H, and Γ ⊢ V where the objects have classes
+  pub decides-heap : (xs : List Object) → Decides ((o : ℕ) (x : Object) → object xs o ≡ some x → TypedObject s xs x) (allOf (isClassTest s) xs && allOf (λ x. fieldsTest s xs (fieldsOf (s .program) (x .class)) (x .fields)) xs)
+  decides-heap xs =
+      decides-as (λ h o x e. record { class = h .0 o x e; fields = h .1 o x e }) (λ h. (λ o x e. h o x e .class, λ o x e. h o x e .fields))
+      (decides-then (decides-every _ (isClassTest s) xs (decides-class s))
+      (λ classes. decides-every _ _ xs (λ x. decides-fields xs classes (fieldsOf (s .program) (x .class)) (x .fields))))
+
+  pub decides-vars : (xs : List Object) → ((o : ℕ) (x : Object) → object xs o ≡ some x → TypedObject s xs x) → (bs : List Binding) → Decides (BindingsOk s xs bs) (bindingsTest s xs bs)
+  decides-vars xs heap = decides-bindings xs (λ o x e. heap o x e .class)
+
   decides-stores : (st : Stores) → Decides (StoresOk s st) (storesTest s st)
   decides-stores st =
-      decides-as
-      (λ h. record { bindings = h .1 .1; heap = λ o x e. record { class = h .0 o x e; fields = h .1 .0 o x e } })
-      (λ h. (λ o x e. h .heap o x e .class, (λ o x e. h .heap o x e .fields, h .bindings)))
-      (decides-then (decides-every _ (isClassTest s) (st .objects) (decides-class s))
-      (λ classes.
-      decides-and (decides-every _ _ (st .objects) (λ x. decides-fields (st .objects) classes (fieldsOf (s .program) (x .class)) (x .fields))) (decides-bindings (st .objects) classes (st .bindings))))
+      decides-as (λ h. record { bindings = h .1; heap = h .0 }) (λ h. (h .heap, h .bindings))
+      (rw (and-assoc (allOf (isClassTest s) (st .objects)) (allOf (λ x. fieldsTest s (st .objects) (fieldsOf (s .program) (x .class)) (x .fields)) (st .objects)) (bindingsTest s (st .objects) (st .bindings))) at
+      (decides-then (decides-heap (st .objects)) (λ heap. decides-vars (st .objects) heap (st .bindings))))
 
   -- an expression; what is wanted is a type
   WantType : Want → Type 0
@@ -425,14 +432,14 @@ decides-covered xs t =
         go (yes e) = inr (λ o m. h e o)
         go (no e) = inl e
 
-decides-within : (lim : Places) (c : Config) → Decides (Within lim c) (withinLimitsTest lim c)
+pub decides-within : (lim : Places) (c : Config) → Decides (Within lim c) (withinLimitsTest lim c)
 decides-within lim c =
     decides-as
     (λ h. record { objects = h .0; bindings = h .1 .0; frames = h .1 .1 .0; threads = h .1 .1 .1 })
     (λ h. (h .objects, (h .bindings, (h .frames, h .threads))))
     (decides-and (decides-le _ (lim .objects)) (decides-and (decides-le _ (lim .bindings)) (decides-and (decides-le _ (lim .frames)) (decides-le _ (lim .threads)))))
 
--- Question 21: the test says whether the configuration is well formed for this script.
+-- The whole question: the test says whether the configuration is well formed for this script.
 pub decides-well-formed : {s : Code} {start : ℕ} → AcceptedCode s start → (lim : Places) (c : Config) → Decides (WellFormed s lim start c) (wellFormedTest s lim start c)
 unfolding wellFormedTest WantType
 decides-well-formed {s} {start} acc lim c =

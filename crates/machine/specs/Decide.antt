@@ -1,5 +1,4 @@
--- Question 21 as a computed answer: "Is the block a well-formed configuration of this script?", of a configuration. `proofs/Decide.antt` shows that it decides
--- `WellFormed`.
+-- "Is the block a well-formed configuration of this script?" as a computed answer, of a configuration. `proofs/Decide.antt` shows that it decides `WellFormed`.
 use Prim.Native.Nat.{ℕ, zero, suc, _+_}
 use mathlib.Core.Bool.{Bool, true, false, not, _&&_, _||_}
 use mathlib.Core.List.{List, [], _∷_, _++_}

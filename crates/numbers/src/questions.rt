@@ -35,6 +35,8 @@ pub fn lent_number(question: LentQuestion) -> u16
     match question {
         LentQuestion::BlockLength => 20,
         LentQuestion::BufferLength => 22,
-        LentQuestion::BlockForm => 21,
+        LentQuestion::BlockObjects => 21,
+        LentQuestion::BlockBindings => 26,
+        LentQuestion::BlockThreads => 27,
     }
 }

@@ -1,20 +1,16 @@
 -- What Offer replies and leaves, after each of its answers.
 use Prim.Native.Nat.{ℕ}
-use mathlib.Core.Path.{_≡_, refl, sym, ap, _∙_}
-use mathlib.Core.Bool.{Bool, true, false, not}
+use mathlib.Core.Path.{_≡_, refl}
 use mathlib.Core.List.{List}
-use mathlib.Core.Option.{Option, none, some}
 use lib.ListN.{length}
 use borrow.Author.Tests.{eq-eqb, ne-eqb}
 use Rattle.limits.specs.Limits.{BLOCK, FLAGS}
-use Rattle.script.proofs.Tests.{true-false}
 use Rattle.typing.specs.declared.Verdict.{Verdict}
 use Rattle.typing.specs.declared.Verdict.the-variants.{Accepted, Refused}
 use Rattle.typing.specs.Check.{checkOf, verdictNumber, verdictPlace}
-use Rattle.machine.specs.Config.{Config}
-use Rattle.calls.specs.declared.LentQuestion.the-variants.{BlockLength, BufferLength, BlockForm}
-use Rattle.calls.specs.Calls.{Questioned, no-at, yes-with, flagsLong, lentNumber, configOf, askForm, blockAsked, offeredFrom, offerOf}
-use Rattle.calls.specs.Answers.{found}
+use Rattle.calls.specs.declared.LentQuestion.the-variants.{BlockLength, BufferLength}
+use Rattle.calls.specs.Calls.{Questioned, no-at, yes-with, flagsLong, lentNumber, partsAsked, blockAsked, offeredFrom, offerOf}
+use Rattle.replies.proofs.Standing.{parts-place}
 use Rattle.c_replies.specs.declared.offer.OfferReply.{OfferReply}
 
 -- "the block stays as it was"
@@ -51,21 +47,11 @@ module _ (s b fl : List ℕ) where
       unfolding offerOf blockAsked
       offer-flags-refused r number e ne n = rw (e, acc, eq-eqb _ _ long, ne-eqb _ _ ne, n) (refl, (refl, refl))
 
-      asked : length fl ≡ FLAGS → offerOf s b fl ≡ offeredFrom s b fl (askForm (configOf s t b))
+      asked : length fl ≡ FLAGS → offerOf s b fl ≡ offeredFrom s b fl (partsAsked s t b)
       unfolding offerOf blockAsked
       asked l = rw (acc, eq-eqb _ _ long, eq-eqb _ _ l)
 
-      module _ {after : List ℕ} (l : length fl ≡ FLAGS) (formed : Bool) (e : formed ≡ found (configOf s t b)) (h : after ≡ offeredFrom s b fl (askForm (configOf s t b)) .flags) where
-        pub offer-form-refused : (r : OfferReply) (number : ℕ) → r ≡ Reply number 0 → not formed ≡ true → number ≡ lentNumber BlockForm → OfferSays r after
-        offer-form-refused r number q f n = rw (q, asked l) (go (configOf s t b) refl)
-          where
-            go : (q : Option Config) → configOf s t b ≡ q → (number ≡ offeredFrom s b fl (askForm (configOf s t b)) .number) × ((0 ≡ offeredFrom s b fl (askForm (configOf s t b)) .place) × (after ≡ offeredFrom s b fl (askForm (configOf s t b)) .flags))
-            go none k = rw (h, k, n) (refl, (refl, refl))
-            go (some c) k = absurd (true-false (sym f ∙ ap not (e ∙ ap found k)))
-
-        pub offer-done : not formed ≡ false → OfferSays (Reply 0 0) after
-        offer-done f = rw (asked l) (go (configOf s t b) refl)
-          where
-            go : (q : Option Config) → configOf s t b ≡ q → (0 ≡ offeredFrom s b fl (askForm (configOf s t b)) .number) × ((0 ≡ offeredFrom s b fl (askForm (configOf s t b)) .place) × (after ≡ offeredFrom s b fl (askForm (configOf s t b)) .flags))
-            go none k = absurd (true-false (sym (ap not (e ∙ ap found k)) ∙ f))
-            go (some c) k = rw (h, k) (refl, (refl, refl))
+      -- a part is bad, at place 0, or all are sound
+      pub offer-part : {after : List ℕ} (r : OfferReply) (number : ℕ) → r ≡ Reply number 0 → length fl ≡ FLAGS → number ≡ offeredFrom s b fl (partsAsked s t b) .number
+          → after ≡ offeredFrom s b fl (partsAsked s t b) .flags → OfferSays r after
+      offer-part r number e l n f = rw (e, asked l) (n, (parts-place s t b (λ q. offeredFrom s b fl q .place) (λ m. refl) (λ c. refl), f))

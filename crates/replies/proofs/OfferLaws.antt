@@ -1,20 +1,21 @@
 -- A law for each return of Offer.
 use mathlib.Core.Path.{_≡_, refl}
-use mathlib.Core.Bool.{Bool, true, false}
 use mathlib.Core.List.{List}
-use mathlib.Core.Option.{none, some}
 use Prim.Native.Nat.{ℕ}
-use Rattle.machine.specs.Config.{Config}
-use Rattle.calls.specs.Calls.{askForm, configOf, flagsOf, offeredFrom}
-use Rattle.calls.specs.Answers.{found}
+use Rattle.parts.specs.Parts.{configRead}
+use Rattle.calls.specs.declared.LentQuestion.{LentQuestion}
+use Rattle.calls.specs.Calls.{lentNumber, partsAsked, flagsOf, offeredFrom}
+use Rattle.wellformed.specs.declared.Examined.{Examined}
+use Rattle.wellformed.specs.declared.Examined.the-variants.{Sound, Bad}
+use Rattle.wellformed.specs.Examining.{examinedAs}
 
-module _ (s : List ℕ) (t : ℕ) (b fl : List ℕ) where
-  -- What Offer answers to 21 and leaves in the flags.
-  abbrev pub OfferSays : Bool → List ℕ → Type 0
-  OfferSays r after = (r ≡ found (configOf s t b)) × (after ≡ offeredFrom s b fl (askForm (configOf s t b)) .flags)
+module _ (s : List ℕ) (t : ℕ) (b fl : List ℕ) (r : Examined) (e : partsAsked s t b ≡ examinedAs r (configRead s b)) where
+  -- The number that Offer answers, and what it leaves in the flags.
+  abbrev pub OfferSays : ℕ → List ℕ → Type 0
+  OfferSays n after = (n ≡ offeredFrom s b fl (partsAsked s t b) .number) × (after ≡ offeredFrom s b fl (partsAsked s t b) .flags)
 
-  pub left-alone : configOf s t b ≡ none → OfferSays false fl
-  left-alone e = rw e (refl, refl)
+  pub left-alone : {q : LentQuestion} {n : ℕ} → r ≡ Bad q → n ≡ lentNumber q → OfferSays n fl
+  left-alone y f = rw (e, y, f) (refl, refl)
 
-  pub offered : {c : Config} {after : List ℕ} → configOf s t b ≡ some c → after ≡ flagsOf s c → OfferSays true after
-  offered e f = rw (e, f) (refl, refl)
+  pub offered : {after : List ℕ} → r ≡ Sound → after ≡ flagsOf s (configRead s b) → OfferSays 0 after
+  offered y f = rw (e, y, f) (refl, refl)

@@ -1,6 +1,7 @@
 // Run.
 use crate::RunResult;
 use names::RANKS;
+use wellformed::Examined;
 ghost use mathlib.Core.Path.{_≡_};
 ghost use Prim.Native.Nat.{_≤_};
 ghost use lib.ListN.{length};
@@ -14,8 +15,8 @@ ghost use Rattle.inference.specs.Walk.{EmptyEnv};
 ghost use Rattle.machine.specs.Config.{codeOf};
 ghost use Rattle.machine.specs.Machine.{limits};
 ghost use Rattle.machine.specs.Runs.{report};
-ghost use Rattle.calls.specs.Calls.{configOf};
-ghost use Rattle.replies.specs.RunResults.{Reported, ResultOfRun, Runnable};
+ghost use Rattle.calls.specs.Calls.{partsAsked, ran, ranFrom};
+ghost use Rattle.replies.specs.RunResults.{Replied, Runnable};
 
 // The run of a block that holds a configuration.
 fn run_formed(
@@ -29,21 +30,21 @@ fn run_formed(
     requires { ⌜ EmptyEnv (now s) (now starts) (now facts) (now table) × Runnable (now s) (now block) × (length (now choices) ≤ CHOICES) ⌝ }
     ensures { λ r. ⌜
         ((x : Runnable (now (s .entry)) (now (block .entry))) →
-        Reported (report (codeOf (now (s .entry))) limits (x .config) (now (choices .entry))) (now (block .exit)) r)
+        Replied (ran (report (codeOf (now (s .entry))) limits (x .config) (now (choices .entry)))) (now (block .exit)) r)
         ⌝ }
 {
     let ran = runs::run_choices(s, starts, facts, table, block, choices);
     let stop = ran.stop;
     let number = numbers::stop_number(stop);
     RunResult {
-        formed: true,
+        number: 0,
         stop: number,
         read: ran.read as u16,
         moves: ran.moves as u16,
     }
 }
 
-// Run on an accepted script whose start has type t: question 21, and then the run.
+// Run on an accepted script whose start has type t: the questions about the parts of the block, and then the run.
 pub fn run(
     s: &[u8],
     starts: &[u16],
@@ -55,17 +56,19 @@ pub fn run(
     requires { ⌜ WithinLayout (now s) × Starts (now s) (now starts) × Facts (now s) (now facts) × (checkOf (now s) ≡ Accepted t) ⌝ }
     requires { ⌜ (length (now block) ≡ BLOCK) × (length (now choices) ≤ CHOICES) ⌝ }
     ensures { λ r. ⌜
-        ResultOfRun (now (s .entry)) (now (block .entry)) (now (choices .entry)) (configOf (now (s .entry)) t (now (block .entry))) (now (block .exit)) r
+        Replied (ranFrom (now (s .entry)) (now (block .entry)) (now (choices .entry)) (partsAsked (now (s .entry)) t (now (block .entry))))
+        (now (block .exit)) r
         ⌝ }
 {
     let mut table = [0u16; RANKS];
-    if !wellformed::well_formed(s, starts, facts, &mut table, t, block) {
-        return RunResult {
-            formed: false,
+    let examined = wellformed::well_formed(s, starts, facts, &mut table, t, block);
+    match examined {
+        Examined::Bad(question) => RunResult {
+            number: numbers::lent_number(question),
             stop: 0,
             read: 0,
             moves: 0,
-        };
+        },
+        Examined::Sound => run_formed(s, starts, facts, &mut table, block, choices),
     }
-    run_formed(s, starts, facts, &mut table, block, choices)
 }

@@ -1,4 +1,4 @@
--- Which bytes are a block, word by word: what there is to ask of them, apart from the script's meaning. "bytes with no meaning are 0, else 21"
+-- Which bytes are a block, word by word: what there is to ask of them, apart from the script's meaning. "bytes with no meaning are 0"
 use Prim.Native.Nat.{ℕ, suc, _*_, _<_, _≤_}
 use mathlib.Core.Path.{_≡_}
 use mathlib.Core.Logic.{_≢_}

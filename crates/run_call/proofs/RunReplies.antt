@@ -1,38 +1,19 @@
 -- What Run replies and leaves, after each of its answers.
 use Prim.Native.Nat.{ℕ, _<_, _≤_}
-use mathlib.Core.Path.{_≡_, refl, sym, ap, _∙_}
-use mathlib.Core.Bool.{true, false, not}
+use mathlib.Core.Path.{_≡_, refl}
 use mathlib.Core.List.{List}
-use mathlib.Core.Option.{Option, none, some}
 use lib.ListN.{length}
 use borrow.Author.Tests.{eq-eqb, ne-eqb, le-leb, lt-leb}
 use Rattle.limits.specs.Limits.{BLOCK, CHOICES}
-use Rattle.script.proofs.Tests.{true-false}
 use Rattle.typing.specs.declared.Verdict.{Verdict}
 use Rattle.typing.specs.declared.Verdict.the-variants.{Accepted, Refused}
 use Rattle.typing.specs.Check.{checkOf, verdictNumber, verdictPlace}
-use Rattle.machine.specs.Config.{codeOf, Config}
-use Rattle.machine.specs.Machine.{limits}
-use Rattle.machine.specs.Runs.{report}
-use Rattle.calls.specs.declared.LentQuestion.the-variants.{BlockLength, BufferLength, BlockForm}
-use Rattle.calls.specs.Calls.{lentNumber, configOf, askForm, blockAsked, ranFrom, runOf}
+use Rattle.calls.specs.declared.LentQuestion.the-variants.{BlockLength, BufferLength}
+use Rattle.calls.specs.Calls.{lentNumber, partsAsked, blockAsked, ranFrom, runOf}
 use Rattle.c_replies.specs.declared.run.RunReply.{RunReply}
 use Rattle.replies.specs.declared.RunResult.{RunResult}
-use Rattle.replies.specs.RunResults.{Reported, ResultOfRun}
-
--- what the block held
-not-formed : (s b ns after : List ℕ) (p : RunResult) (q : Option Config) → ResultOfRun s b ns q after p → not (p .formed) ≡ true → (q ≡ none) × (after ≡ b)
-not-formed s b ns after p none h f = (refl, h .1)
-not-formed s b ns after p (some c) h f = absurd (true-false (sym f ∙ ap not (h .formed)))
-
-pub record Found (s b ns after : List ℕ) (p : RunResult) (q : Option Config) : Type 0 where
-  pub config : Config
-  pub is : q ≡ some config
-  pub reported : Reported (report (codeOf s) limits config ns) after p
-
-is-formed : (s b ns after : List ℕ) (p : RunResult) (q : Option Config) → ResultOfRun s b ns q after p → not (p .formed) ≡ false → Found s b ns after p q
-is-formed s b ns after p none h f = absurd (true-false (sym (ap not (ap (λ (x : RunResult). x .formed) (h .0))) ∙ f))
-is-formed s b ns after p (some c) h f = record { config = c; is = refl; reported = h }
+use Rattle.replies.specs.RunResults.{Replied}
+use Rattle.replies.proofs.Standing.{parts-place}
 
 module _ (s b ns : List ℕ) where
   abbrev pub RunSays : RunReply → List ℕ → Type 0
@@ -60,15 +41,12 @@ module _ (s b ns : List ℕ) where
       unfolding runOf blockAsked
       run-choices-refused r number e l n = rw (e, acc, eq-eqb _ _ long, lt-leb _ _ l, n) (refl, (refl, (refl, (refl, (refl, refl)))))
 
-      asked : length ns ≤ CHOICES → runOf s b ns ≡ ranFrom s b ns (askForm (configOf s t b))
+      asked : length ns ≤ CHOICES → runOf s b ns ≡ ranFrom s b ns (partsAsked s t b)
       unfolding runOf blockAsked
       asked few = rw (acc, eq-eqb _ _ long, le-leb _ _ few)
 
-      module _ {after : List ℕ} (few : length ns ≤ CHOICES) (p : RunResult) (plays : ResultOfRun s b ns (configOf s t b) after p) where
-        pub run-form-refused : (r : RunReply) (number : ℕ) → r ≡ Refusal number 0 → not (p .formed) ≡ true → number ≡ lentNumber BlockForm → RunSays r after
-        run-form-refused r number e f n = let h = not-formed s b ns after p (configOf s t b) plays f in rw (asked few, h .0, e, n, h .1) (refl, (refl, (refl, (refl, (refl, refl)))))
-
-        pub run-done : (r : RunReply) → r ≡ record { number = 0; place = 0; stop = p .stop; read = p .read; moves = p .moves } → not (p .formed) ≡ false → RunSays r after
-        run-done r e f =
-            let h = is-formed s b ns after p (configOf s t b) plays f in
-            rw (e, asked few, h .is) (refl, (refl, (h .reported .stop, (h .reported .read, (h .reported .moves, h .reported .block)))))
+      -- a part is bad, at place 0, or all are sound
+      pub run-part : {after : List ℕ} (r : RunReply) (p : RunResult) → r ≡ record { number = p .number; place = 0; stop = p .stop; read = p .read; moves = p .moves }
+          → length ns ≤ CHOICES → Replied (ranFrom s b ns (partsAsked s t b)) after p → RunSays r after
+      run-part r p e few h =
+          rw (e, asked few) (h .number, (parts-place s t b (λ q. ranFrom s b ns q .place) (λ m. refl) (λ c. refl), (h .stop, (h .read, (h .moves, h .block)))))

@@ -10,7 +10,7 @@ use subtypes::STARTS;
 ghost use mathlib.Core.Path.{_≡_};
 ghost use Rattle.calls.specs.Calls.{runOf};
 
-// Run: questions 1 to 15 about the script, then 20, 22 and 21. A yes to all makes the moves that the choices name; a no leaves every byte as it was.
+// Run: questions 1 to 15 about the script, then 20, 22, 21, 26 and 27. A yes to all makes the moves that the choices name; a no leaves every byte as it was.
 pub fn run(script: &[u8], block: &mut [u8], choices: &[u8]) -> RunReply
     ensures script { λ r. ⌜ now (script .exit) ≡ now (script .entry) ⌝ }
     ensures choices { λ r. ⌜ now (choices .exit) ≡ now (choices .entry) ⌝ }
@@ -34,8 +34,5 @@ pub fn run(script: &[u8], block: &mut [u8], choices: &[u8]) -> RunReply
         return run_refusal(numbers::lent_number(LentQuestion::BufferLength), 0);
     }
     let played = replies::run(script, &starts, &facts, checked.start_type, block, choices);
-    if !played.formed {
-        return run_refusal(numbers::lent_number(LentQuestion::BlockForm), 0);
-    }
-    run_reply(played.stop, played.read, played.moves)
+    run_reply(played.number, played.stop, played.read, played.moves)
 }

@@ -1,6 +1,6 @@
 -- Every block of the table gets its answer: by computation from the test of a configuration, and from there on bytes.
 use mathlib.Core.Path.{_≡_, refl, sym, ap, _∙_}
-use mathlib.Core.Bool.{Bool, true, false, _&&_}
+use mathlib.Core.Bool.{Bool, true, false, cond, _&&_}
 use mathlib.Core.List.{List, [], _∷_, _++_, map, flatMap, flatten}
 use mathlib.Core.Option.{none, some}
 use Prim.Native.Nat.{ℕ, zero, suc, _<_, _≤_}
@@ -28,7 +28,7 @@ use Rattle.machine.specs.declared.Value.the-variants.{Null as nil, Ref as ref}
 use Rattle.machine.specs.Machine.{fieldCount, limits, still, moved, move, choice, initial}
 use Rattle.machine.specs.Runs.{look, report}
 use Rattle.machine.specs.WellFormed.{WellFormed}
-use Rattle.machine.specs.Decide.{only, wellFormedTest}
+use Rattle.machine.specs.Decide.{only, bindingsTest, wellFormedTest}
 use Rattle.machine.proofs.Decide.{decides-well-formed}
 use Rattle.soundness.proofs.Promise.{run-keeps}
 use Rattle.block.specs.Rows.{filled}
@@ -39,9 +39,12 @@ use Rattle.block.specs.Fits.{AllWords, Few, StorableIn, Fits, storableInTest, a
 use Rattle.block.proofs.Words.{encode-length}
 use Rattle.block.proofs.Fits.{areas, decides-stored, all-small, laid-words}
 use Rattle.block.proofs.Decode.{decode-encode}
-use Rattle.calls.specs.Calls.{askForm, configOf, blockAsked, offeredFrom, offerOf, ranFrom, runOf}
+use Rattle.parts.specs.Parts.{objectsTest}
+use Rattle.parts.proofs.Parts.{objects-encoded, bindings-encoded}
+use Rattle.calls.specs.declared.LentQuestion.the-variants.{BlockObjects, BlockBindings}
+use Rattle.calls.specs.Calls.{ask, askThreads, configOf, partsAsked, blockAsked, offeredFrom, offerOf, ranFrom, runOf}
 use Rattle.samples.specs.Samples.{configured, variable}
-use Rattle.samples.specs.Blocks.{blockScript, BlockCase, formNumber, Judged, objectC, blockCases, BlocksJudged}
+use Rattle.samples.specs.Blocks.{blockScript, BlockCase, Judged, objectC, blockCases, BlocksJudged}
 use Rattle.calls.proofs.Answers.{accepts}
 use Rattle.samples.proofs.Tables.{in-map}
 
@@ -97,9 +100,23 @@ module _ (count : ℕ → ℕ) (c : Config) where
       }
 
 -- the whole table, as the test of a configuration answers, and that all fit
-all-tested : map (λ x. wellFormedTest (codeOf blockScript) limits 2 (x .config)) blockCases ≡ map (λ x. x .well) blockCases
+all-tested : map (λ x. wellFormedTest (codeOf blockScript) limits 2 (x .config)) blockCases ≡ map (λ x. eqb (x .number) 0) blockCases
 unfolding wordAt bytes run sumBelow named bodyAt countOf recordAt recordWord declarationAt kindOf viewAt lastExprs exprAt ownSignatures ownFields ownMethods interfaceAt fieldAt methodAt classAt programOf allOf valuesTo valueAt reach below meaning ownMethod methodIn typeIn fieldIn answer wellFormedTest blockScript blockCases
 all-tested = refl
+
+-- which part is bad, by the configuration's objects and bindings, if one is
+abbrev heapTest : Config → Bool
+heapTest c = objectsTest (codeOf blockScript) (c .stores .objects)
+
+abbrev varsTest : Config → Bool
+varsTest c = bindingsTest (codeOf blockScript) (c .stores .objects) (c .stores .bindings)
+
+abbrev partNumber : Bool → Config → ℕ
+partNumber well c = cond (heapTest c) (cond (varsTest c) (cond well 0 27) 26) 21
+
+all-numbered : map (λ x. partNumber (eqb (x .number) 0) (x .config)) blockCases ≡ map (λ x. x .number) blockCases
+unfolding wordAt bytes run sumBelow named bodyAt countOf recordAt recordWord declarationAt kindOf viewAt lastExprs exprAt ownSignatures ownFields ownMethods interfaceAt fieldAt methodAt classAt programOf allOf valuesTo valueAt reach below meaning ownMethod methodIn typeIn fieldIn blockScript blockCases
+all-numbered = refl
 
 all-fit : map (λ x. recordsTest (fieldCount blockScript) (x .config)) blockCases ≡ map (λ x. true) blockCases
 unfolding wordAt bytes lowWord highWord run bodyAt countOf recordAt recordWord declarationAt ownFields classAt programOf allOf preorder framesOf filled flatMap flatten blockScript blockCases
@@ -114,33 +131,42 @@ module _ (c : Config) (w : Bool) (e : wellFormedTest (codeOf blockScript) limits
   unfolding configOf
   asked-as = rw (decode-encode (fieldCount blockScript) c fit, e) refl
 
-  offer-number : (fl : List ℕ) (a : Bool) → offeredFrom blockScript (encode c) fl (askForm (only a (some c))) .number ≡ formNumber a
-  offer-number fl true = refl
-  offer-number fl false = refl
+  parts-as : partsAsked blockScript 2 (encode c) ≡ ask BlockObjects (heapTest c) (ask BlockBindings (varsTest c) (askThreads (only w (some c))))
+  unfolding partsAsked
+  parts-as = rw (objects-encoded blockScript c fit, bindings-encoded blockScript c fit, asked-as) refl
 
-  run-number : (ns : List ℕ) (a : Bool) → ranFrom blockScript (encode c) ns (askForm (only a (some c))) .number ≡ formNumber a
-  run-number ns true = refl
-  run-number ns false = refl
+  offer-number : (fl : List ℕ) (u v a : Bool) → offeredFrom blockScript (encode c) fl (ask BlockObjects u (ask BlockBindings v (askThreads (only a (some c))))) .number ≡ cond u (cond v (cond a 0 27) 26) 21
+  offer-number fl false v a = refl
+  offer-number fl true false a = refl
+  offer-number fl true true false = refl
+  offer-number fl true true true = refl
 
-  offered-as : (fl : List ℕ) → length fl ≡ FLAGS → offerOf blockScript (encode c) fl .number ≡ formNumber w
+  run-number : (ns : List ℕ) (u v a : Bool) → ranFrom blockScript (encode c) ns (ask BlockObjects u (ask BlockBindings v (askThreads (only a (some c))))) .number ≡ cond u (cond v (cond a 0 27) 26) 21
+  run-number ns false v a = refl
+  run-number ns true false a = refl
+  run-number ns true true false = refl
+  run-number ns true true true = refl
+
+  offered-as : (fl : List ℕ) → length fl ≡ FLAGS → offerOf blockScript (encode c) fl .number ≡ partNumber w c
   unfolding offerOf blockAsked
-  offered-as fl l = rw (block-script, eq-eqb (length (encode c)) BLOCK (encode-length c), eq-eqb (length fl) FLAGS l, asked-as) (offer-number fl w)
+  offered-as fl l = rw (block-script, eq-eqb (length (encode c)) BLOCK (encode-length c), eq-eqb (length fl) FLAGS l, parts-as) (offer-number fl (heapTest c) (varsTest c) w)
 
-  ran-as : (ns : List ℕ) → length ns ≤ CHOICES → runOf blockScript (encode c) ns .number ≡ formNumber w
+  ran-as : (ns : List ℕ) → length ns ≤ CHOICES → runOf blockScript (encode c) ns .number ≡ partNumber w c
   unfolding runOf blockAsked
-  ran-as ns l = rw (block-script, eq-eqb (length (encode c)) BLOCK (encode-length c), le-leb (length ns) CHOICES l, asked-as) (run-number ns w)
+  ran-as ns l = rw (block-script, eq-eqb (length (encode c)) BLOCK (encode-length c), le-leb (length ns) CHOICES l, parts-as) (run-number ns (heapTest c) (varsTest c) w)
 
 -- the whole table
 judged : (x : BlockCase) → x ∈ blockCases → Judged x
 judged x m =
-    let e = in-map (λ z. wellFormedTest (codeOf blockScript) limits 2 (z .config)) (λ z. z .well) blockCases x all-tested m in
+    let e = in-map (λ z. wellFormedTest (codeOf blockScript) limits 2 (z .config)) (λ z. eqb (z .number) 0) blockCases x all-tested m in
+    let n = in-map (λ z. partNumber (eqb (z .number) 0) (z .config)) (λ z. z .number) blockCases x all-numbered m in
     let fit = records-fit (fieldCount blockScript) (x .config) (in-map (λ z. recordsTest (fieldCount blockScript) (z .config)) (λ z. true) blockCases x all-fit m) in
     record {
-      formed = formed-as (x .config) (x .well) e fit;
+      formed = formed-as (x .config) (eqb (x .number) 0) e fit;
       long = encode-length (x .config);
-      asked = asked-as (x .config) (x .well) e fit;
-      offered = offered-as (x .config) (x .well) e fit;
-      ran = ran-as (x .config) (x .well) e fit;
+      asked = asked-as (x .config) (eqb (x .number) 0) e fit;
+      offered = λ fl l. offered-as (x .config) (eqb (x .number) 0) e fit fl l ∙ n;
+      ran = λ ns l. ran-as (x .config) (eqb (x .number) 0) e fit ns l ∙ n;
     }
 
 -- the first three moves are those of the one thread, and the third binds x to object 0

@@ -10,20 +10,19 @@ use lib.ListN.{getD}
 use Rattle.words.specs.Word.{WORD, wordAt}
 use Rattle.script.specs.Syntax.{intOf}
 use Rattle.script.specs.Reading.{programOf}
-use Rattle.script.specs.Questions.{allOf}
 use Rattle.script.proofs.Tests.{and-no}
 use Rattle.machine.specs.declared.Value.{Value}
 use Rattle.machine.specs.declared.Want.the-variants.{Upto as upto}
 use Rattle.machine.specs.Config.{codeOf}
 use Rattle.machine.specs.Machine.{fieldCount}
-use Rattle.machine.specs.Decide.{valueFitsTest, isClassTest, bindingTest, bindingsTest, storesTest}
+use Rattle.machine.specs.Decide.{valueFitsTest, bindingTest, bindingsTest}
 use Rattle.block.specs.declared.Area.the-variants.{Bindings}
 use Rattle.block.specs.Layout.{counted, wordIn, wordByte, NAME, TYPE, BOUND, LINK}
 use Rattle.block.specs.Values.{valueIn}
-use Rattle.block.specs.Decode.{configIn}
+use Rattle.parts.specs.Parts.{configRead, objectsIn}
 use Rattle.environments.specs.Chains.{bindingAt, newest, bindingsIn}
 use Rattle.environments.proofs.ChainLaws.{length-newest}
-use Rattle.values.specs.Objects.{ObjectsInOrder, objectsIn, objectsTest}
+use Rattle.values.specs.Objects.{ObjectsInOrder}
 use Rattle.values.proofs.ReadLaws.{bindings-read}
 use Rattle.values.proofs.StoreLaws.{and-yes}
 
@@ -68,7 +67,7 @@ module _ {s b : List ℕ} (a : ObjectsInOrder s b) (i t z : ℕ) (et : t ≡ wor
 -- a walk over the bindings, newest first, that has those before number n left
 abbrev pub BindingsLeft : List ℕ → List ℕ → ℕ → Type 0
 BindingsLeft s b n =
-    bindingsTest (codeOf s) (objectsIn s b) (configIn (fieldCount s) b .stores .bindings) ≡ bindingsTest (codeOf s) (objectsIn s b) (newest (bindingAt b) n)
+    bindingsTest (codeOf s) (objectsIn s b) (configRead s b .stores .bindings) ≡ bindingsTest (codeOf s) (objectsIn s b) (newest (bindingAt b) n)
 
 module _ (s b : List ℕ) where
   pub bindings-begun : (n : ℕ) → n ≡ counted b Bindings → BindingsLeft s b n
@@ -76,12 +75,12 @@ module _ (s b : List ℕ) where
   bindings-begun n e = rw e (ap (bindingsTest (codeOf s) (objectsIn s b)) (bindings-read (fieldCount s) b))
 
   module _ (n : ℕ) (left : BindingsLeft s b n) where
-    pub bindings-done : (0 < n → ⊥) → true ≡ bindingsTest (codeOf s) (objectsIn s b) (configIn (fieldCount s) b .stores .bindings)
+    pub bindings-done : (0 < n → ⊥) → true ≡ bindingsTest (codeOf s) (objectsIn s b) (configRead s b .stores .bindings)
     bindings-done h = let z : n ≡ 0 = omega arith in sym (rw z at left)
 
     module _ (r : Bool) (h : 0 < n) (e : r ≡ bindingTest (codeOf s) (objectsIn s b) (n - 1) (bindingAt b (n - 1))) where
       next :
-          bindingsTest (codeOf s) (objectsIn s b) (configIn (fieldCount s) b .stores .bindings)
+          bindingsTest (codeOf s) (objectsIn s b) (configRead s b .stores .bindings)
           ≡ bindingTest (codeOf s) (objectsIn s b) (n - 1) (bindingAt b (n - 1)) && bindingsTest (codeOf s) (objectsIn s b) (newest (bindingAt b) (n - 1))
       next =
           let z : n ≡ suc (n - 1) = omega arith in
@@ -89,27 +88,8 @@ module _ (s b : List ℕ) where
           ∙ ap (λ (m : ℕ). bindingsTest (codeOf s) (objectsIn s b) (newest (bindingAt b) m)) z
           ∙ ap (λ (m : ℕ). bindingTest (codeOf s) (objectsIn s b) m (bindingAt b (n - 1)) && bindingsTest (codeOf s) (objectsIn s b) (newest (bindingAt b) (n - 1))) (length-newest (bindingAt b) (n - 1))
 
-      pub bindings-no : not r ≡ true → false ≡ bindingsTest (codeOf s) (objectsIn s b) (configIn (fieldCount s) b .stores .bindings)
+      pub bindings-no : not r ≡ true → false ≡ bindingsTest (codeOf s) (objectsIn s b) (configRead s b .stores .bindings)
       bindings-no q = and-no (bindingTest (codeOf s) (objectsIn s b) (n - 1) (bindingAt b (n - 1))) (bindingsTest (codeOf s) (objectsIn s b) (newest (bindingAt b) (n - 1))) r e q ∙ sym next
 
       pub bindings-more : not r ≡ false → BindingsLeft s b (n - 1)
       bindings-more q = next ∙ and-yes (bindingTest (codeOf s) (objectsIn s b) (n - 1) (bindingAt b (n - 1))) (bindingsTest (codeOf s) (objectsIn s b) (newest (bindingAt b) (n - 1))) r e q
-
--- both stores
-module _ (s b : List ℕ) where
-  abbrev bindings : Bool
-  bindings = bindingsTest (codeOf s) (objectsIn s b) (configIn (fieldCount s) b .stores .bindings)
-
-  both : storesTest (codeOf s) (configIn (fieldCount s) b .stores) ≡ objectsTest (codeOf s) (objectsIn s b) && bindings
-  both = regroup (allOf (isClassTest (codeOf s)) (objectsIn s b)) _ bindings
-    where
-      regroup : (p q t : Bool) → p && (q && t) ≡ (p && q) && t
-      regroup true q t = refl
-      regroup false q t = refl
-
-  module _ (r : Bool) (e : r ≡ objectsTest (codeOf s) (objectsIn s b)) where
-    pub stores-no : not r ≡ true → false ≡ storesTest (codeOf s) (configIn (fieldCount s) b .stores)
-    stores-no h = and-no (objectsTest (codeOf s) (objectsIn s b)) bindings r e h ∙ sym both
-
-    pub stores-are : (t : Bool) → not r ≡ false → t ≡ bindings → t ≡ storesTest (codeOf s) (configIn (fieldCount s) b .stores)
-    stores-are t h f = f ∙ sym (both ∙ and-yes (objectsTest (codeOf s) (objectsIn s b)) bindings r e h)

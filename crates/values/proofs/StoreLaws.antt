@@ -40,7 +40,8 @@ use Rattle.machine.specs.Decide.{meetsTest, objectTest, valueFitsTest, isClassT
 use Rattle.block.specs.declared.Area.the-variants.{Objects}
 use Rattle.block.specs.Layout.{counted, wordIn, CLASS}
 use Rattle.representation.specs.InOrder.{InOrder}
-use Rattle.values.specs.Objects.{ObjectsInOrder, fieldValueAt, objectAt, objectsIn, objectFits, objectsTest}
+use Rattle.parts.specs.Parts.{objectsIn, objectsTest}
+use Rattle.values.specs.Objects.{ObjectsInOrder, fieldValueAt, objectAt, objectFits}
 use Rattle.values.proofs.ReadLaws.{objects-read, object-run, object-past}
 
 -- a block that is in order is asked

@@ -1,11 +1,10 @@
--- The objects of a block, and what question 21 asks of them.
+-- The objects of a block, one by one.
 use Prim.Native.Nat.{ℕ, _<_}
 use mathlib.Core.Path.{_≡_}
 use mathlib.Core.Bool.{Bool, _&&_}
 use mathlib.Core.List.{List}
 use lib.ListN.{length, getD}
 use Rattle.limits.specs.Limits.{BLOCK}
-use Rattle.script.specs.Questions.{allOf}
 use Rattle.script.specs.Statements.{WithinLayout}
 use Rattle.machine.specs.declared.Value.{Value}
 use Rattle.machine.specs.Config.{Code, Object}
@@ -15,7 +14,7 @@ use Rattle.machine.specs.Decide.{isClassTest, fieldsTest}
 use Rattle.block.specs.declared.Area.the-variants.{Objects}
 use Rattle.block.specs.Layout.{wordIn, fieldWord}
 use Rattle.block.specs.Values.{valueIn}
-use Rattle.block.specs.Decode.{objectIn, configIn}
+use Rattle.block.specs.Decode.{objectIn}
 use Rattle.representation.specs.InOrder.{AreaOk}
 
 -- What the code of the question relies on: questions 1 to 8 got a yes, the block has the bytes of a block, and its objects are in order.
@@ -33,14 +32,6 @@ fieldValueAt b i k = valueIn (wordIn b Objects i) (fieldWord k)
 abbrev pub objectAt : (ℕ → ℕ) → List ℕ → ℕ → Object
 objectAt fieldCount b i = objectIn fieldCount (wordIn b Objects i)
 
--- The objects of the configuration that is read from a block.
-abbrev pub objectsIn : List ℕ → List ℕ → List Object
-objectsIn s b = configIn (fieldCount s) b .stores .objects
-
 -- WF-HEAP of one object: its class is a class, and "value types fit".
 abbrev pub objectFits : Code → List Object → Object → Bool
 objectFits s xs x = isClassTest s x && fieldsTest s xs (fieldsOf (s .program) (x .class)) (x .fields)
-
--- The same of every object, as `storesTest` says it.
-abbrev pub objectsTest : Code → List Object → Bool
-objectsTest s xs = allOf (isClassTest s) xs && allOf (λ x. fieldsTest s xs (fieldsOf (s .program) (x .class)) (x .fields)) xs

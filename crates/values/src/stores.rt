@@ -22,12 +22,12 @@ ghost use Rattle.script.specs.Reading.{fieldAt};
 ghost use Rattle.subtypes.specs.Tables.{Starts};
 ghost use Rattle.machine.specs.Config.{codeOf};
 ghost use Rattle.machine.specs.Machine.{fieldCount, object};
-ghost use Rattle.machine.specs.Decide.{objectTest, valueFitsTest, fieldsTest, bindingTest, bindingsTest, storesTest};
+ghost use Rattle.machine.specs.Decide.{objectTest, valueFitsTest, fieldsTest, bindingTest, bindingsTest};
 ghost use Rattle.block.specs.declared.Area.the-variants.{Objects, Bindings};
 ghost use Rattle.block.specs.Layout.{counted};
-ghost use Rattle.block.specs.Decode.{configIn};
+ghost use Rattle.parts.specs.Parts.{configRead, objectsIn, objectsTest};
 ghost use Rattle.environments.specs.Chains.{bindingAt};
-ghost use Rattle.values.specs.Objects.{ObjectsInOrder, fieldValueAt, objectAt, objectsIn, objectFits, objectsTest};
+ghost use Rattle.values.specs.Objects.{ObjectsInOrder, fieldValueAt, objectAt, objectFits};
 
 // Does object n fit what is wanted? It is there, and its class is the type wanted or below it.
 fn object_meets(s: &[u8], starts: &[u16], block: &[u8], n: u16, want: Want) -> bool
@@ -98,8 +98,8 @@ fn object_fits(s: &[u8], starts: &[u16], block: &[u8], i: usize) -> bool
     }
 }
 
-// Do all objects fit? WF-HEAP.
-fn objects_fit(s: &[u8], starts: &[u16], block: &[u8]) -> bool
+// Do all objects fit? Γ ⊢ H of Figure 7, WF-HEAP: "value types fit".
+pub fn objects_fit(s: &[u8], starts: &[u16], block: &[u8]) -> bool
     requires { ⌜ ObjectsInOrder (now s) (now block) × Starts (now s) (now starts) ⌝ }
     ensures { λ r. ⌜ r ≡ objectsTest (codeOf (now (s .entry))) (objectsIn (now (s .entry)) (now (block .entry))) ⌝ }
 {
@@ -134,12 +134,12 @@ fn binding_fits(s: &[u8], starts: &[u16], block: &[u8], i: usize) -> bool
     value_fits(s, starts, block, v, Want::Upto(t))
 }
 
-// Do all bindings fit? The newest is asked first.
-fn bindings_fit(s: &[u8], starts: &[u16], block: &[u8]) -> bool
+// Do all bindings fit? Γ ⊢ V of Figure 7: "value types fit" and "links run to earlier bindings". The newest is asked first.
+pub fn bindings_fit(s: &[u8], starts: &[u16], block: &[u8]) -> bool
     requires { ⌜ ObjectsInOrder (now s) (now block) × Starts (now s) (now starts) × (counted (now block) Bindings ≤ BINDINGS) ⌝ }
     ensures { λ r. ⌜
         r ≡ bindingsTest (codeOf (now (s .entry))) (objectsIn (now (s .entry)) (now (block .entry)))
-        (configIn (fieldCount (now (s .entry))) (now (block .entry)) .stores .bindings)
+        (configRead (now (s .entry)) (now (block .entry)) .stores .bindings)
         ⌝ }
 {
     let mut n = areas::count(block, Area::Bindings);
@@ -150,15 +150,4 @@ fn bindings_fit(s: &[u8], starts: &[u16], block: &[u8]) -> bool
         n -= 1;
     }
     true
-}
-
-// Do the stores fit? Γ ⊢ H and Γ ⊢ V of Figure 7: "value types fit" and "links run to earlier bindings".
-pub fn stores_fit(s: &[u8], starts: &[u16], block: &[u8]) -> bool
-    requires { ⌜ ObjectsInOrder (now s) (now block) × (counted (now block) Bindings ≤ BINDINGS) × Starts (now s) (now starts) ⌝ }
-    ensures { λ r. ⌜ r ≡ storesTest (codeOf (now (s .entry))) (configIn (fieldCount (now (s .entry))) (now (block .entry)) .stores) ⌝ }
-{
-    if !objects_fit(s, starts, block) {
-        return false;
-    }
-    bindings_fit(s, starts, block)
 }

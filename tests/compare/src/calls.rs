@@ -1,5 +1,5 @@
 //! Start, Offer and Run, on scripts with blocks that a run reached, that were made without running, that are damaged, or that have a wrong length: the numbers of each reply, and every byte
-//! that the call may write.
+//! that the call may write. Where a case tells what may be answered, Offer and Run answer that.
 
 use second::cases::{any_case, Case};
 use second::generate::Rng;
@@ -12,8 +12,8 @@ const RARE: u64 = 500;
 /// The answers that must come up: of each call the number 0, a refusal of the script, and those of the lent buffers; of Run every stop.
 const ANSWERS: &[(&str, &[u16])] = &[
     ("Start", &[0, SCRIPT, 20]),
-    ("Offer", &[0, SCRIPT, 20, 21, 22]),
-    ("Run", &[0, SCRIPT, 20, 21, 22]),
+    ("Offer", &[0, SCRIPT, 20, 22, 21, 26, 27]),
+    ("Run", &[0, SCRIPT, 20, 22, 21, 26, 27]),
     ("Run's stop", &[0, 1, 2, 3, 4, 5, 6, 7]),
 ];
 
@@ -33,6 +33,10 @@ impl Tally {
     fn count_stop(&mut self, stop: u16) {
         *self.0.entry(("Run's stop", stop)).or_default() += 1;
     }
+
+    pub fn times(&self, call: &'static str, answer: u16) -> u64 {
+        self.0.get(&(call, answer)).copied().unwrap_or(0)
+    }
 }
 
 pub fn compare(count: u64, seed: u64) -> Result<(), String> {
@@ -49,9 +53,8 @@ pub fn compare(count: u64, seed: u64) -> Result<(), String> {
     for ((call, answer), times) in &tally.0 {
         println!("{call:10} {answer:2} {times:8}");
     }
-    let expected = ANSWERS.iter().flat_map(|&(call, answers)| answers.iter().map(move |&answer| (call, answer)));
-    let times = |answer| tally.0.get(&answer).copied().unwrap_or(0);
-    match expected.into_iter().find(|&answer| times(answer) < count.div_ceil(RARE)) {
+    let mut expected = ANSWERS.iter().flat_map(|&(call, answers)| answers.iter().map(move |&answer| (call, answer)));
+    match expected.find(|&(call, answer)| tally.times(call, answer) < count.div_ceil(RARE)) {
         Some((call, answer)) => Err(format!("{call} answered {answer} too rarely")),
         None => Ok(()),
     }
@@ -59,9 +62,13 @@ pub fn compare(count: u64, seed: u64) -> Result<(), String> {
 
 pub fn agree(case: &Case, tally: &mut Tally) -> Result<(), String> {
     start(case, tally)?;
+    agree_on_block(case, tally)
+}
+
+/// Offer and Run alone.
+pub fn agree_on_block(case: &Case, tally: &mut Tally) -> Result<(), String> {
     offer(case, tally)?;
-    run(case, tally)?;
-    Ok(())
+    run(case, tally)
 }
 
 fn start(case: &Case, tally: &mut Tally) -> Result<(), String> {
@@ -81,7 +88,7 @@ fn offer(case: &Case, tally: &mut Tally) -> Result<(), String> {
     same("Offer", &[given.number, given.place], &[expected.number, expected.place])?;
     same("Offer's flags", &flags, &expected_flags)?;
     tally.count("Offer", given.number);
-    Ok(())
+    allowed(case, "Offer", given.number)
 }
 
 fn run(case: &Case, tally: &mut Tally) -> Result<(), String> {
@@ -95,18 +102,26 @@ fn run(case: &Case, tally: &mut Tally) -> Result<(), String> {
     if given.number == 0 {
         tally.count_stop(given.stop);
     }
-    Ok(())
+    allowed(case, "Run", given.number)
+}
+
+/// Where the case tells what may be answered, it is that.
+fn allowed(case: &Case, call: &str, number: u16) -> Result<(), String> {
+    match case.allows(number) {
+        true => Ok(()),
+        false => Err(format!("{call} answers {number}, which is none of {:?}", case.answers)),
+    }
 }
 
 /// Both lists are equal; else the message shows their lengths, or the first difference.
 fn same<T: PartialEq + std::fmt::Debug>(what: &str, given: &[T], expected: &[T]) -> Result<(), String> {
-    if given.len() != expected.len() {
-        return Err(format!("{what}: the engine has {}, the second implementation {}", given.len(), expected.len()));
+    if given == expected {
+        return Ok(());
     }
-    match given.iter().zip(expected).position(|(one, other)| one != other) {
-        Some(at) => {
-            Err(format!("{what}: at {at} the engine has {:?}, the second implementation {:?}", given[at], expected[at]))
-        }
-        None => Ok(()),
-    }
+    let first = given.iter().zip(expected).position(|(one, other)| one != other);
+    let (at, one, other) = match first {
+        Some(at) => (format!("at {at} "), format!("{:?}", given[at]), format!("{:?}", expected[at])),
+        None => (String::new(), given.len().to_string(), expected.len().to_string()),
+    };
+    Err(format!("{what}: {at}the engine has {one}, the second implementation {other}"))
 }

@@ -1,11 +1,12 @@
 //! The engine against the second implementation, on N random cases; it fails at the first difference, and if an answer came up too rarely.
 //! `compare check N SEED`: Check, on scripts. `compare calls N SEED`: the calls that a block is lent to. `compare types`: both, on every type number and on words that are none.
-//! `compare texts N SEED`: Read, on texts.
+//! `compare words`: Offer and Run, on two small blocks with each word changed. `compare texts N SEED`: Read, on texts.
 
 mod calls;
 mod check;
 mod texts;
 mod types;
+mod words;
 
 use std::process::ExitCode;
 use std::time::Instant;
@@ -20,8 +21,9 @@ fn main() -> ExitCode {
         (Some("calls"), &[count, seed]) => calls::compare(count, seed),
         (Some("texts"), &[count, seed]) => texts::compare(count, seed),
         (Some("types"), []) => types::compare(),
+        (Some("words"), []) => words::compare(),
         _ => {
-            eprintln!("usage: compare check|calls|texts N SEED, or compare types");
+            eprintln!("usage: compare check|calls|texts N SEED, or compare types|words");
             return ExitCode::from(2);
         }
     };

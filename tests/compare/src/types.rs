@@ -20,7 +20,7 @@ const HOLDER: u16 = INTERFACES + 1;
 pub fn compare() -> Result<(), String> {
     let casts = compare_casts()?;
     let blocks = compare_blocks()?;
-    println!("casts that fit and that do not: {casts:?}; blocks accepted and refused: {blocks:?}");
+    println!("casts that fit and that do not: {casts:?}; blocks answered with 0, 21 and 26: {blocks:?}");
     Ok(())
 }
 
@@ -51,7 +51,7 @@ fn cast(ty: u16, word: u16) -> Vec<u8> {
     }
 }
 
-fn compare_casts() -> Result<[u32; 2], String> {
+fn compare_casts() -> Result<[u64; 2], String> {
     let mut seen = [0; 2];
     for (ty, word) in (0..=INT).flat_map(|ty| words().map(move |word| (ty, word))) {
         let number = agreed(&cast(ty, word))?.number;
@@ -62,39 +62,38 @@ fn compare_casts() -> Result<[u32; 2], String> {
             _ => return Err(format!("a cast of type {ty} to {word} gets {number}")),
         }
     }
-    both(seen)
+    all(seen)
 }
 
-/// The word as the type of a binding with a value of each kind, and as the class of an object that another one's field holds.
-fn states(word: u16) -> Vec<State> {
+/// The word as the type of a binding with a value of each kind, and as the class of an object that another one's field holds; and what may be answered.
+fn states(word: u16) -> Vec<(State, Vec<u16>)> {
     let holder = Object { class: HOLDER, shut: false, fields: vec![Value::Object(1)] };
     let objects = |class| vec![holder.clone(), Object { class, shut: false, fields: vec![] }];
     let values = [Value::Null, Value::Object(0), Value::Object(1), Value::Number(7)];
     let bound = values.map(|value| Binding { name: 2, ty: word, value, beneath: None });
     let bound =
         bound.map(|binding| State { objects: objects(LAST_CLASS), bindings: vec![binding], ..State::initial() });
-    bound.into_iter().chain([State { objects: objects(word), ..State::initial() }]).collect()
+    let of_bound = if word > INT { vec![26] } else { vec![0, 26] };
+    let of_class = if (HOLDER..=LAST_CLASS).contains(&word) { vec![0] } else { vec![21] };
+    let made = State { objects: objects(word), ..State::initial() };
+    bound.into_iter().map(|state| (state, of_bound.clone())).chain([(made, of_class)]).collect()
 }
 
-fn compare_blocks() -> Result<[u32; 2], String> {
+/// How often each answer of Offer came up.
+fn compare_blocks() -> Result<[u64; 3], String> {
     let script = cast(1, 1);
-    let mut seen = [0; 2];
-    for (word, state) in words().flat_map(|word| states(word).into_iter().map(move |state| (word, state))) {
+    let mut tally = Tally::default();
+    for (word, (state, answers)) in words().flat_map(|word| states(word).into_iter().map(move |made| (word, made))) {
         let (block, flags) = (block::write(&state), vec![7; FLAGS]);
-        let case = Case { script: script.clone(), block, choices: vec![0], flags, origin: Origin::Made };
-        agree(&case, &mut Tally::default()).map_err(|message| format!("a block with the type {word}: {message}"))?;
-        let number = engine::offer(&case.script, &case.block, &mut case.flags.clone()).number;
-        match (number, word > INT) {
-            (0, false) => seen[0] += 1,
-            (21, _) => seen[1] += 1,
-            _ => return Err(format!("a block with the type {word} gets {number}")),
-        }
+        let (script, answers) = (script.clone(), Some(answers));
+        let case = Case { script, block, choices: vec![0], flags, origin: Origin::Made, answers };
+        agree(&case, &mut tally).map_err(|message| format!("a block with the type {word}: {message}"))?;
     }
-    both(seen)
+    all([0, 21, 26].map(|number| tally.times("Offer", number)))
 }
 
-/// Both answers came up.
-fn both(seen: [u32; 2]) -> Result<[u32; 2], String> {
+/// Each answer came up.
+fn all<const N: usize>(seen: [u64; N]) -> Result<[u64; N], String> {
     match seen.contains(&0) {
         true => Err(format!("one answer never came up: {seen:?}")),
         false => Ok(seen),

@@ -19,9 +19,9 @@ pub struct Answer {
 
 // The linker's names end in the header's major version.
 extern "C" {
-    #[link_name = "oolong_check_2"]
+    #[link_name = "oolong_check_3"]
     fn oolong_check(script: *const u8, script_len: usize) -> CheckReply;
-    #[link_name = "oolong_start_2"]
+    #[link_name = "oolong_start_3"]
     fn oolong_start(script: *const u8, script_len: usize, block: *mut u8, block_len: usize) -> Answer;
 }
 

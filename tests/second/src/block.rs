@@ -1,5 +1,5 @@
 //! The state block: its bytes read as a state and written back, as docs/BLOCK.md lays them out.
-//! Reading tests every byte, so that a state has one block only.
+//! Reading tests every byte, so that a state has one block only. It goes part by part: each byte is read with one of them.
 
 use crate::expr::{number, number_words};
 use crate::state::{
@@ -82,29 +82,30 @@ const NULL: u16 = 0;
 const OBJECT_NUMBER: u16 = 1;
 const NUMBER: u16 = 2;
 
-/// The state that a block of the right length holds, if each of its bytes is in order.
-/// Numbers of nodes, objects, bindings and types are well-formedness's to judge, except that an
-/// object's class says which of its words are fields.
-pub fn read(block: &[u8], types: &Types) -> Option<State> {
-    let count = |area: Area| u16::from_le_bytes([block[area.count_at()], block[area.count_at() + 1]]);
-    let objects = records::<OBJECT>(&block[Area::Objects.bytes()], count(Area::Objects))?;
-    let bindings = records::<BINDING>(&block[Area::Bindings.bytes()], count(Area::Bindings))?;
-    let positions = records::<POSITION>(&block[Area::Positions.bytes()], count(Area::Positions))?;
-    let frames = records::<FRAME>(&block[Area::Frames.bytes()], count(Area::Frames))?;
+/// The objects of a block, if the bytes of their part are in order. Numbers of objects and types are well-formedness's to
+/// judge, except that an object's class says which of its words are fields.
+pub fn read_objects(block: &[u8], types: &Types) -> Option<Vec<Object>> {
+    records(block, Area::Objects)?.iter().map(|record| read_object(record, types)).collect()
+}
+
+/// The bindings, likewise.
+pub fn read_bindings(block: &[u8]) -> Option<Vec<Binding>> {
+    records(block, Area::Bindings)?.iter().map(read_binding).collect()
+}
+
+/// The tree with its frames, likewise; the bytes behind the areas belong to this part too.
+pub fn read_threads(block: &[u8]) -> Option<Tree> {
+    let (positions, frames) = (records(block, Area::Positions)?, records(block, Area::Frames)?);
     let (mut positions, mut frames) = (positions.iter(), frames.iter());
     let tree = read_tree(&mut positions, &mut frames)?;
     let nothing_over = positions.len() == 0 && frames.len() == 0 && is_zero(&block[2 * END..]);
-    let state = State {
-        objects: objects.iter().map(|record| read_object(record, types)).collect::<Option<_>>()?,
-        bindings: bindings.iter().map(read_binding).collect::<Option<_>>()?,
-        tree,
-    };
-    nothing_over.then_some(state)
+    nothing_over.then_some(tree)
 }
 
-/// The first `count` records of an area, if it has so many and zeros behind them.
-fn records<const W: usize>(area: &[u8], count: u16) -> Option<Vec<[u16; W]>> {
-    let (used, rest) = area.split_at_checked(2 * W * count as usize)?;
+/// The records of an area that the header counts, if it has so many and zeros behind them.
+fn records<const W: usize>(block: &[u8], area: Area) -> Option<Vec<[u16; W]>> {
+    let count = u16::from_le_bytes([block[area.count_at()], block[area.count_at() + 1]]);
+    let (used, rest) = block[area.bytes()].split_at_checked(2 * W * count as usize)?;
     let word = |record: &[u8], at: usize| u16::from_le_bytes([record[2 * at], record[2 * at + 1]]);
     let record = |record: &[u8]| std::array::from_fn(|at| word(record, at));
     is_zero(rest).then(|| used.chunks_exact(2 * W).map(record).collect())

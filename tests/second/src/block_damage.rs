@@ -1,5 +1,6 @@
 //! Random damage to a state block. Unlike damage to a script it often leaves a block that is
 //! still well formed, so each kind of edit is named and a test can count what became of it.
+//! Each says what it may lead to, and `parts` says it of the words that it has changed.
 
 use crate::block::{value_words, Area};
 use crate::damage::{edit_byte, set_word, word};
@@ -13,25 +14,63 @@ pub enum Edit {
     /// Any byte of the block, or of a record in use.
     Byte,
     /// A count of the header off by one.
-    Count,
+    Count(Area),
     /// One word of a record in use gets a new value.
     Word { area: Area, column: usize },
     /// A value becomes another, or one of its three words does.
     Value { area: Area, damage: ValueDamage },
     /// The class of an object or the type of a binding becomes another, often one of the last numbers: a class, Int, no type.
-    Type,
+    Type(Area),
     /// The class of an object or the type of a binding gets another high byte, which no type has.
-    HighByte,
+    HighByte(Area),
+    /// An object is shut that was open, or the other way round, or it is neither.
+    Lock,
     /// Two records of an area exchange a word, or all words.
-    Exchange,
+    Exchange(Area),
     /// A record goes or comes twice, with its count.
-    Record,
+    Record(Area),
     /// A position or frame gets the node and environment of another.
     Closure,
     /// A position becomes a thread of another kind, with the frames it has.
     Focus,
-    /// A word behind the records, or behind the areas, is no longer 0.
-    Unused,
+    /// A word behind the records of an area is no longer 0.
+    Unused(Area),
+    /// A word behind the areas is no longer 0.
+    Rest,
+}
+
+impl Edit {
+    /// What may be answered about a block that was well formed before it, by the area that it keeps to.
+    pub fn answers(self) -> &'static [u16] {
+        match self {
+            Edit::Byte => &[0, 21, 26, 27],
+            Edit::Lock => &[0, 21, 27],
+            Edit::Count(Area::Objects) | Edit::HighByte(Area::Objects) | Edit::Unused(Area::Objects) => &[21],
+            Edit::HighByte(_) | Edit::Unused(Area::Bindings) => &[26],
+            Edit::Count(Area::Positions | Area::Frames) | Edit::Record(Area::Positions | Area::Frames) => &[27],
+            Edit::Unused(_) | Edit::Rest => &[27],
+            Edit::Closure | Edit::Focus => &[0, 27],
+            Edit::Value { area, damage } => match (area, damage) {
+                (Area::Objects, ValueDamage::Kind) => &[21],
+                (Area::Objects, _) => &[0, 21],
+                (Area::Bindings, ValueDamage::Kind) => &[26],
+                (Area::Bindings, _) => &[0, 26],
+                (_, ValueDamage::Kind) => &[27],
+                _ => &[0, 27],
+            },
+            Edit::Count(area) | Edit::Word { area, .. } | Edit::Type(area) => within(area),
+            Edit::Exchange(area) | Edit::Record(area) => within(area),
+        }
+    }
+}
+
+/// What damage to an area may lead to: other parts see what its records are, but no earlier one does.
+fn within(area: Area) -> &'static [u16] {
+    match area {
+        Area::Objects => &[0, 21, 26, 27],
+        Area::Bindings => &[0, 26, 27],
+        Area::Positions | Area::Frames => &[0, 27],
+    }
 }
 
 /// What a value becomes.
@@ -61,40 +100,49 @@ impl ValueDamage {
 
 /// A random edit of a block whose script has this type as its last, Int. It is not made where the block has no record for it.
 pub fn damage(block: &mut [u8], int: Type, rng: &mut Rng) -> Option<Edit> {
-    let area = rng.pick(&Area::ALL)?;
-    let edit = match rng.below(26) {
-        0 | 22 => Edit::Byte,
-        23 | 24 => Edit::Type,
-        25 => Edit::HighByte,
-        1 => Edit::Count,
-        2 | 3 => Edit::Exchange,
-        4 | 5 => Edit::Record,
-        6 => Edit::Unused,
-        7 | 8 => Edit::Closure,
-        9 => Edit::Focus,
-        10..=15 => Edit::Value {
-            area: [Area::Objects, Area::Bindings, Area::Positions][rng.below(3)],
-            damage: rng.pick(&ValueDamage::ALL)?,
-        },
-        _ => Edit::Word { area, column: rng.below(area.width()) },
-    };
+    let edit = some_edit(rng)?;
     match edit {
-        Edit::Byte => change_byte(block, area, rng),
-        Edit::Count => add(block, area.count_at(), if rng.one_in(2) { 1 } else { u16::MAX }),
-        Edit::Word { column, .. } => {
+        Edit::Byte => change_byte(block, rng)?,
+        Edit::Count(area) => add(block, area.count_at(), if rng.one_in(2) { 1 } else { u16::MAX }),
+        Edit::Word { area, column } => {
             let record = some_record(block, area, rng)?;
             change_word(block, area, record.start + 2 * column, column, rng)?;
         }
         Edit::Value { area, damage } => change_value(block, area, damage, rng)?,
-        Edit::Type => change_type(block, int, rng)?,
-        Edit::HighByte => change_high_byte(block, rng)?,
-        Edit::Exchange => exchange(block, area, rng)?,
-        Edit::Record => remove_or_repeat(block, area, rng)?,
+        Edit::Type(area) => change_type(block, area, int, rng)?,
+        Edit::HighByte(area) => change_high_byte(block, area, rng)?,
+        Edit::Lock => change_lock(block, rng)?,
+        Edit::Exchange(area) => exchange(block, area, rng)?,
+        Edit::Record(area) => remove_or_repeat(block, area, rng)?,
         Edit::Closure => copy_closure(block, rng)?,
         Edit::Focus => change_focus(block, rng)?,
-        Edit::Unused => fill_unused(block, area, rng)?,
+        Edit::Unused(area) => fill(block, used(block, area).end..area.bytes().end, rng)?,
+        Edit::Rest => fill(block, Area::Frames.bytes().end..block.len(), rng)?,
     }
     Some(edit)
+}
+
+fn some_edit(rng: &mut Rng) -> Option<Edit> {
+    let area = rng.pick(&Area::ALL)?;
+    let store = rng.pick(&[Area::Objects, Area::Bindings])?;
+    Some(match rng.below(28) {
+        0 | 1 => Edit::Byte,
+        2 | 3 => Edit::Type(store),
+        4 => Edit::HighByte(store),
+        5 => Edit::Count(area),
+        6 | 7 => Edit::Exchange(area),
+        8 | 9 => Edit::Record(area),
+        10 => Edit::Unused(area),
+        11 => Edit::Rest,
+        12 | 13 => Edit::Closure,
+        14 => Edit::Focus,
+        15 => Edit::Lock,
+        16..=21 => Edit::Value {
+            area: rng.pick(&[Area::Objects, Area::Bindings, Area::Positions])?,
+            damage: rng.pick(&ValueDamage::ALL)?,
+        },
+        _ => Edit::Word { area, column: rng.below(area.width()) },
+    })
 }
 
 /// The bytes of the records that the header counts, as far as the area reaches.
@@ -114,12 +162,14 @@ fn some_record(block: &[u8], area: Area, rng: &mut Rng) -> Option<Range<usize>> 
     (records > 0).then_some(start..start + width)
 }
 
-fn change_byte(block: &mut [u8], area: Area, rng: &mut Rng) {
+fn change_byte(block: &mut [u8], rng: &mut Rng) -> Option<()> {
+    let area = rng.pick(&Area::ALL)?;
     let within = match some_record(block, area, rng) {
         Some(record) if !rng.one_in(3) => record,
         _ => 0..block.len(),
     };
     edit_byte(&mut block[within], rng);
+    Some(())
 }
 
 /// A number near the old one, a small or any number, or that of another record; always another.
@@ -138,26 +188,28 @@ fn change_word(block: &mut [u8], area: Area, at: usize, column: usize, rng: &mut
     (new != old).then_some(())
 }
 
-/// A record of an object or a binding, and where its class or its type is.
-fn some_type(block: &[u8], rng: &mut Rng) -> Option<(Area, Range<usize>, usize)> {
-    let area = [Area::Objects, Area::Bindings][rng.below(2)];
-    let record = some_record(block, area, rng)?;
-    let at = if area == Area::Objects { record.start } else { record.start + 2 };
-    Some((area, record, at))
+/// Where in a record the class of an object or the type of a binding is.
+fn type_at(area: Area) -> usize {
+    if area == Area::Objects {
+        0
+    } else {
+        2
+    }
 }
 
-fn change_high_byte(block: &mut [u8], rng: &mut Rng) -> Option<()> {
-    let (_, _, at) = some_type(block, rng)?;
-    block[at + 1] ^= 1 + rng.below(255) as u8;
+fn change_high_byte(block: &mut [u8], area: Area, rng: &mut Rng) -> Option<()> {
+    let record = some_record(block, area, rng)?;
+    block[record.start + type_at(area) + 1] ^= 1 + rng.below(255) as u8;
     Some(())
 }
 
-/// An object's values often become zeros, since only they fit a class without fields; a binding's becomes a number or null.
-fn change_type(block: &mut [u8], int: Type, rng: &mut Rng) -> Option<()> {
-    let (area, record, at) = some_type(block, rng)?;
-    let values = record.start + 4;
+/// Often that of another record. An object's values often become zeros, since only they fit a class without fields; a binding's
+/// becomes a number or null.
+fn change_type(block: &mut [u8], area: Area, int: Type, rng: &mut Rng) -> Option<()> {
+    let (record, other) = (some_record(block, area, rng)?, some_record(block, area, rng)?);
+    let (at, values) = (record.start + type_at(area), record.start + 4);
     let (old, any) = (word(block, at), rng.below(int as usize + 1) as Type);
-    let new = [int - 1, int, int, int + 1, any][rng.below(5)];
+    let new = [int - 1, int, int + 1, any, word(block, other.start + type_at(area))][rng.below(5)];
     if new == old {
         return None;
     }
@@ -170,6 +222,14 @@ fn change_type(block: &mut [u8], int: Type, rng: &mut Rng) -> Option<()> {
         }
         _ => {}
     }
+    Some(())
+}
+
+/// The second word of an object.
+fn change_lock(block: &mut [u8], rng: &mut Rng) -> Option<()> {
+    let at = some_record(block, Area::Objects, rng)?.start + 2;
+    let other = 1 - word(block, at).min(1);
+    set_word(block, at, if rng.one_in(4) { 2 + rng.word() / 2 } else { other });
     Some(())
 }
 
@@ -244,14 +304,12 @@ fn change_focus(block: &mut [u8], rng: &mut Rng) -> Option<()> {
     Some(())
 }
 
-fn fill_unused(block: &mut [u8], area: Area, rng: &mut Rng) -> Option<()> {
-    let behind_records = used(block, area).end..area.bytes().end;
-    let behind_areas = Area::Frames.bytes().end..block.len();
-    let rest = if rng.one_in(2) { behind_records } else { behind_areas };
-    if rest.is_empty() {
+/// One of these words, which are 0, becomes another.
+fn fill(block: &mut [u8], words: Range<usize>, rng: &mut Rng) -> Option<()> {
+    if words.is_empty() {
         return None;
     }
-    let at = rest.start + 2 * rng.below(rest.len() / 2);
+    let at = words.start + 2 * rng.below(words.len() / 2);
     set_word(block, at, 1 + rng.word() / 2);
     Some(())
 }

@@ -4,7 +4,7 @@ use crate::block;
 use crate::machine::Machine;
 use crate::program::Program;
 use crate::state::State;
-use crate::wellformed::well_formed;
+use crate::wellformed::state_of;
 use crate::{Question, Refusal};
 
 /// "Is the choice list at most 4,096 bytes (Run), or the flag buffer exactly 63 (Offer)?"
@@ -84,14 +84,13 @@ fn try_run(script: &[u8], lent: &mut [u8], choices: &[u8]) -> Result<RunReply, R
     Ok(RunReply { number: 0, place: 0, stop: outcome.stop as u16, read: outcome.read, moves: outcome.moves })
 }
 
-/// Questions 20, 22 and 21, in document 01's order.
+/// Questions 20 and 22, in document 01's order, and then 21, 26 and 27.
 fn open<'p>(program: &'p Program, lent: &[u8], other_buffer_fits: bool) -> Result<Machine<'p>, Refusal> {
     has_length(lent)?;
     if !other_buffer_fits {
         return Err(Refusal { question: Question::BufferLength, place: 0 });
     }
-    let state = block::read(lent, &program.types).filter(|state| well_formed(program, state));
-    let state = state.ok_or(Refusal { question: Question::WellFormed, place: 0 })?;
+    let state = state_of(program, lent).map_err(|question| Refusal { question, place: 0 })?;
     Ok(Machine { program, state })
 }
 

@@ -5,6 +5,7 @@ use crate::block_damage::{damage, Edit};
 use crate::configure::configuration;
 use crate::counters::counters;
 use crate::generate::{any, long_running, well_typed, Rng};
+use crate::parts::answers;
 use crate::program::Program;
 use crate::state::State;
 use crate::types::Type;
@@ -23,6 +24,8 @@ pub enum Origin {
     Made,
     /// One of these with an edit.
     Damaged(Edit),
+    /// One of these with two edits or three.
+    DamagedAgain,
     /// A buffer of a wrong length, or a script that may be refused.
     Unfit,
 }
@@ -36,6 +39,14 @@ pub struct Case {
     /// For Offer, with bytes that it must write over or leave alone.
     pub flags: Vec<u8>,
     pub origin: Origin,
+    /// What Offer and Run may answer, where that is told: 0, or what the edits may lead to.
+    pub answers: Option<Vec<u16>>,
+}
+
+impl Case {
+    pub fn allows(&self, number: u16) -> bool {
+        self.answers.as_ref().is_none_or(|answers| answers.contains(&number))
+    }
 }
 
 /// Any case worth trying.
@@ -46,17 +57,30 @@ pub fn any_case(rng: &mut Rng) -> Case {
     let state = if made { configuration(&program, rng) } else { reachable(&program, rng) };
     let origin = if made { Origin::Made } else { Origin::Reached };
     let (choices, flags) = (choices(&program, &state, rng), vec![rng.bits() as u8; FLAGS]);
-    let mut case = Case { script, block: block::write(&state), choices, flags, origin };
+    let answers = Some(vec![0]);
+    let mut case = Case { script, block: block::write(&state), choices, flags, origin, answers };
     match rng.below(16) {
         0 => make_unfit(&mut case, program.types.int, rng),
-        1..=7 => {
-            if let Some(edit) = damage(&mut case.block, program.types.int, rng) {
-                case.origin = Origin::Damaged(edit);
-            }
-        }
+        1..=7 => make_damaged(&mut case, program.types.int, rng),
         _ => {}
     }
     case
+}
+
+fn make_damaged(case: &mut Case, int: Type, rng: &mut Rng) {
+    let before = case.block.clone();
+    let tries = [1, 1, 1, 1, 2, 3][rng.below(6)];
+    let edits: Vec<Edit> = (0..tries).filter_map(|_| damage(&mut case.block, int, rng)).collect();
+    let mut answers = answers(&case.script, &before, &case.block);
+    case.origin = match edits[..] {
+        [] => return,
+        [edit] => {
+            answers.retain(|number| edit.answers().contains(number));
+            Origin::Damaged(edit)
+        }
+        _ => Origin::DamagedAgain,
+    };
+    case.answers = Some(answers);
 }
 
 /// A choice list of any length, made to lead on from the state.
@@ -68,7 +92,7 @@ pub fn choices(program: &Program, state: &State, rng: &mut Rng) -> Vec<u8> {
 
 /// One or more of the buffers are such that a question about them gets a no.
 fn make_unfit(case: &mut Case, int: Type, rng: &mut Rng) {
-    case.origin = Origin::Unfit;
+    (case.origin, case.answers) = (Origin::Unfit, None);
     if rng.one_in(3) {
         case.script = any(rng);
     }

@@ -13,12 +13,14 @@ pub mod directed;
 pub mod expr;
 pub mod generate;
 pub mod machine;
+pub mod parts;
 pub mod print;
 pub mod program;
 pub mod script;
 mod shape;
 pub mod spelling;
 pub mod state;
+pub mod sweep;
 pub mod text;
 pub mod text_damage;
 pub mod text_limits;
@@ -30,7 +32,7 @@ pub mod wellformed;
 
 pub use calls::{check, offer, run, start, Answer, Reply, RunReply, FLAGS, MOST_CHOICES};
 
-/// The questions to a call, with the numbers that document 01 gives to a no.
+/// The questions to a call, with the numbers that document 01 and request 5 give to a no.
 #[derive(Clone, Copy, Debug, PartialEq, Eq)]
 pub enum Question {
     Length = 1,
@@ -49,8 +51,10 @@ pub enum Question {
     Fits,
     Sharing,
     BlockLength = 20,
-    WellFormed,
+    BlockObjects,
     BufferLength,
+    BlockBindings = 26,
+    BlockThreads,
 }
 
 /// A no: the question, and the offset of the lowest faulty record (0 where none is named).

@@ -112,11 +112,6 @@ impl State {
         let start = Closure { node: 0, environment: None };
         State { objects: vec![], bindings: vec![], tree: Tree::new(Focus::Node(start)) }
     }
-
-    /// The bindings of an environment, the nearest first.
-    pub fn bindings_of(&self, environment: Environment) -> impl Iterator<Item = &Binding> {
-        chain(&self.bindings, environment)
-    }
 }
 
 /// The bindings of an environment, the nearest first.

@@ -31,18 +31,23 @@ fn the_block_that_start_writes() {
 fn questions_come_in_order() {
     let (good, mut bad) = (unit_null().encode(), unit_null().encode());
     bad[24] = 0; // the start is null, with a word that should be 0
-    let mut faulty = started(&unit_null());
-    faulty[65_535] = 1;
+                 // An unused byte in no part, in the bindings' too, and in the objects' too.
+    let mut faulty = [(); 3].map(|_| started(&unit_null()));
+    faulty.iter_mut().for_each(|lent| lent[65_535] = 1);
+    faulty[1..].iter_mut().for_each(|lent| lent[37_895] = 1);
+    faulty[2][13_319] = 1;
     let (short, long) = (vec![3; block::LENGTH - 1], vec![3; block::LENGTH + 1]);
     let before_numbers = vec![0; 49_152];
-    // A refused script comes first, then the block's length, the other buffer's, and the block.
+    // A refused script comes first, then the block's length, the other buffer's, and the block's three parts.
     for (script, lent, fits, number, place) in [
         (&bad, &short, false, 7, 24),
         (&good, &short, false, 20, 0),
         (&good, &long, true, 20, 0),
         (&good, &before_numbers, true, 20, 0),
-        (&good, &faulty, false, 22, 0),
-        (&good, &faulty, true, 21, 0),
+        (&good, &faulty[2], false, 22, 0),
+        (&good, &faulty[2], true, 21, 0),
+        (&good, &faulty[1], true, 26, 0),
+        (&good, &faulty[0], true, 27, 0),
     ] {
         let mut ran = lent.clone();
         let choices = vec![0; if fits { MOST_CHOICES } else { MOST_CHOICES + 1 }];

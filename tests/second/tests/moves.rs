@@ -1,11 +1,12 @@
 //! Single moves where document 01 says more than that they are made.
 
+use second::block;
 use second::machine::{Machine, Outcome, Stop, Unmoved};
 use second::program::Program;
 use second::script::Script;
 use second::state::{Binding, Closure, Focus, Frame, State, Tree, Value};
 use second::state::{MOST_BINDINGS, MOST_FRAMES};
-use second::wellformed::well_formed;
+use second::wellformed::state_of;
 
 const I: u16 = 1;
 const C: u16 = 2;
@@ -35,7 +36,7 @@ fn after(program: &Program, choices: &[u8]) -> State {
     let mut machine = Machine { program, state: State::initial() };
     for choice in choices {
         assert_eq!(machine.step(*choice), Ok(()));
-        assert!(well_formed(program, &machine.state));
+        assert_eq!(state_of(program, &block::write(&machine.state)).as_ref(), Ok(&machine.state));
     }
     machine.state
 }

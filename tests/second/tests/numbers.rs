@@ -5,7 +5,7 @@ use second::machine::{Machine, Outcome, Stop};
 use second::program::Program;
 use second::script::{Script, Section};
 use second::state::{Binding, Closure, Focus, Frame, Object, State, Tree, Value};
-use second::wellformed::well_formed;
+use second::wellformed::state_of;
 use second::{block, check, offer, Reply, FLAGS};
 
 const I: u16 = 1;
@@ -58,7 +58,7 @@ fn result(start: &[[u16; 4]]) -> (Outcome, State) {
     let program = program(&script(start));
     let mut machine = Machine { program: &program, state: State::initial() };
     let outcome = machine.run(&[0; 200]);
-    assert!(well_formed(&program, &machine.state));
+    assert_eq!(state_of(&program, &block::write(&machine.state)).as_ref(), Ok(&machine.state));
     (outcome, machine.state)
 }
 
@@ -261,7 +261,7 @@ fn played(program: &Program, mut choose: impl FnMut(&[u8]) -> u8) -> (Stop, usiz
             return (machine.run(&[]).stop, moves, machine.state);
         }
         assert_eq!(machine.step(choose(&able)), Ok(()));
-        assert!(well_formed(program, &machine.state));
+        assert_eq!(state_of(program, &block::write(&machine.state)).as_ref(), Ok(&machine.state));
         moves += 1;
     }
 }
@@ -314,21 +314,21 @@ fn lend(script: &Script, lent: &[u8]) -> u16 {
 #[test]
 fn values_in_a_block() {
     let (int, unit) = ([constant(1)], [[7, 0, 1, 0], [0; 4]]);
-    assert_eq!([Value::Number(7), Value::Null].map(|value| at_root(&int, value)), [0, 21]);
-    assert_eq!([Value::Number(7), Value::Null].map(|value| at_root(&unit, value)), [21, 0]);
+    assert_eq!([Value::Number(7), Value::Null].map(|value| at_root(&int, value)), [0, 27]);
+    assert_eq!([Value::Number(7), Value::Null].map(|value| at_root(&unit, value)), [27, 0]);
     let script = script(&int);
     // The position's value stands at byte 37,902.
     for (words, number) in [
         ([2, 0, 0], 0),
         ([2, 65_535, 65_535], 0),
         ([2, 0, 32_768], 0),
-        ([0, 0, 0], 21), // null at Int
-        ([1, 0, 0], 21), // an object that is not there
-        ([0, 1, 0], 21),
-        ([0, 0, 1], 21),
-        ([1, 0, 1], 21),
-        ([3, 0, 0], 21),
-        ([65_535, 0, 0], 21),
+        ([0, 0, 0], 27), // null at Int
+        ([1, 0, 0], 27), // an object that is not there
+        ([0, 1, 0], 27),
+        ([0, 0, 1], 27),
+        ([1, 0, 1], 27),
+        ([3, 0, 0], 27),
+        ([65_535, 0, 0], 27),
     ] {
         let mut lent = block::write(&State { tree: Tree::new(Focus::Value(Value::Number(0))), ..State::initial() });
         for (at, word) in (37_902..).step_by(2).zip(words) {
@@ -373,7 +373,7 @@ fn numbers_fit_int_alone() {
     let nodes =
         [[5, X, 1, 2], [6, C, 0, 0], [8, 3, 5, 6], [3, X, N, 4], constant(1), constant(2), [7, INT, 7, 0], constant(3)];
     let program_script = script(&nodes);
-    let fits = |change: &dyn Fn(&mut State)| {
+    let answer = |change: &dyn Fn(&mut State)| {
         let at = |node: u16| Closure { node, environment: Some(0) };
         let sides = [3, 5].map(|node| Tree::new(Focus::Node(at(node))));
         let mut state = State {
@@ -382,28 +382,28 @@ fn numbers_fit_int_alone() {
             tree: Tree::new(Focus::Join { last: at(6), sides: Box::new(sides) }),
         };
         change(&mut state);
-        lend(&program_script, &block::write(&state)) == 0
+        lend(&program_script, &block::write(&state))
     };
-    assert!(fits(&|_| {}));
-    let field = |index: usize, value: Value| fits(&|state| state.objects[0].fields[index] = value);
+    assert_eq!(answer(&|_| {}), 0);
+    let field = |index: usize, value: Value| answer(&|state| state.objects[0].fields[index] = value);
     let (null, number, object) = (Value::Null, Value::Number(9), Value::Object(0));
-    assert_eq!([null, number, object].map(|value| field(0, value)), [false, true, false]); // Int
-    assert_eq!([null, number, object].map(|value| field(1, value)), [true, false, false]); // Unit
-    assert_eq!([null, number, object].map(|value| field(2, value)), [true, false, true]); // I
+    assert_eq!([null, number, object].map(|value| field(0, value)), [21, 0, 21]); // Int
+    assert_eq!([null, number, object].map(|value| field(1, value)), [0, 21, 21]); // Unit
+    assert_eq!([null, number, object].map(|value| field(2, value)), [0, 21, 0]); // I
     let binds =
-        |ty: u16, value: Value| fits(&|state| state.bindings.push(Binding { name: Y, ty, value, beneath: Some(0) }));
-    assert_eq!([null, number, object].map(|value| binds(INT, value)), [false, true, false]);
-    assert_eq!([null, number, object].map(|value| binds(C, value)), [true, false, true]);
-    let side = |focus: Focus| fits(&|state| state.tree.position_mut(1).expect("the left side").focus = focus.clone());
-    assert!([null, number, object].into_iter().all(|value| side(Focus::Value(value)))); // anything at an async
+        |ty: u16, value: Value| answer(&|state| state.bindings.push(Binding { name: Y, ty, value, beneath: Some(0) }));
+    assert_eq!([null, number, object].map(|value| binds(INT, value)), [26, 0, 26]);
+    assert_eq!([null, number, object].map(|value| binds(C, value)), [0, 26, 0]);
+    let side = |focus: Focus| answer(&|state| state.tree.position_mut(1).expect("the left side").focus = focus.clone());
+    assert_eq!([null, number, object].map(|value| side(Focus::Value(value))), [0, 0, 0]); // anything at an async
     let waits = |frame: Frame, value: Value| {
-        fits(&|state| {
+        answer(&|state| {
             *state.tree.position_mut(1).expect("the left side") =
                 Tree { frames: vec![frame], focus: Focus::Value(value) };
         })
     };
     let write = Frame::Waiting(Closure { node: 3, environment: Some(0) });
-    assert_eq!([null, number, object].map(|value| waits(write, value)), [false, true, false]);
+    assert_eq!([null, number, object].map(|value| waits(write, value)), [27, 0, 27]);
     let cast = Frame::Cast { node: 6 };
-    assert_eq!([null, number, object].map(|value| waits(cast, value)), [false, true, false]);
+    assert_eq!([null, number, object].map(|value| waits(cast, value)), [27, 0, 27]);
 }

@@ -1,6 +1,7 @@
 //! How often what request 2 adds comes up in the cases that the engine is compared on: refusals of scripts, moves, and
 //! damage to the values of blocks. With `--nocapture` it prints the numbers.
 
+use second::block::Area;
 use second::block_damage::{Edit, ValueDamage};
 use second::cases::{any_case, Origin};
 use second::expr::{Expr, NUMBER, SUM};
@@ -9,7 +10,8 @@ use second::machine::Machine;
 use second::program::Program;
 use second::script::{Script, Section};
 use second::state::{Focus, State, Value};
-use second::{block, check, offer, Reply};
+use second::wellformed::state_of;
+use second::{check, offer, Reply};
 use std::collections::BTreeMap;
 
 const CASES: u32 = 20_000;
@@ -123,7 +125,7 @@ fn moves() {
             continue;
         }
         let Ok(program) = Program::read(&case.script) else { unreachable!("these scripts are accepted") };
-        let state = block::read(&case.block, &program.types).expect("these blocks are in order");
+        let state = state_of(&program, &case.block).expect("these blocks are well formed");
         let numbers = state.bindings.iter().filter(|binding| matches!(binding.value, Value::Number(_))).count();
         let is_number = |value: &Value| matches!(value, Value::Number(_));
         tally.count("a block with a binding of a number", numbers > 0);
@@ -150,25 +152,27 @@ fn damaged_values() {
         let case = any_case(&mut rng);
         let number = offer(&case.script, &case.block, &mut case.flags.clone()).number;
         tally.count("20: a block of 49,152 bytes", number == 20 && case.block.len() == 49_152);
-        tally
-            .count("21: a type with another high byte", case.origin == Origin::Damaged(Edit::HighByte) && number == 21);
+        let high_byte = |area: Area| case.origin == Origin::Damaged(Edit::HighByte(area));
+        tally.count("21: a class with another high byte", number == 21 && high_byte(Area::Objects));
+        tally.count("26: a type with another high byte", number == 26 && high_byte(Area::Bindings));
         let Origin::Damaged(Edit::Value { damage, .. }) = case.origin else { continue };
+        let is_refused = [21, 26, 27].contains(&number);
         for (wanted, refused, accepted) in [
-            (ValueDamage::Null, "21: null at Int", "null in place of an object or a number"),
+            (ValueDamage::Null, "refused: null at Int", "null in place of an object or a number"),
             (
                 ValueDamage::Object,
-                "21: an object that does not fit, or is not there",
+                "refused: an object that does not fit, or is not there",
                 "an object in place of another value",
             ),
-            (ValueDamage::Number, "21: a number that does not fit", "a number in place of another value"),
-            (ValueDamage::Word(1), "21: a value's low word", "a value's low word, and it still fits"),
-            (ValueDamage::Word(2), "21: a value's high word", "a value's high word, and it still fits"),
+            (ValueDamage::Number, "refused: a number that does not fit", "a number in place of another value"),
+            (ValueDamage::Word(1), "refused: a value's low word", "a value's low word, and it still fits"),
+            (ValueDamage::Word(2), "refused: a value's high word", "a value's high word, and it still fits"),
         ] {
-            tally.count(refused, damage == wanted && number == 21);
+            tally.count(refused, damage == wanted && is_refused);
             tally.count(accepted, damage == wanted && number == 0);
         }
-        tally.count("21: a kind of 3 or more", damage == ValueDamage::Kind && number == 21);
-        tally.count("21: a value's first word", damage == ValueDamage::Word(0) && number == 21);
+        tally.count("refused: a kind of 3 or more", damage == ValueDamage::Kind && is_refused);
+        tally.count("refused: a value's first word", damage == ValueDamage::Word(0) && is_refused);
     }
-    tally.is_often(14);
+    tally.is_often(15);
 }

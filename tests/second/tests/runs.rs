@@ -4,6 +4,7 @@ use second::cases::{any_case, Case, Origin};
 use second::generate::Rng;
 use second::program::Program;
 use second::state::{held, Focus, State};
+use second::wellformed::state_of;
 use second::{block, offer, run, Answer, RunReply, FLAGS};
 
 const CASES: usize = 700;
@@ -19,7 +20,7 @@ fn cases(seed: u64) -> impl Iterator<Item = (Case, Rng)> {
 
 fn state(case: &Case, lent: &[u8]) -> State {
     let Ok(program) = Program::read(&case.script) else { unreachable!("these scripts are accepted") };
-    block::read(lent, &program.types).expect("the block is in order")
+    state_of(&program, lent).expect("the block is well formed")
 }
 
 fn flags(case: &Case, lent: &[u8]) -> [u8; FLAGS] {
@@ -46,7 +47,7 @@ fn every_block_reads_back() {
     }
 }
 
-/// Run asks question 21 again at each call, so this is also preservation.
+/// Run asks the questions about the block again at each call, so this is also preservation.
 #[test]
 fn a_run_split_in_two_is_the_same_run() {
     for (case, mut rng) in cases(2) {

@@ -4,6 +4,7 @@ use second::block;
 use second::program::Program;
 use second::script::{Script, Section};
 use second::state::{Focus, State, Value};
+use second::wellformed::state_of;
 use second::{check, offer, run, start, Answer, Reply, RunReply, FLAGS};
 
 const I: u16 = 1;
@@ -36,7 +37,7 @@ fn runs(script: &Script, choices: &[u8]) -> (RunReply, State) {
 
 fn state(file: &[u8], lent: &[u8]) -> State {
     let Ok(program) = Program::read(file) else { unreachable!("accepted scripts can be read") };
-    block::read(lent, &program.types).expect("Run leaves a block in order")
+    state_of(&program, lent).expect("Run leaves a well-formed block")
 }
 
 /// A Run that is not refused.

@@ -2,8 +2,7 @@ use borrow.Author.Needs.{needs}
 use mathlib.Core.Path.{refl}
 use Rattle.check_call.proofs.CheckReplies.{lent, tables, type-is}
 use Rattle.typing.proofs.Exact.{outside-refused}
-use Rattle.offer_call.proofs.OfferReplies.{offer-block}
-use Rattle.offer_call.proofs.OfferReplies as replies
+use Rattle.offer_call.proofs.OfferReplies as laws
 use Rattle.offer_call.proofs.offer.Statement.{statement}
 use Rattle.offer_call.proofs.offer.Tie as tie
 
@@ -11,13 +10,13 @@ check-script-requires : tie.Need-check-script-requires
 check-script-requires c κs = lent
 
 returns : tie.Need-returns
-returns c = (refl, (offer-block _ _ _, replies.offer-script-refused _ _ _ _ _ _ (c .offer-refusal .ensures) (c .before .before .before .before .before .check-script .ensures .0) (c .before .before .before .before .before .check-script .ensures .1 .0) (c .before .if1 .taken)))
+returns c = (refl, (laws.offer-block _ _ _, laws.offer-script-refused _ _ _ _ _ _ (c .offer-reply .ensures) (c .before .before .before .before .before .check-script .ensures .0) (c .before .before .before .before .before .check-script .ensures .1 .0) (c .before .if1 .taken)))
 
 returns-2 : tie.Need-returns-2
-returns-2 c = (refl, (offer-block _ _ _, replies.offer-block-refused _ _ _ _ (type-is _ _ _ (c .before .before .before .before .before .before .before .check-script .ensures .0) (c .before .before .before .if1 .left) (c .before .before .before .before .before .before .before .check-script .ensures .1 .1 .0)) _ _ (c .offer-refusal2 .ensures) (c .before .before .if2 .taken) (c .before .lent-number .ensures)))
+returns-2 c = (refl, (laws.offer-block _ _ _, laws.offer-block-refused _ _ _ _ (type-is _ _ _ (c .before .before .before .before .before .before .before .check-script .ensures .0) (c .before .before .before .if1 .left) (c .before .before .before .before .before .before .before .check-script .ensures .1 .1 .0)) _ _ (c .offer-reply2 .ensures) (c .before .before .if2 .taken) (c .before .lent-number .ensures)))
 
 returns-3 : tie.Need-returns-3
-returns-3 c = (refl, (offer-block _ _ _, replies.offer-flags-refused _ _ _ _ (type-is _ _ _ (c .before .before .before .before .before .before .before .before .check-script .ensures .0) (c .before .before .before .before .if1 .left) (c .before .before .before .before .before .before .before .before .check-script .ensures .1 .1 .0)) (c .before .before .before .if2 .left) _ _ (c .offer-refusal3 .ensures) (c .before .before .if3 .taken) (c .before .lent-number2 .ensures)))
+returns-3 c = (refl, (laws.offer-block _ _ _, laws.offer-flags-refused _ _ _ _ (type-is _ _ _ (c .before .before .before .before .before .before .before .before .check-script .ensures .0) (c .before .before .before .before .if1 .left) (c .before .before .before .before .before .before .before .before .check-script .ensures .1 .1 .0)) (c .before .before .before .if2 .left) _ _ (c .offer-reply3 .ensures) (c .before .before .if3 .taken) (c .before .lent-number2 .ensures)))
 
 offer-requires : tie.Need-offer-requires
 offer-requires c κs =
@@ -27,11 +26,7 @@ offer-requires c κs =
 
 returns-4 : tie.Need-returns-4
 returns-4 c =
-    (refl, (offer-block _ _ _, replies.offer-form-refused _ _ _ _ (type-is _ _ _ (c .before .before .before .before .before .before .before .before .before .before .before .before .before .before .before .check-script .ensures .0) (c .before .before .before .before .before .before .before .before .before .before .before .if1 .left) (c .before .before .before .before .before .before .before .before .before .before .before .before .before .before .before .check-script .ensures .1 .1 .0)) (c .before .before .before .before .before .before .before .before .before .before .if2 .left) (c .before .before .before .before .before .before .before .before .before .if3 .left) (c .before .before .before .before .before .offer .result) (c .before .before .before .before .before .offer .ensures .0) (c .before .before .before .before .before .offer .ensures .1) _ _ (c .offer-refusal4 .ensures) (c .before .before .if4 .taken) (c .before .lent-number3 .ensures)))
-
-returns-5 : tie.Need-returns-5
-returns-5 c =
-    (refl, (offer-block _ _ _, replies.offer-done _ _ _ _ (type-is _ _ _ (c .before .before .before .before .before .before .before .before .before .before .before .before .before .check-script .ensures .0) (c .before .before .before .before .before .before .before .before .before .if1 .left) (c .before .before .before .before .before .before .before .before .before .before .before .before .before .check-script .ensures .1 .1 .0)) (c .before .before .before .before .before .before .before .before .if2 .left) (c .before .before .before .before .before .before .before .if3 .left) (c .before .before .before .offer .result) (c .before .before .before .offer .ensures .0) (c .before .before .before .offer .ensures .1) (c .if4 .left)))
+    (refl, (laws.offer-block _ _ _, laws.offer-part _ _ _ _ (type-is _ _ _ (c .before .before .before .before .before .before .before .before .before .before .before .before .before .check-script .ensures .0) (c .before .before .before .before .before .before .before .before .before .if1 .left) (c .before .before .before .before .before .before .before .before .before .before .before .before .before .check-script .ensures .1 .1 .0)) (c .before .before .before .before .before .before .before .before .if2 .left) _ _ (c .offer-reply4 .ensures) (c .before .before .before .before .before .before .before .if3 .left) (c .before .before .before .offer .ensures .0) (c .before .before .before .offer .ensures .1)))
 
 pub offer-spec : {M : Type 1} → statement M
 offer-spec =
@@ -52,8 +47,5 @@ offer-spec =
     (λ c. search needs)
     offer-requires
     (λ c κs. search needs)
-    (λ c κs. search needs)
     (λ c. search needs)
-    returns-4
-    (λ c. search needs)
-    returns-5)
+    returns-4)

@@ -26,10 +26,7 @@ run-requires c κs =
     ((outside-refused _ _ acc, made .0, made .1, acc), (c .before .before .before .before .if2 .left, omega arith))
 
 returns-4 : tie.Need-returns-4
-returns-4 c = (refl, (refl, laws.run-form-refused _ _ _ _ (type-is _ _ _ (c .before .before .before .before .before .before .before .before .before .before .before .before .before .before .before .before .check-script .ensures .0) (c .before .before .before .before .before .before .before .before .before .before .before .before .if1 .left) (c .before .before .before .before .before .before .before .before .before .before .before .before .before .before .before .before .check-script .ensures .1 .1 .0)) (c .before .before .before .before .before .before .before .before .before .before .before .if2 .left) (omega arith) _ (c .before .before .before .before .before .before .run .ensures) _ _ (c .run-refusal4 .ensures) (c .before .before .if4 .taken) (c .before .lent-number3 .ensures)))
-
-returns-5 : tie.Need-returns-5
-returns-5 c = (refl, (refl, laws.run-done _ _ _ _ (type-is _ _ _ (c .before .before .before .before .before .before .before .before .before .before .before .before .before .before .before .check-script .ensures .0) (c .before .before .before .before .before .before .before .before .before .before .before .if1 .left) (c .before .before .before .before .before .before .before .before .before .before .before .before .before .before .before .check-script .ensures .1 .1 .0)) (c .before .before .before .before .before .before .before .before .before .before .if2 .left) (omega arith) _ (c .before .before .before .before .before .run .ensures) _ (c .run-reply .ensures) (c .before .if4 .left)))
+returns-4 c = (refl, (refl, laws.run-part _ _ _ _ (type-is _ _ _ (c .before .before .before .before .before .before .before .before .before .before .before .before .before .check-script .ensures .0) (c .before .before .before .before .before .before .before .before .before .if1 .left) (c .before .before .before .before .before .before .before .before .before .before .before .before .before .check-script .ensures .1 .1 .0)) (c .before .before .before .before .before .before .before .before .if2 .left) _ (c .before .before .before .run .result) (c .run-reply .ensures) (omega arith) (c .before .before .before .run .ensures)))
 
 pub run-spec : {M : Type 1} → statement M
 run-spec =
@@ -50,9 +47,5 @@ run-spec =
     (λ c. search needs)
     run-requires
     (λ c κs. search needs)
-    (λ c κs. search needs)
     (λ c. search needs)
-    returns-4
-    (λ c κs. search needs)
-    (λ c. search needs)
-    returns-5)
+    returns-4)

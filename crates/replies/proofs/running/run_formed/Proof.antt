@@ -7,7 +7,7 @@ run-choices-requires : tie.Need-run-choices-requires
 run-choices-requires c κs = ((c .before .before .before .before .before .before .before .before .pre .0, laws.run-block-standing (c .before .before .before .before .before .before .before .before .pre .1)), c .before .before .before .before .before .before .before .before .pre .2)
 
 returns : tie.Need-returns
-returns c = λ x. laws.reported x _ (c .before .before .before .before .before .before .before .run-choices .ensures .0 (laws.run-block-standing x)) _ (c .before .before .stop-number .ensures)
+returns c = λ x. laws.replied x _ (c .before .before .before .before .before .before .before .run-choices .ensures .0 (laws.run-block-standing x)) _ (c .before .before .stop-number .ensures)
 
 pub run-formed-spec : {M : Type 1} → statement M
 run-formed-spec =

@@ -1,4 +1,4 @@
--- What the test of the stores leaves to rely on: links run to earlier bindings, and every binding has a type. So a block in order that passes it is ready for the walk over its tree.
+-- What the test of the bindings leaves to rely on: links run to earlier bindings, and every binding has a type. So a block in order that passes it is ready for the walk over its tree.
 use mathlib.Core.Path.{_≡_, sym, ap, _∙_}
 use mathlib.Core.Bool.{Bool, true, _&&_, and-eq-true-iff}
 use mathlib.Core.List.{List}
@@ -8,20 +8,18 @@ use native.Mathlib.Decide.{ℕ-discrete}
 use borrow.Author.Tests.{leb-true}
 use lib.Dec.{leb, ltb}
 use lib.ListN.{length}
-use Rattle.script.specs.Questions.{allOf}
 use Rattle.script.specs.Syntax.{intOf}
 use Rattle.script.specs.Regular.{IsType}
 use Rattle.script.specs.Reading.{programOf}
 use Rattle.machine.specs.Config.{Code, codeOf, Object, Binding}
 use Rattle.machine.specs.declared.Want.the-variants.{Upto as upto}
-use Rattle.typing.specs.Members.{fieldsOf}
 use Rattle.machine.specs.Machine.{fieldCount}
-use Rattle.machine.specs.Decide.{valueFitsTest, isClassTest, fieldsTest, bindingTest, bindingsTest, storesTest}
+use Rattle.machine.specs.Decide.{valueFitsTest, bindingTest, bindingsTest}
 use Rattle.block.specs.declared.Area.the-variants.{Bindings}
 use Rattle.block.specs.Layout.{wordIn, TYPE, LINK}
 use Rattle.environments.specs.Chains.{bindingCount, bindingAt, newest, bindingsIn}
 use Rattle.environments.proofs.ChainLaws.{length-newest}
-use Rattle.frames.specs.Expecting.{configRead}
+use Rattle.parts.specs.Parts.{configRead, objectsIn}
 use Rattle.values.proofs.ReadLaws.{bindings-read}
 
 -- one binding that passes, and binding i of bindings that all pass
@@ -42,12 +40,8 @@ each-passed s xs f (suc n) h i l =
       | no q ↦ each-passed s xs f n (all .1) i (omega arith)
     ]
 
-pub stores-passed : (s b : List ℕ) → storesTest (codeOf s) (configRead s b .stores) ≡ true
+pub bindings-passed : (s b : List ℕ) → bindingsTest (codeOf s) (objectsIn s b) (configRead s b .stores .bindings) ≡ true
     → (i : ℕ) → i < bindingCount b → (wordIn b Bindings i LINK ≤ i) × IsType (programOf s) (wordIn b Bindings i TYPE)
 unfolding bindingsIn
-stores-passed s b h =
-    let st = configRead s b .stores in
-    let fields : Bool = allOf (λ x. fieldsTest (codeOf s) (st .objects) (fieldsOf (programOf s) (x .class)) (x .fields)) (st .objects) in
-    let heap = and-eq-true-iff (allOf (isClassTest (codeOf s)) (st .objects)) (fields && bindingsTest (codeOf s) (st .objects) (st .bindings)) .0 h in
-    each-passed (codeOf s) (st .objects) (bindingAt b) (bindingCount b)
-    (ap (bindingsTest (codeOf s) (st .objects)) (sym (bindings-read (fieldCount s) b)) ∙ and-eq-true-iff fields (bindingsTest (codeOf s) (st .objects) (st .bindings)) .0 (heap .1) .1)
+bindings-passed s b h =
+    each-passed (codeOf s) (objectsIn s b) (bindingAt b) (bindingCount b) (ap (bindingsTest (codeOf s) (objectsIn s b)) (sym (bindings-read (fieldCount s) b)) ∙ h)

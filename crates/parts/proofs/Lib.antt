@@ -1,0 +1,3 @@
+pub mod AllAreas
+pub mod Areas
+pub mod Parts
