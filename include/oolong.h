@@ -122,7 +122,7 @@ enum oolong_number {
                                    (place: its first token, which is its minus if it has one): the lowest of these places */
 };
 
-/* Up to version 2 this was the number of every block that is no well-formed state of the script. Now it is that of bad objects only, and compilers that can warn of its use: a program that wants
+/* Up to version 2 this was the number of every block that is no well-formed state of the script. Now it is that of bad objects only, and gcc and clang warn of its use: a program that wants
  * to know whether a save is damaged asks OOLONG_IS_BLOCK_FAULT instead. */
 #if defined(__clang__) || __GNUC__ >= 6
 #define OOLONG_OLD_NAME(text) __attribute__((__deprecated__(text)))

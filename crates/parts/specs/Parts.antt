@@ -50,8 +50,8 @@ pub record ThreadsOk (fieldCount : ℕ → ℕ) (b : List ℕ) : Type 0 where
   pub all-frames : FramesAdd b
   pub rest : Unused (wordsOf b) END WORDS
 
--- "27 frames, threads and which objects are shut, after 26": their bytes are in order, the tree is typed up to the start's type t, and the shut objects are
--- those of the lock frames, as `WfConfig` has it word for word.
+-- "27 frames, threads and which objects are shut, after 26": their bytes are in order, the tree is typed up to the start's type t, "all lock frames name
+-- distinct objects, each of them shut", and "With no failed thread no other objects are shut." The last three are WF-CFG's, as `WfConfig` has them.
 pub record ThreadsAre (s : List ℕ) (t : ℕ) (b : List ℕ) : Type 0 where
   -- a list of numbers that are bytes, as every lent buffer is
   pub small : (i : ℕ) → getD b i 0 < 256
@@ -60,7 +60,8 @@ pub record ThreadsAre (s : List ℕ) (t : ℕ) (b : List ℕ) : Type 0 where
   pub distinct : (o : ℕ) → lockCount o (configRead s b .tree) ≤ shutAt (objectsIn s b) o
   pub covered : failures (configRead s b .tree) ≡ 0 → (o : ℕ) → shutAt (objectsIn s b) o ≤ lockCount o (configRead s b .tree)
 
--- The first two, computed. Words that must be 0; a value's words; and an object's, as `ObjectOk` has them.
+-- The first two, computed (`decides-objects`, `decides-bindings`). First words that must be 0, the words of a value, and those of an object: `Unused`,
+-- `ValueOk`, `ObjectOk`.
 abbrev pub zerosTest : (ℕ → ℕ) → ℕ → ℕ → Bool
 zerosTest w from to = allOf (λ x. eqb x 0) (run w from (to - from))
 
@@ -82,6 +83,7 @@ areaTest ok b a =
 abbrev pub objectsTest : Code → List Object → Bool
 objectsTest s xs = allOf (isClassTest s) xs && allOf (λ x. fieldsTest s xs (fieldsOf (s .program) (x .class)) (x .fields)) xs
 
+-- `ObjectsAre`, and `BindingsAre` where the objects are sound.
 unfoldable pub objectsSound : List ℕ → List ℕ → Bool
 objectsSound s b = areaTest (objectOkTest (fieldCount s)) b Objects && objectsTest (codeOf s) (objectsIn s b)
 
