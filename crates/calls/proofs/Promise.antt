@@ -5,6 +5,7 @@ use lib.ListN.{getD}
 use Rattle.typing.proofs.Exact.{exact, outside-refused, refused-exact}
 use Rattle.machine.specs.Machine.{limits}
 use Rattle.published.proofs.Traces.{silent-bound, initial-reads}
+use Rattle.parts.proofs.ByBytes.{by-bytes}
 use Rattle.calls.specs.Promise.{Promise}
 use Rattle.calls.proofs.Answers.{accepts, check-answers, start-answers, offer-answers, run-answers}
 use Rattle.calls.proofs.Parts.{parts-stand}
@@ -27,6 +28,7 @@ promise s bytes =
             parts = λ acc. parts-stand acc;
             offer-part = λ acc b fl. which-part-offer s bytes acc b fl;
             run-part = λ acc b ns. which-part-run s bytes acc b ns;
+            bytes = by-bytes s;
           };
       two =
           record {

@@ -18,6 +18,7 @@ use Rattle.machine.specs.Machine.{limits, Path, initial}
 use Rattle.published.specs.ReadAs.{Reading, reading, Steps, initialReading}
 use Rattle.published.specs.Reach.{site}
 use Rattle.published.specs.Traces.{Trace, OnlySilent, silentMoves}
+use Rattle.parts.specs.ByBytes.{ByBytes}
 use Rattle.calls.specs.Calls.{checkedOf, startOf, offerOf, runOf}
 use Rattle.calls.specs.Answers.{Holds, Stands, CheckAnswers, StartAnswers, OfferAnswers, RunAnswers, PartsStand, WhichPart}
 use Rattle.calls.specs.Answers.{NotRefused, TraceOf, ReachedBy}
@@ -39,6 +40,8 @@ pub record DemandOneOf (s : List ℕ) : Type 0 where
   pub parts : {t : ℕ} → checkOf s ≡ Accepted t → {b : List ℕ} → length b ≡ BLOCK → PartsStand s t b
   pub offer-part : {t : ℕ} → checkOf s ≡ Accepted t → (b fl : List ℕ) → length b ≡ BLOCK → length fl ≡ FLAGS → WhichPart s t b (offerOf s b fl .number)
   pub run-part : {t : ℕ} → checkOf s ≡ Accepted t → (b ns : List ℕ) → length b ≡ BLOCK → length ns ≤ CHOICES → WhichPart s t b (runOf s b ns .number)
+  -- "A byte with no meaning counts with the part whose area holds it, else with 27", in plain numbers of bytes
+  pub bytes : (t : ℕ) (b : List ℕ) → ByBytes s t b
 
 pub record DemandTwoOf (s : List ℕ) : Type 0 where
   -- "A script within layout and limits is accepted exactly when OOlong's published typing rules give it a type", and no other script is

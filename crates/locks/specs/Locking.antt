@@ -48,6 +48,6 @@ kindAt b i = wordIn b Positions i KIND
 abbrev pub goesOn : ℕ → Bool
 goesOn k = not (eqb k FAILED)
 
--- What question 21 asks of the locks.
+-- What question 27 asks of the locks.
 abbrev pub locksTest : Config → Bool
 locksTest c = distinctTest (c .stores .objects) (c .tree) && coveredTest (c .stores .objects) (c .tree)

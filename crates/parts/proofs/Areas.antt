@@ -17,7 +17,7 @@ use Rattle.block.specs.Layout.{VALUE, CLASS, SHUT, fieldWord, BOUND, width, mos
 use Rattle.block.specs.Values.{valueWords, valueIn, ValueOk}
 use Rattle.block.proofs.Decode.{decides-same}
 use Rattle.representation.specs.InOrder.{Unused, ObjectOk, RecordOk, AreaOk}
-use Rattle.parts.specs.Parts.{zerosTest, valueOkTest, objectOkTest, areaTest}
+use Rattle.parts.specs.Parts.{zerosTest, valueOkTest, objectOkTest, bindingOkTest, areaTest}
 
 -- what holds of each element of a run by its number holds of each element, and back
 decides-run : {A : Type 0} (P : A → Type 0) (test : A → Bool) (f : ℕ → A) (from n : ℕ) → ((x : A) → Decides (P x) (test x))
@@ -67,5 +67,5 @@ decides-area fieldCount a ok d b =
 pub decides-objects-area : (fieldCount : ℕ → ℕ) (b : List ℕ) → Decides (AreaOk fieldCount b Objects) (areaTest (objectOkTest fieldCount) b Objects)
 decides-objects-area fieldCount b = decides-area fieldCount Objects (objectOkTest fieldCount) (decides-object fieldCount) b
 
-pub decides-bindings-area : (fieldCount : ℕ → ℕ) (b : List ℕ) → Decides (AreaOk fieldCount b Bindings) (areaTest (λ w. valueOkTest w BOUND) b Bindings)
-decides-bindings-area fieldCount b = decides-area fieldCount Bindings (λ w. valueOkTest w BOUND) (λ w. decides-value w BOUND) b
+pub decides-bindings-area : (fieldCount : ℕ → ℕ) (b : List ℕ) → Decides (AreaOk fieldCount b Bindings) (areaTest bindingOkTest b Bindings)
+decides-bindings-area fieldCount b = decides-area fieldCount Bindings bindingOkTest (λ w. decides-value w BOUND) b

@@ -1,3 +1,4 @@
 pub mod AllAreas
 pub mod Areas
+pub mod ByBytes
 pub mod Parts

@@ -1,5 +1,6 @@
 -- "Which part of the block is bad": what is asked of each of the three parts. "Objects are examined first, then bindings, then frames and threads, each part
--- assuming the earlier ones sound. A byte with no meaning counts with the part whose area holds it, else with 27."
+-- assuming the earlier ones sound. A byte with no meaning counts with the part whose area holds it, else with 27." (The record `Parts` of the crate `block` is
+-- another: the rows of its four areas.)
 use Prim.Native.Nat.{ℕ, _-_, _<_, _≤_}
 use mathlib.Core.Path.{_≡_}
 use mathlib.Core.Bool.{Bool, _&&_}
@@ -60,8 +61,8 @@ pub record ThreadsAre (s : List ℕ) (t : ℕ) (b : List ℕ) : Type 0 where
   pub distinct : (o : ℕ) → lockCount o (configRead s b .tree) ≤ shutAt (objectsIn s b) o
   pub covered : failures (configRead s b .tree) ≡ 0 → (o : ℕ) → shutAt (objectsIn s b) o ≤ lockCount o (configRead s b .tree)
 
--- The first two, computed (`decides-objects`, `decides-bindings`). First words that must be 0, the words of a value, and those of an object: `Unused`,
--- `ValueOk`, `ObjectOk`.
+-- The first two, computed (`decides-objects`, `decides-bindings`). First words that must be 0, the words of a value, those of an object, and those of a
+-- binding: `Unused`, `ValueOk`, `ObjectOk`, `RecordOk`.
 abbrev pub zerosTest : (ℕ → ℕ) → ℕ → ℕ → Bool
 zerosTest w from to = allOf (λ x. eqb x 0) (run w from (to - from))
 
@@ -72,6 +73,9 @@ abbrev pub objectOkTest : (ℕ → ℕ) → (ℕ → ℕ) → Bool
 objectOkTest fieldCount w =
     let n = fieldCount (w CLASS) in
     leb (w SHUT) 1 && (leb n CLASS-FIELDS && (allOf (valueOkTest w) (run fieldWord 0 n) && zerosTest w (fieldWord n) (width Objects)))
+
+abbrev pub bindingOkTest : (ℕ → ℕ) → Bool
+bindingOkTest w = valueOkTest w BOUND
 
 -- An area whose records are asked so: `AreaOk`.
 unfoldable pub areaTest : ((ℕ → ℕ) → Bool) → List ℕ → Area → Bool
@@ -88,4 +92,4 @@ unfoldable pub objectsSound : List ℕ → List ℕ → Bool
 objectsSound s b = areaTest (objectOkTest (fieldCount s)) b Objects && objectsTest (codeOf s) (objectsIn s b)
 
 unfoldable pub bindingsSound : List ℕ → List ℕ → Bool
-bindingsSound s b = areaTest (λ w. valueOkTest w BOUND) b Bindings && bindingsTest (codeOf s) (objectsIn s b) (configRead s b .stores .bindings)
+bindingsSound s b = areaTest bindingOkTest b Bindings && bindingsTest (codeOf s) (objectsIn s b) (configRead s b .stores .bindings)

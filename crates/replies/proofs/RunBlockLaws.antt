@@ -39,9 +39,9 @@ module _ {s b : List ℕ} (x : Runnable s b) where
       }
 
   -- what the run leaves
-  pub replied : {after : List ℕ} {q : Ran} (ns : List ℕ) → RanAs (report (codeOf s) limits (x .config) ns) after q → (number : ℕ) → number ≡ stopNumber (q .stop)
-      → Replied (ran (report (codeOf s) limits (x .config) ns)) after (record { number = 0; stop = number; read = q .read; moves = q .moves })
-  replied ns r number n = record { number = refl; stop = n ∙ ap stopNumber (r .stop); read = r .read; moves = r .moves; block = r .represents .block }
+  pub replied : {after : List ℕ} {q : Ran} (ns : List ℕ) → RanAs (report (codeOf s) limits (x .config) ns) after q → (told : ℕ) → told ≡ stopNumber (q .stop)
+      → Replied (ran (report (codeOf s) limits (x .config) ns)) after (record { number = 0; stop = told; read = q .read; moves = q .moves })
+  replied ns r told n = record { number = refl; stop = n ∙ ap stopNumber (r .stop); read = r .read; moves = r .moves; block = r .represents .block }
 
 -- a part is bad, or all are sound
 module _ (s b : List ℕ) (t : ℕ) (r : Examined) (e : partsAsked s t b ≡ examinedAs r (configRead s b)) where

@@ -35,10 +35,10 @@ fn run_formed(
 {
     let ran = runs::run_choices(s, starts, facts, table, block, choices);
     let stop = ran.stop;
-    let number = numbers::stop_number(stop);
+    let told = numbers::stop_number(stop);
     RunResult {
         number: 0,
-        stop: number,
+        stop: told,
         read: ran.read as u16,
         moves: ran.moves as u16,
     }

@@ -26,13 +26,13 @@ use Rattle.calls.specs.Calls.{configOf, offerOf, runOf}
 use Rattle.samples.specs.Samples.{configured, variable}
 
 -- J is an empty list interface (type 1), I the join of J and J (type 2), C a class of I (type 3) and D a class of J (type 4). C has a field of name 0 and
--- type C and a method of name 0 that gives back its parameter of type C. The start, of type I, is
+-- type C and a method of name 0 that gives back its parameter of type C, D a field of name 0 and type Int. The start, of type I, is
 -- let x = new C in let y = (x.0 = x) in let z = x.0(x) in fork{let w = x in (J)let v = x in null}{new D}; (I)x.
 unfoldable pub blockScript : List ℕ
 blockScript =
     bytes
-    (24 ∷ 2 ∷ 36 ∷ 0 ∷ 36 ∷ 2 ∷ 48 ∷ 1 ∷ 52 ∷ 1 ∷ 60 ∷ 19
-    ∷ 0 ∷ 0 ∷ 0 ∷ 1 ∷ 1 ∷ 1 ∷ 2 ∷ 1 ∷ 1 ∷ 1 ∷ 0 ∷ 0 ∷ 0 ∷ 3 ∷ 0 ∷ 3 ∷ 3 ∷ 14
+    (24 ∷ 2 ∷ 36 ∷ 0 ∷ 36 ∷ 2 ∷ 48 ∷ 2 ∷ 56 ∷ 1 ∷ 64 ∷ 19
+    ∷ 0 ∷ 0 ∷ 0 ∷ 1 ∷ 1 ∷ 1 ∷ 2 ∷ 1 ∷ 1 ∷ 1 ∷ 1 ∷ 0 ∷ 0 ∷ 3 ∷ 0 ∷ 5 ∷ 0 ∷ 3 ∷ 3 ∷ 14
     ∷ 5 ∷ 2 ∷ 1 ∷ 2 ∷ 6 ∷ 3 ∷ 0 ∷ 0 ∷ 5 ∷ 3 ∷ 3 ∷ 4 ∷ 3 ∷ 2 ∷ 0 ∷ 5 ∷ 5 ∷ 4 ∷ 6 ∷ 7 ∷ 1 ∷ 2 ∷ 0 ∷ 0 ∷ 4 ∷ 2 ∷ 0 ∷ 8 ∷ 8 ∷ 9 ∷ 10 ∷ 11
     ∷ 1 ∷ 2 ∷ 0 ∷ 0 ∷ 5 ∷ 5 ∷ 12 ∷ 15 ∷ 6 ∷ 4 ∷ 0 ∷ 0 ∷ 7 ∷ 2 ∷ 13 ∷ 0 ∷ 1 ∷ 2 ∷ 0 ∷ 0 ∷ 1 ∷ 2 ∷ 0 ∷ 0 ∷ 1 ∷ 1 ∷ 0 ∷ 0
     ∷ 7 ∷ 1 ∷ 16 ∷ 0 ∷ 5 ∷ 6 ∷ 17 ∷ 18 ∷ 1 ∷ 2 ∷ 0 ∷ 0 ∷ 0 ∷ 0 ∷ 0 ∷ 0 ∷ [])
@@ -51,12 +51,12 @@ pub record Judged (x : BlockCase) : Type 0 where
   pub offered : (fl : List ℕ) → length fl ≡ FLAGS → offerOf blockScript (encode (x .config)) fl .number ≡ x .number
   pub ran : (ns : List ℕ) → length ns ≤ CHOICES → runOf blockScript (encode (x .config)) ns .number ≡ x .number
 
--- An object of class C, open or shut, whose field is null, and one of class D.
+-- An object of class C, open or shut, whose field is null, and one of class D, whose field is 0.
 abbrev pub objectC : Bool → Object
 objectC b = record { class = 3; shut = b; fields = nil ∷ [] }
 
 abbrev pub objectD : Object
-objectD = record { class = 4; shut = false; fields = [] }
+objectD = record { class = 4; shut = false; fields = int (pos 0) ∷ [] }
 
 -- Environment 1: x is object 0, of type C.
 abbrev pub xOfC : List Binding
@@ -126,6 +126,11 @@ blockCases =
     record { config = configured (record { class = 3; shut = false; fields = int (pos 0) ∷ [] } ∷ []) [] failed; number = 21 } ∷
     -- a field of type C, with an object of class D
     record { config = configured (objectD ∷ record { class = 3; shut = false; fields = ref 0 ∷ [] } ∷ []) [] failed; number = 21 } ∷
+    -- a field of type C, with an object that is not there
+    record { config = configured (record { class = 3; shut = false; fields = ref 1 ∷ [] } ∷ []) [] failed; number = 21 } ∷
+    -- a field of type Int, with null and with an object
+    record { config = configured (record { class = 4; shut = false; fields = nil ∷ [] } ∷ []) [] failed; number = 21 } ∷
+    record { config = configured (record { class = 4; shut = false; fields = ref 0 ∷ [] } ∷ []) [] failed; number = 21 } ∷
     -- "frames are typed up to the start's type or below at the root": x, of type C, which is below I
     record { config = configured (objectC false ∷ []) xOfC (running 13 1 []); number = 0 } ∷
     -- the same under a cast to J, which is above I

@@ -41,6 +41,12 @@ getD-run f i zero j d h = absurd (omega arith)
 getD-run f i (suc k) zero d h = let e : i + 0 ≡ i = omega arith in rw e
 getD-run f i (suc k) (suc j) d h = let e : i + suc j ≡ i + 1 + j = omega arith in rw e (getD-run f (i + 1) k j d (omega arith))
 
+-- runs are the same where their records are
+pub run-same : {A : Type 0} (f g : ℕ → A) (i n : ℕ) → ((j : ℕ) → i ≤ j → j < i + n → f j ≡ g j) → run f i n ≡ run g i n
+unfolding run
+run-same f g i zero e = refl
+run-same f g i (suc n) e = let h = e i (omega arith) (omega arith) in let t = run-same f g (i + 1) n (λ j l u. e j (omega arith) (omega arith)) in cc
+
 -- what stands in a run is one of its records
 pub record AtIndex {A : Type 0} (f : ℕ → A) (i k : ℕ) (a : A) : Type 0 where
   pub index : ℕ

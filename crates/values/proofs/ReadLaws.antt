@@ -5,7 +5,7 @@ use mathlib.Core.Option.{none, some}
 use Prim.Native.Nat.{ℕ, zero, suc, _+_, _<_, _≤_}
 use native.Mathlib.Omega.{arith}
 use Rattle.script.specs.Lists.{run}
-use Rattle.script.proofs.Lists.{getD-run}
+use Rattle.script.proofs.Lists.{getD-run, run-same}
 use Rattle.machine.specs.Config.{Object}
 use Rattle.machine.specs.Machine.{object}
 use Rattle.block.specs.declared.Area.the-variants.{Objects, Bindings}
@@ -19,11 +19,6 @@ use Rattle.environments.specs.Chains.{bindingAt, newest, bindingsIn}
 use Rattle.values.specs.Objects.{fieldValueAt, objectAt}
 
 -- runs
-run-same : {A : Type 0} (f g : ℕ → A) (i n : ℕ) → ((j : ℕ) → i ≤ j → j < i + n → f j ≡ g j) → run f i n ≡ run g i n
-unfolding run
-run-same f g i zero e = refl
-run-same f g i (suc n) e = let h = e i (omega arith) (omega arith) in let t = run-same f g (i + 1) n (λ j l u. e j (omega arith) (omega arith)) in cc
-
 pub map-run : {A B : Type 0} (f : ℕ → A) (g : A → B) (i n : ℕ) → map g (run f i n) ≡ run (λ j. g (f j)) i n
 unfolding run
 map-run f g i zero = refl
