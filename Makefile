@@ -1,5 +1,5 @@
 # make            build/: the library, its header and the two programs, ready to take away
-# make demo       Figure 10 from its text to its number, and the programs on every sample, with what each shows
+# make demo       Figure 10 from its text to its number, what is said of a damaged save, and the programs on every sample, with what each shows
 # make test       the whole test run, which is the gate
 # make quick      for daily work: what has changed since it was last proved, proved and compiled, and the short tests; no must-fail edit
 # make install    under PREFIX (default /usr/local; each place by itself: LIBDIR, INCLUDEDIR, BINDIR, PKGCONFIGDIR, DOCDIR), in DESTDIR if it is given

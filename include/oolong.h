@@ -88,6 +88,13 @@ extern "C" {
 #define OOLONG_FRAMES_MOST 2048u     /* unfinished expressions of all threads together */
 #define OOLONG_THREADS_MOST 32u      /* threads at one time; with the joins between them at most 63 tree positions */
 
+/* gcc and clang warn of a use of the old name below. */
+#if defined(__clang__) || __GNUC__ >= 6
+#define OOLONG_OLD_NAME(text) __attribute__((__deprecated__(text)))
+#else
+#define OOLONG_OLD_NAME(text)
+#endif
+
 /* Why a call is refused: the first question, in this order, that gets a no. oolong_check asks those to 15, oolong_start these and OOLONG_NO_BLOCK_LENGTH, oolong_offer and oolong_run
  * all down to OOLONG_NO_BLOCK_THREADS; oolong_read asks the last three and no others. */
 enum oolong_number {
@@ -112,6 +119,8 @@ enum oolong_number {
     OOLONG_NO_BUFFER_LENGTH = 22,  /* there are more than 4,096 choices (oolong_run), or the flags are not 63 bytes (oolong_offer); place 0. Asked before 21 */
     OOLONG_NO_BLOCK_OBJECTS = 21,  /* the block's objects are bad: there are more than 256, a class is no class of this script, a lock word is neither 0 nor 1, a field's value is none, names no
                                       object that is there or does not fit the field's type, or an unused byte of their area is not 0; place 0 */
+    /* The old name of 21. Up to version 2 it was the number of every block that is no well-formed state of the script: OOLONG_IS_BLOCK_FAULT asks for that now. */
+    OOLONG_NO_BLOCK_FORM OOLONG_OLD_NAME("it means objects only; OOLONG_IS_BLOCK_FAULT is 1 for every bad part of a block") = OOLONG_NO_BLOCK_OBJECTS,
     OOLONG_NO_BLOCK_BINDINGS = 26, /* the objects are sound, and the variable bindings are bad: there are more than 2,048, a type is no type of this script, a value is none, names no object that
                                       is there or does not fit the type, a link does not run to an earlier binding, or an unused byte of their area is not 0; place 0 */
     OOLONG_NO_BLOCK_THREADS = 27,  /* objects and bindings are sound, and the rest is bad: the frames, the tree of threads, which objects are shut, or an unused byte of no other area; place 0 */
@@ -122,16 +131,11 @@ enum oolong_number {
                                    (place: its first token, which is its minus if it has one): the lowest of these places */
 };
 
-/* Up to version 2 this was the number of every block that is no well-formed state of the script. Now it is that of bad objects only, and gcc and clang warn of its use: a program that wants
- * to know whether a save is damaged asks OOLONG_IS_BLOCK_FAULT instead. */
-#if defined(__clang__) || __GNUC__ >= 6
-#define OOLONG_OLD_NAME(text) __attribute__((__deprecated__(text)))
-#else
-#define OOLONG_OLD_NAME(text)
-#endif
-enum { OOLONG_NO_BLOCK_FORM OOLONG_OLD_NAME("it means objects only; OOLONG_IS_BLOCK_FAULT is true for every bad block") = OOLONG_NO_BLOCK_OBJECTS };
+#undef OOLONG_OLD_NAME
 
-/* 1 if a call was refused with this number because its block is no well-formed state of the script, whichever part is bad, and else 0. The number is evaluated once. */
+/* 1 if a call was refused with this number because its block is no well-formed state of the script, whichever part is bad, and else 0. The number is evaluated once. A save that is loaded is asked
+ * about by a Run of no choice, which leaves it as it was. One of another length, since it was cut for one, gets OOLONG_NO_BLOCK_LENGTH, which is none of the three. Damage that leaves a well-formed
+ * state of the script, as another number in a field does, is not refused: keep a checksum with a save. */
 #define OOLONG_IS_BLOCK_FAULT(number) oolong_is_block_fault(number)
 
 static __inline__ int oolong_is_block_fault(unsigned number) {
@@ -257,7 +261,7 @@ static __inline__ const char *oolong_number_text(unsigned number) {
     case OOLONG_NO_BUFFER_LENGTH: return "there are more than 4,096 choices, or the flags are not 63 bytes long";
     case OOLONG_NO_BLOCK_OBJECTS: return "the block's objects are damaged, or not those of a state of this script";
     case OOLONG_NO_BLOCK_BINDINGS: return "the block's variable bindings are damaged, or not those of a state of this script";
-    case OOLONG_NO_BLOCK_THREADS: return "the block's frames, threads or locks are damaged, or not those of a state of this script";
+    case OOLONG_NO_BLOCK_THREADS: return "the block's frames, threads, locks or unused rest are damaged, or not those of a state of this script";
     case OOLONG_NO_GRAMMAR: return "the token at the place, or the end of the text, does not fit what stands before it";
     case OOLONG_NO_DECLARATION: return "a type's name is declared nowhere, or again";
     case OOLONG_NO_ROOM: return "the text is above 65,536 bytes, the buffer is not 13,592, the text has too much for one file, or an integer is out of range";

@@ -1,8 +1,8 @@
 /*
  * A converter that plays a script. `player STOP MOVES OBJECTS [NUMBER] < script` starts it, always moves the first tree position that Offer flags, and must come to that stop after that many moves
  * and with that many objects; it finishes with a number just where one is given, and with that one. Then it plays the same choices again, as many as fit into each call, and asks for every refusal
- * of Offer and Run. It prints the number that the script finished with, and else nothing unless something is wrong. `player damaged < script` plays it too, and says of its last block, kept as a save
- * and damaged in one byte, which part is bad, for each part.
+ * of Offer and Run. It prints the number that the script finished with, and else nothing unless something is wrong. `player damaged < script` plays it too, and says what
+ * a converter would of its last block, kept as a save and then damaged: in a byte of each part, cut, and, where the script finishes with a number, in that number.
  */
 #include "lent.h"
 #include "oolong.h"
@@ -192,18 +192,32 @@ static void refusals(const uint8_t *block) {
     expect_faults(block);
 }
 
-/* What a converter says of a save that is damaged: the block with a byte of each part changed. */
+/* A save is asked about by a Run of no choice, which leaves it as it was. */
+static unsigned asked(uint8_t *save, size_t size) {
+    static uint8_t kept[OOLONG_BLOCK];
+    memcpy(kept, save, size);
+    unsigned number = oolong_run(script, script_len, save, size, NULL, 0).number;
+    must(memcmp(kept, save, size) == 0, "a save is not as it was");
+    return number;
+}
+
+static void tell_changed(uint8_t *save, size_t at, unsigned wanted) {
+    save[at] ^= 1;
+    unsigned number = asked(save, OOLONG_BLOCK);
+    save[at] ^= 1;
+    must(number == wanted && OOLONG_IS_BLOCK_FAULT(number) == (wanted != OOLONG_OK), "that is not the part that is bad");
+    printf("byte %zu changed: %u: %s\n", at, number, number == OOLONG_OK ? "another state of this script, so nobody sees it but a checksum" : oolong_number_text(number));
+}
+
+/* What a converter says of a save that is damaged: the block with a byte of each part changed, cut, and with another number as its result (docs/BLOCK.md: the value of position 0). */
 static void tell_damage(uint8_t *block) {
-    static const size_t bytes[] = {13319, 37895, OOLONG_BLOCK - 1};
-    static const unsigned numbers[] = {OOLONG_NO_BLOCK_OBJECTS, OOLONG_NO_BLOCK_BINDINGS, OOLONG_NO_BLOCK_THREADS};
-    for (size_t i = 0; i < 3; i++) {
-        uint8_t flags[OOLONG_FLAGS];
-        block[bytes[i]] ^= 1;
-        unsigned number = oolong_offer(script, script_len, block, OOLONG_BLOCK, flags, sizeof flags).number;
-        block[bytes[i]] ^= 1;
-        must(OOLONG_IS_BLOCK_FAULT(number) && number == numbers[i], "that is not the part that is bad");
-        printf("byte %zu changed: a damaged save, %u: %s\n", bytes[i], number, oolong_number_text(number));
-    }
+    tell_changed(block, 13319, OOLONG_NO_BLOCK_OBJECTS);
+    tell_changed(block, 37895, OOLONG_NO_BLOCK_BINDINGS);
+    tell_changed(block, 37896, OOLONG_NO_BLOCK_THREADS);
+    unsigned number = asked(block, OOLONG_BLOCK - 1);
+    must(number == OOLONG_NO_BLOCK_LENGTH && !OOLONG_IS_BLOCK_FAULT(number), "a save that was cut is not refused by its length");
+    printf("cut: %u: %s\n", number, oolong_number_text(number));
+    if (get(block, 37902) == 2) tell_changed(block, 37904, OOLONG_OK);
 }
 
 int main(int count, char **words) {
