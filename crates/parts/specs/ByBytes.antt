@@ -44,7 +44,8 @@ pub data RestFault (b : List ℕ) : Type 0 where
 
 -- Of a script, the start's type and a block.
 pub record ByBytes (s : List ℕ) (t : ℕ) (b : List ℕ) : Type 0 where
-  -- "A byte with no meaning counts with the part whose area holds it, else with 27", and so do a count, a lock word and a value
+  -- "A byte with no meaning counts with the part whose area holds it, else with 27": where no record or no field is, and past the areas; and so do a count, a
+  -- lock word, and the value of a field or a binding
   pub object-fault : ObjectFault s b → ObjectsAre s b → ⊥
   pub binding-fault : BindingFault b → BindingsAre s b → ⊥
   pub rest-fault : RestFault b → ThreadsAre s t b → ⊥
