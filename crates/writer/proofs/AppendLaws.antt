@@ -13,10 +13,10 @@ use Rattle.rows.specs.Rows.{Item, oneMore, nodeRow, sizesOf}
 use Rattle.row_words.specs.Items.{Roled, Described, Readable, itemsOf}
 use Rattle.row_words.specs.Row.{rowOf}
 use Rattle.row_words.proofs.TokenLaws.{items-shown}
-use Rattle.writer.specs.Written.{written, Appended}
+use Rattle.row_bytes.specs.Written.{written, Appended}
 use Rattle.writer.specs.Records.{begunAmong, Unnumbered, Stretch}
 use Rattle.writer.specs.Counted.{SizesKnown, allRows}
-use Rattle.writer.proofs.WrittenLaws.{written-none, written-more, length-written}
+use Rattle.row_bytes.proofs.WrittenLaws.{written-none, written-more, length-written}
 use Rattle.writer.proofs.PlaceLaws.{Place, begun-split, begun-next, begun-all, place-next, place-before, places-count, place-at}
 use Rattle.writer.proofs.SizeLaws.{sizes-long, sizes-next}
 use Rattle.writer.proofs.RowLaws.{roled-long, rowsBetween, between-length, nodes-skipped, rows-next, rows-none}

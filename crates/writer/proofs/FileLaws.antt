@@ -15,11 +15,11 @@ use Rattle.bounds.specs.Places.{placesFrom, indexOf, RECORDS, IndexIs}
 use Rattle.rows.specs.Rows.{Item, oneMore, nodeCount, sizesOf}
 use Rattle.row_words.specs.Items.{Readable, Roled, itemsOf}
 use Rattle.row_words.proofs.TokenLaws.{items-shown}
-use Rattle.writer.specs.Written.{Appended}
+use Rattle.row_bytes.specs.Written.{Appended}
 use Rattle.writer.specs.Records.{begunAmong, Stretch}
 use Rattle.writer.specs.declared.Counts.{Counts}
 use Rattle.writer.specs.Counted.{recordsIn, CountsFit, CountsRight, Writable, SizesKnown, Prepared, startAndBodies}
-use Rattle.writer.proofs.WrittenLaws.{length-written, written-more}
+use Rattle.row_bytes.proofs.WrittenLaws.{length-written, written-more}
 use Rattle.writer.proofs.PlaceLaws.{begun-split, begun-all, places-count, index-part}
 use Rattle.writer.proofs.SizeLaws.{nested-sizes, sizes-long}
 use Rattle.writer.proofs.RowLaws.{rowsBetween, between-length, roles-from}

@@ -1,4 +1,3 @@
-pub mod WrittenLaws
 pub mod PlaceLaws
 pub mod SizeLaws
 pub mod RowLaws

@@ -26,8 +26,8 @@ use Rattle.writer.specs.Records.{begunAmong, rowIf, rowsOf}
 use Rattle.writer.specs.declared.Counts.{Counts}
 use Rattle.writer.specs.Counted.{recordsIn, CountsRight, CountsFit, TokensStand, Writable, Prepared, FileIs, contentsBy, fileWords, allRows}
 use Rattle.writer.specs.Counted.{plainRows, recordRows, startAndBodies}
-use Rattle.writer.specs.Written.{written, Appended}
-use Rattle.writer.proofs.WrittenLaws.{written-more}
+use Rattle.row_bytes.specs.Written.{written, Appended}
+use Rattle.row_bytes.proofs.WrittenLaws.{written-more}
 use Rattle.writer.proofs.PlaceLaws.{begun-all, places-count}
 use Rattle.writer.proofs.RowLaws.{roled-long, rowsBetween, rows-length, between-length}
 use Rattle.writer.proofs.AppendLaws.{items-roled}

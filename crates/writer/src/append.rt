@@ -1,5 +1,5 @@
 // The rows of a section, appended to the file in the order of the text: those of the records that begin at the tokens that `places` has.
-use crate::put::put_row;
+use row_bytes::put_row;
 use row_words::row_at;
 use script::Section;
 ghost use mathlib.Core.Path.{_≡_};
@@ -14,7 +14,7 @@ ghost use Rattle.bounds.specs.Places.{placesFrom};
 ghost use Rattle.rows.specs.Rows.{sizesOf};
 ghost use Rattle.row_words.specs.Items.{Readable, itemsOf};
 ghost use Rattle.row_words.specs.Row.{rowOf};
-ghost use Rattle.writer.specs.Written.{Appended};
+ghost use Rattle.row_bytes.specs.Written.{Appended};
 ghost use Rattle.writer.specs.Records.{Unnumbered, Stretch, begunAmong, rowsOf};
 ghost use Rattle.writer.specs.Counted.{SizesKnown, allRows};
 

@@ -1,7 +1,6 @@
 // Writes the script file of a text, from what the passes before have left of its tokens.
 mod append;
 mod file;
-mod put;
 mod sizes;
 
 pub use file::write_file;

@@ -6,7 +6,7 @@ use Rattle.limits.specs.Limits.{CONTENTS}
 use Rattle.script.specs.declared.Section.the-variants.{Interfaces as interfaces, Classes as classes}
 use Rattle.rows.specs.Rows.{sectionsWords}
 use Rattle.row_words.specs.Items.{itemsOf}
-use Rattle.writer.specs.Written.{Appended}
+use Rattle.row_bytes.specs.Written.{Appended}
 use Rattle.writer.specs.Counted.{contentsBy}
 use Rattle.writer.proofs.FileLaws.{appended-both}
 use Rattle.writer.proofs.SectionLaws.{words-fit, whole-fits, contents-long}

@@ -6,7 +6,7 @@ ghost use mathlib.Core.List.{[], _∷_};
 ghost use Prim.Native.Nat.{_+_, _*_, _≤_};
 ghost use lib.ListN.{length};
 ghost use Rattle.row_words.specs.Row.{rowWords};
-ghost use Rattle.writer.specs.Written.{written, Appended};
+ghost use Rattle.row_bytes.specs.Written.{written, Appended};
 
 fn put_pair(file: &mut [u8], at: usize, a: u16, b: u16)
     requires { ⌜ at + 4 ≤ length (now file) ⌝ }

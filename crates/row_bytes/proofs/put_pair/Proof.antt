@@ -1,7 +1,7 @@
-use Rattle.writer.proofs.WrittenLaws.{pair-put}
+use Rattle.row_bytes.proofs.WrittenLaws.{pair-put}
 use borrow.Author.Needs.{needs}
-use Rattle.writer.proofs.put.put_pair.Statement.{statement}
-use Rattle.writer.proofs.put.put_pair.Tie as tie
+use Rattle.row_bytes.proofs.put_pair.Statement.{statement}
+use Rattle.row_bytes.proofs.put_pair.Tie as tie
 
 returns : tie.Need-returns
 returns c = pair-put _ _ _ _ (c .before .before .before .before .before .before .before .before .before .pre) (c .before .before .before .before .before .before .put-word .ensures) (c .before .before .put-word2 .ensures)

@@ -3,10 +3,10 @@ use native.Mathlib.Omega.{arith}
 use lib.ListN.{length}
 use Rattle.row_words.specs.declared.Row.{Row}
 use Rattle.row_words.specs.Row.{rowWords}
-use Rattle.writer.proofs.WrittenLaws.{three-put, four-put}
+use Rattle.row_bytes.proofs.WrittenLaws.{three-put, four-put}
 use borrow.Author.Needs.{needs}
-use Rattle.writer.proofs.put.put_row.Statement.{statement}
-use Rattle.writer.proofs.put.put_row.Tie as tie
+use Rattle.row_bytes.proofs.put_row.Statement.{statement}
+use Rattle.row_bytes.proofs.put_row.Tie as tie
 
 put-pair-requires : tie.Need-put-pair-requires
 put-pair-requires c κs = omega (arith, c .before .before .before .before .before .pre, ap (λ (r : Row). length (rowWords r)) (c .before .before .row .given .1))

@@ -9,7 +9,7 @@ use lib.Seq.{length-take-le, take-at, drop-append-add, drop-drop, sets-eq}
 use Rattle.words.specs.Word.{bytes}
 use Rattle.words.proofs.Laws.{length-bytes, bytes-append}
 use Rattle.slices.specs.Put.{putWord}
-use Rattle.writer.specs.Written.{written}
+use Rattle.row_bytes.specs.Written.{written}
 
 -- no word, and one
 pub written-none : (s : List ℕ) (at : ℕ) → written s at [] ≡ s
