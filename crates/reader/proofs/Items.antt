@@ -20,7 +20,7 @@ use Rattle.rows.proofs.Zipped.{text-by}
 use Rattle.row_words.specs.Items.{amountAt, itemsOf}
 use Rattle.spellings.proofs.Places.{place-le}
 use Rattle.numbering.proofs.Distinct.{distinct-few}
-use Rattle.writer.specs.Records.{begunAmong}
+use Rattle.section_rows.specs.Records.{begunAmong}
 use Rattle.capacity.specs.Extent.{WithinLimits}
 use Rattle.capacity.proofs.Roles.{text-spelled}
 use Rattle.spelt.proofs.Spelt.{spelt}

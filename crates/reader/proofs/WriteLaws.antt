@@ -28,9 +28,10 @@ use Rattle.rows.proofs.Zipped.{text-by, before-length, items-length}
 use Rattle.row_words.specs.Items.{itemsOf}
 use Rattle.bounds.specs.declared.Counted.{Counted}
 use Rattle.bounds.specs.Counting.{countedOf}
-use Rattle.writer.specs.declared.Counts.{Counts}
-use Rattle.writer.specs.Records.{begunAmong}
-use Rattle.writer.specs.Counted.{recordsIn, Writable, contentsBy, fileWords, FileIs}
+use Rattle.section_rows.specs.declared.Counts.{Counts}
+use Rattle.section_rows.specs.Records.{begunAmong}
+use Rattle.section_rows.specs.Counted.{recordsIn}
+use Rattle.writer.specs.Files.{Writable, contentsBy, fileWords, FileIs}
 use Rattle.reader.specs.declared.Read.{Read}
 use Rattle.reader.specs.Reading.{ReadAs}
 use Rattle.reader.specs.Derived.{NumberedText}

@@ -7,7 +7,7 @@ use bounds::count_records;
 use declarations::declaration_fault;
 use numbering::Firsts;
 use numbering::link_names;
-use writer::Counts;
+use section_rows::Counts;
 use writer::write_file;
 ghost use mathlib.Core.Path.{_≡_};
 ghost use Prim.Native.Nat.{_<_, _≤_};
@@ -17,7 +17,7 @@ ghost use Rattle.grammar.specs.Read.{readOf};
 ghost use Rattle.script.specs.declared.Section.{Section};
 ghost use Rattle.tokens.specs.Kinds.{byteKinds};
 ghost use Rattle.bounds.specs.Counting.{countedOf};
-ghost use Rattle.writer.specs.Counted.{recordsIn};
+ghost use Rattle.section_rows.specs.Counted.{recordsIn};
 ghost use Rattle.reader.specs.Reading.{ReadAs};
 ghost use Rattle.reader.specs.Derived.{JudgedDerived, DeclaredText, NumberedText};
 

@@ -1,6 +1,2 @@
-pub mod PlaceLaws
-pub mod SizeLaws
-pub mod RowLaws
-pub mod AppendLaws
-pub mod FileLaws
+pub mod TableLaws
 pub mod SectionLaws

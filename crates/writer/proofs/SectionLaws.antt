@@ -22,16 +22,16 @@ use Rattle.rows.specs.Rows.{rowsWith, methodRows, nodeCount, nodeRows, sections
 use Rattle.row_words.specs.Items.{Roled, itemsOf}
 use Rattle.row_words.proofs.TokenLaws.{items-shown}
 use Rattle.row_words.specs.Row.{rowOf}
-use Rattle.writer.specs.Records.{begunAmong, rowIf, rowsOf}
-use Rattle.writer.specs.declared.Counts.{Counts}
-use Rattle.writer.specs.Counted.{recordsIn, CountsRight, CountsFit, TokensStand, Writable, Prepared, FileIs, contentsBy, fileWords, allRows}
-use Rattle.writer.specs.Counted.{plainRows, recordRows, startAndBodies}
+use Rattle.section_rows.specs.Records.{begunAmong, rowIf, rowsOf}
+use Rattle.section_rows.specs.declared.Counts.{Counts}
+use Rattle.section_rows.specs.Counted.{recordsIn, CountsRight, CountsFit, Prepared, allRows, plainRows, recordRows, startAndBodies}
+use Rattle.writer.specs.Files.{TokensStand, Writable, FileIs, contentsBy, fileWords}
 use Rattle.row_bytes.specs.Written.{written, Appended}
 use Rattle.row_bytes.proofs.WrittenLaws.{written-more}
-use Rattle.writer.proofs.PlaceLaws.{begun-all, places-count}
-use Rattle.writer.proofs.RowLaws.{roled-long, rowsBetween, rows-length, between-length}
-use Rattle.writer.proofs.AppendLaws.{items-roled}
-use Rattle.writer.proofs.FileLaws.{section-places}
+use Rattle.section_rows.proofs.PlaceLaws.{begun-all, places-count}
+use Rattle.section_rows.proofs.RowLaws.{roled-long, rowsBetween, rows-length, between-length}
+use Rattle.section_rows.proofs.AppendLaws.{items-roled}
+use Rattle.section_rows.proofs.FileLaws.{section-places}
 
 -- the same rows
 plain-rows :

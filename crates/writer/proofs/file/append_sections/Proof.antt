@@ -4,9 +4,10 @@ use native.Mathlib.Omega.{arith}
 use lib.ListN.{length}
 use Rattle.script.specs.declared.Section.the-variants.{Nodes as nodes}
 use Rattle.row_words.specs.Items.{itemsOf}
-use Rattle.writer.specs.Counted.{recordRows, startAndBodies}
-use Rattle.writer.proofs.AppendLaws.{nodes-few}
-use Rattle.writer.proofs.FileLaws.{room-first, room-second, appended-both, sized-less, section-within, section-places, own-fits, own-is}
+use Rattle.section_rows.specs.Counted.{recordRows, startAndBodies}
+use Rattle.section_rows.proofs.AppendLaws.{nodes-few}
+use Rattle.section_rows.proofs.FileLaws.{room-first, room-second, appended-both, sized-less, section-within, section-places}
+use Rattle.writer.proofs.TableLaws.{own-fits, own-is}
 use Rattle.writer.proofs.SectionLaws.{sections-from, nodes-long}
 use borrow.Author.Needs.{needs}
 use Rattle.writer.proofs.file.append_sections.Statement.{statement}

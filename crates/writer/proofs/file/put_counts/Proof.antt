@@ -1,7 +1,7 @@
 use native.Mathlib.Omega.{arith}
 use Rattle.script.specs.declared.Section.the-variants.{Interfaces as interfaces, Signatures as signatures, Classes as classes}
 use Rattle.script.specs.declared.Section.the-variants.{Fields as fields, Methods as methods, Nodes as nodes}
-use Rattle.writer.specs.Counted.{contentsBy}
+use Rattle.writer.specs.Files.{contentsBy}
 use borrow.Author.Needs.{needs}
 use Rattle.writer.proofs.file.put_counts.Statement.{statement}
 use Rattle.writer.proofs.file.put_counts.Tie as tie

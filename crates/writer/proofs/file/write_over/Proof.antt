@@ -7,8 +7,8 @@ use Rattle.script.specs.declared.Section.the-variants.{Interfaces as interfaces
 use Rattle.rows.specs.Rows.{sectionsWords}
 use Rattle.row_words.specs.Items.{itemsOf}
 use Rattle.row_bytes.specs.Written.{Appended}
-use Rattle.writer.specs.Counted.{contentsBy}
-use Rattle.writer.proofs.FileLaws.{appended-both}
+use Rattle.writer.specs.Files.{contentsBy}
+use Rattle.section_rows.proofs.FileLaws.{appended-both}
 use Rattle.writer.proofs.SectionLaws.{words-fit, whole-fits, contents-long}
 use borrow.Author.Needs.{needs}
 use Rattle.writer.proofs.file.write_over.Statement.{statement}

@@ -2,8 +2,9 @@ use mathlib.Core.Path.{sym, _∙_}
 use native.Mathlib.Omega.{arith}
 use lib.Seq.{length-take-le}
 use Rattle.script.specs.declared.Section.the-variants.{Nodes as nodes}
-use Rattle.writer.proofs.PlaceLaws.{places-count}
-use Rattle.writer.proofs.FileLaws.{part-within, part-places, tokens-roled, front-is, front-within, prepared}
+use Rattle.section_rows.proofs.PlaceLaws.{places-count}
+use Rattle.section_rows.proofs.FileLaws.{part-within, part-places}
+use Rattle.writer.proofs.TableLaws.{tokens-roled, front-is, front-within, prepared}
 use borrow.Author.Needs.{needs}
 use Rattle.writer.proofs.file.write_sections.Statement.{statement}
 use Rattle.writer.proofs.file.write_sections.Tie as tie
