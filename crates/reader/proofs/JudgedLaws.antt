@@ -18,11 +18,13 @@ use Rattle.bounds.proofs.Text.{begins-within}
 use Rattle.tokens.specs.Runs.{HASHES}
 use Rattle.judge.specs.declared.Judged.{Judged}
 use Rattle.judge.specs.Judging.{lexemesOf, JudgedAs, JudgedText}
-use Rattle.reader.specs.declared.Read.{Read}
-use Rattle.reader.specs.Reading.{ReadAs, LentToRead, cleared}
-use Rattle.reader.specs.Derived.{DerivedText, JudgedDerived}
-use Rattle.reader.proofs.Laws.{place-at, read-lengths, read-stuck}
-use Rattle.reader.proofs.PassLaws.{refusal-as}
+use Rattle.ask_limits.specs.declared.Read.{Read}
+use Rattle.ask_limits.specs.Reading.{ReadAs}
+use Rattle.reader.specs.Rooms.{LentToRead, cleared}
+use Rattle.ask_limits.specs.Derived.{DerivedText}
+use Rattle.ask_declarations.specs.Judged.{JudgedDerived}
+use Rattle.ask_limits.proofs.Laws.{place-at, read-lengths, read-stuck}
+use Rattle.ask_limits.proofs.PassLaws.{refusal-as}
 
 pub not-ok : (q : Bool) → not q ≡ true → q ≡ false
 not-ok true h = absurd (true-false (sym h))

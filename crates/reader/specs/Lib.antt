@@ -1,3 +1,1 @@
-pub mod Reading
-pub mod Numbers
-pub mod Derived
+pub mod Rooms

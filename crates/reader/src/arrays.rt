@@ -2,7 +2,7 @@
 ghost use mathlib.Core.Path.{_≡_};
 ghost use Rattle.limits.specs.Limits.{TEXT};
 ghost use Rattle.tokens.specs.Runs.{HASHES};
-ghost use Rattle.reader.specs.Reading.{TINY, SMALL, MIDDLE, cleared};
+ghost use Rattle.reader.specs.Rooms.{TINY, SMALL, MIDDLE, cleared};
 
 pub fn tiny_words() -> [u16; 256]
     ensures { λ r. ⌜ r ≡ cleared TINY ⌝ }

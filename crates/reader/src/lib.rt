@@ -1,7 +1,5 @@
 // Read: a text becomes a script file.
 mod arrays;
-mod numbers;
-mod passes;
 mod room;
 
 use crate::arrays::long_bytes;
@@ -10,15 +8,17 @@ use crate::arrays::middle_bytes;
 use crate::arrays::middle_words;
 use crate::arrays::small_bytes;
 use crate::arrays::small_words;
-use crate::passes::refusal;
 use crate::room::ask_grammar;
+use ask_limits::Read;
+use ask_limits::refusal;
 use limits::Limits;
 ghost use mathlib.Core.Path.{_≡_};
 ghost use Prim.Native.Nat.{_<_, _≤_};
 ghost use lib.ListN.{length};
 ghost use Rattle.limits.specs.Limits.{FILE, TEXT};
 ghost use Rattle.grammar.specs.Read.{readOf};
-ghost use Rattle.reader.specs.Reading.{ReadAs, SMALL, MIDDLE};
+ghost use Rattle.ask_limits.specs.Reading.{ReadAs};
+ghost use Rattle.reader.specs.Rooms.{SMALL, MIDDLE};
 
 // Arrays have room for so many tokens, or for so many bytes of a text from the second length on: the first of these that is enough, or the longest text's.
 // Clearing them takes time.
@@ -27,13 +27,6 @@ const TINY: usize = 256;
 const SMALL: usize = 4 * TINY;
 
 const MIDDLE: usize = 16 * SMALL;
-
-// What Read answers: the number of the error and its place, or 0 and 0; and how many bytes the file has.
-pub struct Read {
-    pub number: u16,
-    pub length: u16,
-    pub place: u32,
-}
 
 fn read_small(text: &[u8], file: &mut [u8]) -> Read
     requires { ⌜ (length (now text) ≤ SMALL) × (length (now file) ≡ FILE) ⌝ }

@@ -1,6 +1,5 @@
 // 34, and the arrays that the passes behind it need: room for so many tokens as there are.
 use crate::MIDDLE;
-use crate::Read;
 use crate::SMALL;
 use crate::TINY;
 use crate::arrays::long_words;
@@ -8,8 +7,9 @@ use crate::arrays::middle_words;
 use crate::arrays::no_heads;
 use crate::arrays::small_words;
 use crate::arrays::tiny_words;
-use crate::passes::ask_declarations;
-use crate::passes::refusal;
+use ask_declarations::ask_declarations;
+use ask_limits::Read;
+use ask_limits::refusal;
 use judge::judge;
 use tokens::byte_kinds;
 ghost use mathlib.Core.Path.{_≡_};
@@ -17,8 +17,9 @@ ghost use Prim.Native.Nat.{_<_, _≤_};
 ghost use Rattle.limits.specs.Limits.{TEXT};
 ghost use Rattle.grammar.specs.Read.{readOf};
 ghost use Rattle.tokens.specs.Kinds.{byteKinds};
-ghost use Rattle.reader.specs.Reading.{ReadAs, LentToRead, TINY, SMALL, MIDDLE};
-ghost use Rattle.reader.specs.Derived.{DerivedText};
+ghost use Rattle.ask_limits.specs.Reading.{ReadAs};
+ghost use Rattle.ask_limits.specs.Derived.{DerivedText};
+ghost use Rattle.reader.specs.Rooms.{LentToRead, TINY, SMALL, MIDDLE};
 
 fn number_tiny(
     kinds: &[u8; 256],

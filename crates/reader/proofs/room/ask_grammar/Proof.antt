@@ -1,6 +1,6 @@
 use native.Mathlib.Omega.{arith}
 use Rattle.reader.proofs.JudgedLaws.{judged-place, judged-refused, judged-passed, not-ok, ok}
-use Rattle.reader.proofs.PassLaws.{in-text}
+use Rattle.ask_limits.proofs.PassLaws.{in-text}
 use borrow.Author.Needs.{needs}
 use Rattle.reader.proofs.room.ask_grammar.Statement.{statement}
 use Rattle.reader.proofs.room.ask_grammar.Tie as tie

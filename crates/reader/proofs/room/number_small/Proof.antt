@@ -1,4 +1,4 @@
-use Rattle.reader.specs.Reading.{SMALL}
+use Rattle.reader.specs.Rooms.{SMALL}
 use Rattle.reader.proofs.JudgedLaws.{roomy-zeros}
 use borrow.Author.Needs.{needs}
 use Rattle.reader.proofs.room.number_small.Statement.{statement}
