@@ -17,7 +17,7 @@ use Rattle.rows.specs.Rows.{oneMore}
 use Rattle.rows.specs.Items.{itemsText}
 use Rattle.rows.specs.Zipped.{valueBy, amountBy, itemsBy}
 use Rattle.rows.proofs.Zipped.{text-by}
-use Rattle.row_words.specs.Items.{amountAt, itemsOf}
+use Rattle.token_words.specs.Items.{amountAt, itemsOf}
 use Rattle.spellings.proofs.Places.{place-le}
 use Rattle.numbering.proofs.Distinct.{distinct-few}
 use Rattle.section_rows.specs.Records.{begunAmong}

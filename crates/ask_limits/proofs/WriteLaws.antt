@@ -25,7 +25,7 @@ use Rattle.capacity.proofs.Few.{tokens-few}
 use Rattle.rows.specs.Items.{itemsText}
 use Rattle.rows.proofs.Whole.{file-words}
 use Rattle.rows.proofs.Zipped.{text-by, before-length, items-length}
-use Rattle.row_words.specs.Items.{itemsOf}
+use Rattle.token_words.specs.Items.{itemsOf}
 use Rattle.bounds.specs.declared.Counted.{Counted}
 use Rattle.bounds.specs.Counting.{countedOf}
 use Rattle.section_rows.specs.declared.Counts.{Counts}

@@ -1,11 +1,11 @@
 // Words put one after another.
-use row_words::Row;
 use slices::put_word;
+use token_words::Row;
 ghost use mathlib.Core.Path.{_≡_};
 ghost use mathlib.Core.List.{[], _∷_};
 ghost use Prim.Native.Nat.{_+_, _*_, _≤_};
 ghost use lib.ListN.{length};
-ghost use Rattle.row_words.specs.Row.{rowWords};
+ghost use Rattle.token_words.specs.Row.{rowWords};
 ghost use Rattle.row_bytes.specs.Written.{written, Appended};
 
 fn put_pair(file: &mut [u8], at: usize, a: u16, b: u16)

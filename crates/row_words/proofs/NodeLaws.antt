@@ -3,14 +3,11 @@ use mathlib.Core.Path.{_≡_, refl}
 use mathlib.Core.List.{List}
 use Prim.Native.Nat.{ℕ, zero, suc, _+_, _-_, _/_, _%_, _<_, _≤_}
 use native.Mathlib.Omega.{arith}
-use lib.ListN.{length, getD, drop, length-drop}
-use lib.Seq.{getD-drop}
 use borrow.Author.Tests.{ne-eqb}
 use Rattle.words.specs.Word.{WORD}
 use Rattle.words.specs.Integer.{LAST, bitsOf, lowWord, highWord}
 use Rattle.grammar.specs.Files.{fourWords, negated}
 use Rattle.rows.specs.Rows.{Item, rowItem, typeWord, variableWord, hop, nodeRow}
-use Rattle.row_words.specs.Items.{Nested}
 
 module _ (types n : ℕ) (sizes : List ℕ) (es : List Item) where
   abbrev Here : ℕ → Type 0
@@ -91,18 +88,6 @@ module _ (types n : ℕ) (sizes : List ℕ) (es : List Item) where
         ne-eqb _ 29 q,
         ne-eqb _ 27 p,
       )
-
--- no hop leads behind the last node
-pub nested-drop : {sizes : List ℕ} (k : ℕ) → Nested sizes → Nested (drop k sizes)
-nested-drop {sizes} k h = record { within = λ j. rw (getD-drop k sizes j 0, length-drop k sizes) (omega (arith, h .within (k + j))) }
-
-pub hop-within : (parts : ℕ) (sizes : List ℕ) → Nested sizes → hop parts sizes ≤ length sizes
-unfolding hop
-hop-within zero sizes h = omega arith
-hop-within (suc parts) sizes h =
-    let s : ℕ = getD sizes 0 0 in
-    let f : s ≤ length sizes = omega (arith, h .within 0) in
-    omega (arith, hop-within parts (drop s sizes) (nested-drop s h), length-drop s sizes)
 
 -- a number with a minus
 pub negated-bits : (a : ℕ) → (a ≡ 0 → ⊥) → LAST - (a - 1) ≡ bitsOf (negated a)

@@ -1,11 +1,12 @@
 // The rows of nodes, by the role of a node's first token.
-use crate::Roles;
-use crate::Row;
-use crate::leaves::hop;
-use crate::leaves::role_at;
-use crate::leaves::type_word;
-use crate::leaves::value_at;
-use crate::leaves::variable_word;
+use part_rows::fork_row;
+use part_rows::let_row;
+use token_words::Roles;
+use token_words::Row;
+use token_words::role_at;
+use token_words::type_word;
+use token_words::value_at;
+use token_words::variable_word;
 use tokens::magnitude_at;
 ghost use mathlib.Core.Path.{_≡_};
 ghost use Prim.Native.Nat.{ℕ, _+_, _<_, _≤_, _/_, _%_};
@@ -16,9 +17,9 @@ ghost use Rattle.grammar.specs.Files.{fourWords, negated};
 ghost use Rattle.tokens.specs.Runs.{BEYOND};
 ghost use Rattle.words.specs.Word.{WORD};
 ghost use Rattle.limits.specs.Limits.{TEXT};
-ghost use Rattle.rows.specs.Rows.{Item, rowItem, hop, variableWord, nodeRow};
-ghost use Rattle.row_words.specs.Items.{Small, RowFrom, Labelled, Nested, WithinText, Amounts, Described, Readable};
-ghost use Rattle.row_words.specs.Row.{rowWords};
+ghost use Rattle.rows.specs.Rows.{Item, rowItem, variableWord, nodeRow};
+ghost use Rattle.token_words.specs.Items.{Small, RowFrom, Labelled, Nested, WithinText, Amounts, Described, Readable};
+ghost use Rattle.token_words.specs.Row.{rowWords};
 
 // Null, a variable, a selection, an update, a call: the target first, then the member, then the part.
 fn member_row(roles: &[u8], values: &[u16], i: usize, n: u16) -> Row
@@ -45,39 +46,6 @@ fn member_row(roles: &[u8], values: &[u16], i: usize, n: u16) -> Row
         return Row::Four(3, x, member, n + 1);
     }
     Row::Four(4, x, member, n + 1)
-}
-
-// The number of the part behind so many other parts, of which the first is node n and has its size at `from`.
-fn part_behind(sizes: &[u16], from: usize, n: u16, parts: usize) -> u16
-    requires { ⌜ Nested (now sizes) × (n + length (now sizes) < WORD) × (from ≤ WORD) × (parts ≤ 3) ⌝ }
-    ensures { λ r. ⌜ r ≡ n + hop parts (drop from (now (sizes .entry))) ⌝ }
-{
-    n + hop(sizes, from, parts) as u16
-}
-
-// A let, whose parts are numbered from n + 1 on, with their sizes from `from` on.
-fn let_row(values: &[u16], sizes: &[u16], i: usize, from: usize, n: u16) -> Row
-    requires { ⌜ Small (now values) × Nested (now sizes) × (n + 1 + length (now sizes) < WORD) × (from ≤ WORD) × (i < TEXT) ⌝ }
-    ensures { λ r. ⌜
-        rowWords r ≡ fourWords 5 (getD (now (values .entry)) (i + 1) 0 + 2) (n + 1) (n + 1 + hop 1 (drop from (now (sizes .entry))))
-        ⌝ }
-{
-    let y = value_at(values, i + 1) + 2;
-    let second = part_behind(sizes, from, n + 1, 1);
-    Row::Four(5, y, n + 1, second)
-}
-
-// A fork, likewise.
-fn fork_row(sizes: &[u16], from: usize, n: u16) -> Row
-    requires { ⌜ Nested (now sizes) × (n + 1 + length (now sizes) < WORD) × (from ≤ WORD) ⌝ }
-    ensures { λ r. ⌜
-        rowWords r ≡
-        fourWords 8 (n + 1) (n + 1 + hop 1 (drop from (now (sizes .entry)))) (n + 1 + hop 2 (drop from (now (sizes .entry))))
-        ⌝ }
-{
-    let second = part_behind(sizes, from, n + 1, 1);
-    let third = part_behind(sizes, from, n + 1, 2);
-    Row::Four(8, n + 1, second, third)
 }
 
 // New, a cast, a lock.

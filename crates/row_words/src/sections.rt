@@ -1,13 +1,13 @@
 // The row of a record, by its section.
-use crate::Roles;
-use crate::Row;
 use crate::nodes::node_row;
-use crate::records::class_row;
-use crate::records::field_row;
-use crate::records::interface_row;
-use crate::records::method_row;
-use crate::records::signature_row;
+use record_rows::class_row;
+use record_rows::field_row;
+use record_rows::interface_row;
+use record_rows::method_row;
+use record_rows::signature_row;
 use script::Section;
+use token_words::Roles;
+use token_words::Row;
 ghost use mathlib.Core.Path.{_≡_};
 ghost use mathlib.Core.Bool.{true};
 ghost use mathlib.Core.List.{List};
@@ -17,8 +17,9 @@ ghost use Rattle.words.specs.Word.{WORD};
 ghost use Rattle.script.specs.declared.Section.the-variants.{Nodes as nodes};
 ghost use Rattle.grammar.specs.Faults.{beginsTest};
 ghost use Rattle.rows.specs.Rows.{Item, sizesOf};
-ghost use Rattle.row_words.specs.Items.{Described, Readable};
-ghost use Rattle.row_words.specs.Row.{rowWords, rowOf};
+ghost use Rattle.token_words.specs.Items.{Described, Readable};
+ghost use Rattle.token_words.specs.Row.{rowWords};
+ghost use Rattle.row_words.specs.Row.{rowOf};
 
 // Does a token of this role begin a record of the section?
 pub fn begins(section: Section, role: u8) -> bool

@@ -10,9 +10,9 @@ use Rattle.grammar.specs.Faults.{beginsTest}
 use Rattle.grammar.specs.Roles.{R-CAST}
 use Rattle.bounds.specs.Places.{placesFrom}
 use Rattle.rows.specs.Rows.{Item, oneMore, nodeRow, sizesOf}
-use Rattle.row_words.specs.Items.{Roled, Described, Readable, itemsOf}
+use Rattle.token_words.specs.Items.{Roled, Described, Readable, itemsOf}
 use Rattle.row_words.specs.Row.{rowOf}
-use Rattle.row_words.proofs.TokenLaws.{items-shown}
+use Rattle.token_words.proofs.TokenLaws.{items-shown}
 use Rattle.row_bytes.specs.Written.{written, Appended}
 use Rattle.section_rows.specs.Records.{begunAmong, Unnumbered, Stretch}
 use Rattle.section_rows.specs.Counted.{SizesKnown, allRows}

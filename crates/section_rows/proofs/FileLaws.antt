@@ -10,7 +10,7 @@ use Rattle.script.specs.declared.Section.the-variants.{Fields as fields, Method
 use Rattle.script.specs.Section.{mostOf}
 use Rattle.bounds.specs.Places.{placesFrom, indexOf, RECORDS, IndexIs}
 use Rattle.rows.specs.Rows.{Item}
-use Rattle.row_words.specs.Items.{Readable, itemsOf}
+use Rattle.token_words.specs.Items.{Readable, itemsOf}
 use Rattle.row_bytes.specs.Written.{Appended}
 use Rattle.section_rows.specs.Records.{begunAmong, Stretch}
 use Rattle.section_rows.specs.declared.Counts.{Counts}

@@ -15,9 +15,9 @@ use Rattle.script.specs.declared.Section.the-variants.{Fields as fields, Method
 use Rattle.script.specs.Section.{sizeOf}
 use Rattle.grammar.specs.Faults.{beginsTest}
 use Rattle.rows.specs.Rows.{Item, rowItem, oneMore, interfaceRow, signatureRow, classRow, fieldRow, methodRow, nodeRow}
-use Rattle.row_words.specs.Items.{Roled}
+use Rattle.token_words.specs.Items.{Roled}
 use Rattle.row_words.specs.Row.{rowOf}
-use Rattle.row_words.proofs.TokenLaws.{item-cons, role-here}
+use Rattle.token_words.proofs.TokenLaws.{item-cons, role-here}
 use Rattle.section_rows.specs.Records.{begunAmong, rowIf, rowsOf}
 use Rattle.section_rows.proofs.PlaceLaws.{Place, one-more, begun-add, place-after, place-before}
 

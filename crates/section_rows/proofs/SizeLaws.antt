@@ -12,9 +12,9 @@ use borrow.Author.Tests.{ne-eqb}
 use Rattle.script.specs.declared.Section.the-variants.{Nodes as nodes}
 use Rattle.grammar.specs.Faults.{beginsTest}
 use Rattle.rows.specs.Rows.{Item, oneMore, arityOf, hop, sizesOf}
-use Rattle.row_words.specs.Items.{Roled, Nested}
-use Rattle.row_words.proofs.TokenLaws.{item-cons, role-here}
-use Rattle.row_words.proofs.NodeLaws.{hop-within, nested-drop}
+use Rattle.token_words.specs.Items.{Roled, Nested}
+use Rattle.token_words.proofs.TokenLaws.{item-cons, role-here}
+use Rattle.token_words.proofs.TokenLaws.{hop-within, nested-drop}
 use Rattle.section_rows.specs.Records.{begunAmong}
 use Rattle.section_rows.proofs.PlaceLaws.{Place, place-next}
 

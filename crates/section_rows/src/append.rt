@@ -12,7 +12,7 @@ ghost use Rattle.script.specs.declared.Section.the-variants.{Methods as methods
 ghost use Rattle.grammar.specs.Faults.{beginsTest};
 ghost use Rattle.bounds.specs.Places.{placesFrom};
 ghost use Rattle.rows.specs.Rows.{sizesOf};
-ghost use Rattle.row_words.specs.Items.{Readable, itemsOf};
+ghost use Rattle.token_words.specs.Items.{Readable, itemsOf};
 ghost use Rattle.row_words.specs.Row.{rowOf};
 ghost use Rattle.row_bytes.specs.Written.{Appended};
 ghost use Rattle.section_rows.specs.Records.{Unnumbered, Stretch, begunAmong, rowsOf};

@@ -11,7 +11,7 @@ ghost use Prim.Native.Nat.{ℕ, _+_, _*_, _≤_};
 ghost use lib.ListN.{length, drop};
 ghost use Rattle.script.specs.declared.Section.the-variants.{Nodes as nodes-section};
 ghost use Rattle.bounds.specs.Places.{placesFrom, indexOf};
-ghost use Rattle.row_words.specs.Items.{itemsOf};
+ghost use Rattle.token_words.specs.Items.{itemsOf};
 ghost use Rattle.row_bytes.specs.Written.{Appended};
 ghost use Rattle.section_rows.specs.Records.{begunAmong, Unnumbered};
 ghost use Rattle.section_rows.specs.Counted.{SizesKnown, Prepared, recordsIn, allRows, plainRows, recordRows, startAndBodies};

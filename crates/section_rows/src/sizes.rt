@@ -1,8 +1,8 @@
 // How many nodes there are, and how many each expression has.
-use row_words::Roles;
 use row_words::begins;
-use row_words::hop;
 use script::Section;
+use token_words::Roles;
+use token_words::hop;
 ghost use mathlib.Core.Path.{_≡_};
 ghost use mathlib.Core.List.{List};
 ghost use Prim.Native.Nat.{_<_, _≤_};
@@ -11,7 +11,7 @@ ghost use Rattle.words.specs.Word.{WORD};
 ghost use Rattle.script.specs.declared.Section.the-variants.{Nodes as nodes};
 ghost use Rattle.grammar.specs.Faults.{beginsTest};
 ghost use Rattle.rows.specs.Rows.{Item, arityOf, oneMore, sizesOf};
-ghost use Rattle.row_words.specs.Items.{Roled};
+ghost use Rattle.token_words.specs.Items.{Roled};
 ghost use Rattle.bounds.specs.Places.{placesFrom};
 ghost use Rattle.section_rows.specs.Records.{begunAmong};
 

@@ -19,8 +19,8 @@ use Rattle.grammar.specs.Faults.{beginsTest}
 use Rattle.bounds.specs.Places.{indexOf}
 use Rattle.rows.specs.Rows.{Item, interfaceRow, signatureRow, classRow, fieldRow}
 use Rattle.rows.specs.Rows.{rowsWith, methodRows, nodeCount, nodeRows, sectionsWords}
-use Rattle.row_words.specs.Items.{Roled, itemsOf}
-use Rattle.row_words.proofs.TokenLaws.{items-shown}
+use Rattle.token_words.specs.Items.{Roled, itemsOf}
+use Rattle.token_words.proofs.TokenLaws.{items-shown}
 use Rattle.row_words.specs.Row.{rowOf}
 use Rattle.section_rows.specs.Records.{begunAmong, rowIf, rowsOf}
 use Rattle.section_rows.specs.declared.Counts.{Counts}

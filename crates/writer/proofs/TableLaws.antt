@@ -11,8 +11,8 @@ use Rattle.script.specs.Section.{mostOf}
 use Rattle.grammar.specs.Faults.{beginsTest}
 use Rattle.bounds.specs.Places.{IndexIs}
 use Rattle.rows.specs.Rows.{Item, oneMore, nodeCount, sizesOf}
-use Rattle.row_words.specs.Items.{Roled, itemsOf}
-use Rattle.row_words.proofs.TokenLaws.{items-shown}
+use Rattle.token_words.specs.Items.{Roled, itemsOf}
+use Rattle.token_words.proofs.TokenLaws.{items-shown}
 use Rattle.section_rows.specs.declared.Counts.{Counts}
 use Rattle.section_rows.specs.Records.{begunAmong}
 use Rattle.section_rows.specs.Counted.{Prepared}

@@ -6,7 +6,7 @@ use lib.ListN.{length, replicate}
 use Rattle.words.specs.Word.{bytes}
 use Rattle.limits.specs.Limits.{TEXT, FILE}
 use Rattle.rows.specs.Rows.{Item, contentsWords, sectionsWords}
-use Rattle.row_words.specs.Items.{Small, WithinText}
+use Rattle.token_words.specs.Items.{Small, WithinText}
 use Rattle.section_rows.specs.declared.Counts.{Counts}
 use Rattle.section_rows.specs.Counted.{CountsFit, CountsRight}
 

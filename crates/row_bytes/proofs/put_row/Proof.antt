@@ -1,8 +1,8 @@
 use mathlib.Core.Path.{ap}
 use native.Mathlib.Omega.{arith}
 use lib.ListN.{length}
-use Rattle.row_words.specs.declared.Row.{Row}
-use Rattle.row_words.specs.Row.{rowWords}
+use Rattle.token_words.specs.declared.Row.{Row}
+use Rattle.token_words.specs.Row.{rowWords}
 use Rattle.row_bytes.proofs.WrittenLaws.{three-put, four-put}
 use borrow.Author.Needs.{needs}
 use Rattle.row_bytes.proofs.put_row.Statement.{statement}

@@ -1,8 +1,8 @@
 use mathlib.Core.Path.{_≡_, sym, ap, _∙_}
 use native.Mathlib.Omega.{arith}
 use lib.ListN.{getD}
-use Rattle.row_words.specs.Items.{amountAt}
-use Rattle.row_words.proofs.TokenLaws.{amount-in, amount-out, capped-most}
+use Rattle.token_words.specs.Items.{amountAt}
+use Rattle.row_words.proofs.AmountLaws.{amount-in, amount-out, capped-most}
 use borrow.Author.Needs.{needs}
 use Rattle.row_words.proofs.nodes.amount_at.Statement.{statement}
 use Rattle.row_words.proofs.nodes.amount_at.Tie as tie

@@ -2,7 +2,7 @@ use mathlib.Core.Path.{refl, sym, _∙_}
 use native.Mathlib.Omega.{arith}
 use native.Mathlib.Nat.{add-zero}
 use lib.ListN.{drop}
-use Rattle.row_words.proofs.TokenLaws.{value-in, role-here-in}
+use Rattle.token_words.proofs.TokenLaws.{value-in, role-here-in}
 use Rattle.row_words.proofs.NodeLaws.{null-node, variable-node, select-node, update-node, call-node}
 use borrow.Author.Needs.{needs}
 use Rattle.row_words.proofs.nodes.member_row.Statement.{statement}

@@ -4,7 +4,7 @@ use native.Mathlib.Omega.{arith}
 use native.Mathlib.Nat.{add-zero}
 use lib.ListN.{drop}
 use Rattle.rows.specs.Rows.{rowItem}
-use Rattle.row_words.proofs.TokenLaws.{role-here-in}
+use Rattle.token_words.proofs.TokenLaws.{role-here-in}
 use Rattle.row_words.proofs.NodeLaws.{integer-node, negative-node, sum-node, sum-in-node}
 use borrow.Author.Needs.{needs}
 use Rattle.row_words.proofs.nodes.number_row.Statement.{statement}

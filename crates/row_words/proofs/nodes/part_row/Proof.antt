@@ -2,7 +2,7 @@ use Prim.Native.Nat.{_%_}
 use mathlib.Core.Path.{_≡_, refl, sym, _∙_}
 use native.Mathlib.Omega.{arith}
 use lib.ListN.{getD, drop}
-use Rattle.row_words.proofs.TokenLaws.{value-in, role-here-in}
+use Rattle.token_words.proofs.TokenLaws.{value-in, role-here-in}
 use Rattle.row_words.proofs.NodeLaws.{let-node, fork-node}
 use borrow.Author.Needs.{needs}
 use Rattle.row_words.proofs.nodes.part_row.Statement.{statement}

@@ -1,7 +1,7 @@
 use mathlib.Core.Path.{refl}
 use Prim.Native.Nat.{_+_}
 use native.Mathlib.Omega.{arith}
-use Rattle.row_words.proofs.TokenLaws.{four-are}
+use Rattle.token_words.proofs.TokenLaws.{four-are}
 use borrow.Author.Needs.{needs}
 use Rattle.row_words.proofs.nodes.sum_row.Statement.{statement}
 use Rattle.row_words.proofs.nodes.sum_row.Tie as tie

@@ -1,7 +1,7 @@
 use mathlib.Core.Path.{refl}
 use native.Mathlib.Omega.{arith}
 use lib.ListN.{drop}
-use Rattle.row_words.proofs.TokenLaws.{role-here-in}
+use Rattle.token_words.proofs.TokenLaws.{role-here-in}
 use Rattle.row_words.proofs.NodeLaws.{new-node, cast-node, lock-node}
 use borrow.Author.Needs.{needs}
 use Rattle.row_words.proofs.nodes.typed_row.Statement.{statement}

@@ -4,7 +4,7 @@ use native.Mathlib.Omega.{arith}
 use lib.ListN.{length, getD, take}
 use borrow.Author.Needs.{needs}
 use Rattle.script.specs.declared.Section.the-variants.{Methods as methods, Nodes as nodes-section}
-use Rattle.row_words.specs.Items.{itemsOf}
+use Rattle.token_words.specs.Items.{itemsOf}
 use Rattle.section_rows.specs.Records.{begunAmong}
 use Rattle.section_rows.proofs.PlaceLaws.{Place, begun-until, place-at, place-after}
 use Rattle.section_rows.proofs.AppendLaws.{Appending, nodes-within, number-row, whole-start, whole-end, whole-room, whole-next}

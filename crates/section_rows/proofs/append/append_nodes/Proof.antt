@@ -3,7 +3,7 @@ use Prim.Native.Nat.{ℕ, _+_, _-_, _*_, _≤_}
 use native.Mathlib.Omega.{arith}
 use lib.ListN.{length, getD, drop}
 use Rattle.script.specs.declared.Section.the-variants.{Nodes as nodes-section}
-use Rattle.row_words.specs.Items.{itemsOf}
+use Rattle.token_words.specs.Items.{itemsOf}
 use Rattle.section_rows.specs.Records.{Stretch}
 use Rattle.section_rows.proofs.PlaceLaws.{place-at}
 use Rattle.section_rows.proofs.RowLaws.{row-length}

@@ -1,7 +1,7 @@
 use Prim.Native.Nat.{_-_, _≤_}
 use native.Mathlib.Omega.{arith}
 use lib.ListN.{length}
-use Rattle.row_words.specs.Items.{itemsOf}
+use Rattle.token_words.specs.Items.{itemsOf}
 use Rattle.section_rows.proofs.PlaceLaws.{place-at}
 use Rattle.section_rows.proofs.AppendLaws.{Appending, plain-not-nodes, whole-start, whole-end, whole-room, whole-next}
 use Rattle.section_rows.proofs.append.append_plain.Statement.{statement}

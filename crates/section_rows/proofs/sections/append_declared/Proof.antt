@@ -2,7 +2,7 @@ use mathlib.Core.Path.{refl}
 use mathlib.Core.List.{_++_}
 use Rattle.script.specs.declared.Section.the-variants.{Interfaces as interfaces, Signatures as signatures, Classes as classes}
 use Rattle.script.specs.declared.Section.the-variants.{Fields as fields}
-use Rattle.row_words.specs.Items.{itemsOf}
+use Rattle.token_words.specs.Items.{itemsOf}
 use Rattle.section_rows.specs.Counted.{allRows}
 use Rattle.section_rows.proofs.FileLaws.{room-first, room-second, appended-both}
 use borrow.Author.Needs.{needs}

@@ -3,7 +3,7 @@ use mathlib.Core.List.{_++_}
 use native.Mathlib.Omega.{arith}
 use lib.ListN.{length}
 use Rattle.script.specs.declared.Section.the-variants.{Nodes as nodes}
-use Rattle.row_words.specs.Items.{itemsOf}
+use Rattle.token_words.specs.Items.{itemsOf}
 use Rattle.section_rows.proofs.RowLaws.{rowsBetween}
 use Rattle.section_rows.proofs.AppendLaws.{appended-as}
 use Rattle.section_rows.proofs.FileLaws.{appended-both, start-stretch, body-stretch, stretches, stretches-fit, sized-less}

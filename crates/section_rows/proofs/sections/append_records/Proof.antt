@@ -1,6 +1,6 @@
 use native.Mathlib.Omega.{arith}
 use Rattle.script.specs.declared.Section.the-variants.{Methods as methods, Nodes as nodes}
-use Rattle.row_words.specs.Items.{itemsOf}
+use Rattle.token_words.specs.Items.{itemsOf}
 use Rattle.section_rows.specs.Counted.{allRows, plainRows}
 use Rattle.section_rows.proofs.FileLaws.{room-first, room-second, appended-both, sized-less, section-within, section-places}
 use borrow.Author.Needs.{needs}

@@ -1,4 +1,4 @@
-use Rattle.row_words.specs.Items.{itemsOf}
+use Rattle.token_words.specs.Items.{itemsOf}
 use Rattle.section_rows.specs.Counted.{allRows}
 use Rattle.section_rows.proofs.FileLaws.{room-first, room-second, appended-both}
 use borrow.Author.Needs.{needs}

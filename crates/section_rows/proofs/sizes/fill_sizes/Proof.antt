@@ -6,7 +6,7 @@ use lib.ListN.{length, drop, length-set, drop-of-length-le}
 use borrow.Author.Needs.{needs}
 use Rattle.script.specs.declared.Section.the-variants.{Nodes as nodes}
 use Rattle.rows.specs.Rows.{Item, sizesOf}
-use Rattle.row_words.specs.Items.{Roled}
+use Rattle.token_words.specs.Items.{Roled}
 use Rattle.section_rows.proofs.PlaceLaws.{place-at, places-count}
 use Rattle.section_rows.proofs.SizeLaws.{sizes-long, size-put, hop-fits}
 use Rattle.section_rows.proofs.sizes.fill_sizes.Statement.{statement}

@@ -3,7 +3,7 @@ use mathlib.Core.List.{_++_}
 use native.Mathlib.Omega.{arith}
 use lib.ListN.{length}
 use Rattle.script.specs.declared.Section.the-variants.{Nodes as nodes}
-use Rattle.row_words.specs.Items.{itemsOf}
+use Rattle.token_words.specs.Items.{itemsOf}
 use Rattle.section_rows.specs.Counted.{recordRows, startAndBodies}
 use Rattle.section_rows.proofs.AppendLaws.{nodes-few}
 use Rattle.section_rows.proofs.FileLaws.{room-first, room-second, appended-both, sized-less, section-within, section-places}

@@ -5,7 +5,7 @@ use lib.ListN.{length}
 use Rattle.limits.specs.Limits.{CONTENTS}
 use Rattle.script.specs.declared.Section.the-variants.{Interfaces as interfaces, Classes as classes}
 use Rattle.rows.specs.Rows.{sectionsWords}
-use Rattle.row_words.specs.Items.{itemsOf}
+use Rattle.token_words.specs.Items.{itemsOf}
 use Rattle.row_bytes.specs.Written.{Appended}
 use Rattle.writer.specs.Files.{contentsBy}
 use Rattle.section_rows.proofs.FileLaws.{appended-both}
