@@ -1,22 +1,20 @@
 -- Tokens by the kinds of the bytes that begin them.
-use Prim.Native.Nat.{ℕ, zero, suc, _+_, _-_, _≤_, _<_}
-use native.Mathlib.Numerals.{add-one}
+use Prim.Native.Nat.{ℕ, zero, suc, _+_, _≤_, _<_}
 use native.Mathlib.Omega.{arith}
 use mathlib.Core.Path.{_≡_, refl, sym, _∙_, ap}
 use mathlib.Core.Bool.{Bool, true, false, _||_}
-use mathlib.Core.List.{List, []}
+use mathlib.Core.List.{List}
 use lib.Dec.{leb}
 use borrow.Author.Tests.{lt-leb, le-leb}
-use lib.ListN.{length, getD, drop, set, replicate}
-use lib.Seq.{sets}
+use lib.ListN.{length, getD, drop}
 use Rattle.script.proofs.Tests.{true-false}
 use Rattle.grammar.specs.Tokens.{blankTest, digitTest, letterTest, wordByteTest, runTest}
 use Rattle.grammar.proofs.Splitting.{no-blank, letter-from, digit-to, firstTest}
 use Rattle.tokens.specs.Runs.{byteRun}
 use Rattle.tokens.specs.Next.{K-NAME, K-DIGITS, tokenKind, Skipped, NextIs}
-use Rattle.tokens.specs.Words.{signLexeme, WordAt}
+use Rattle.word_kinds.specs.Words.{signLexeme, WordAt}
 use Rattle.tokens.specs.Kinds.{BLANK, kindBy, byteKind, kindsFrom, byteKinds, kindTest}
-use Rattle.tokens.proofs.RunLaws.{run-on}
+use Rattle.word_kinds.proofs.RunLaws.{run-on}
 use Rattle.tokens.proofs.NameLaws.{digit-from}
 use Rattle.tokens.proofs.TokenLaws.{sign-within, first-on, at-digits, at-sign}
 
@@ -30,33 +28,6 @@ kind-at (suc n) b (suc j) h = let e : b + suc j ≡ b + 1 + j = omega arith in r
 pub kind-there : (kinds : List ℕ) (b : ℕ) → kinds ≡ byteKinds → b < 256 → getD kinds b 0 ≡ byteKind b
 unfolding byteKinds
 kind-there kinds b t h = let e : 0 + b ≡ b = omega arith in rw (t, kind-at 256 0 b h, e)
-
--- A range of the table, put one byte at a time.
-pub range-on :
-    (kinds : List ℕ) (b last kind : ℕ)
-    → b ≤ last
-    → sets (set kinds b kind) (b + 1) (replicate (last + 1 - (b + 1)) kind) ≡ sets kinds b (replicate (last + 1 - b) kind)
-range-on kinds b last kind h = let e : last + 1 - b ≡ suc (last + 1 - (b + 1)) = omega arith in rw (e, add-one b)
-
-pub range-done : (kinds : List ℕ) (b last kind : ℕ) → last < b → kinds ≡ sets kinds b (replicate (last + 1 - b) kind)
-range-done kinds b last kind h = let e : last + 1 - b ≡ 0 = omega arith in rw e
-
--- The table with the first n ranges of a list put in.
-unfoldable pub rangedTo : List (List ℕ) → ℕ → List ℕ → List ℕ
-rangedTo ranges zero l = l
-rangedTo ranges (suc n) l =
-    let r = getD ranges n [] in sets (rangedTo ranges n l) (getD r 0 0) (replicate (getD r 1 0 + 1 - getD r 0 0) (getD r 2 0))
-
-pub ranged-more :
-    (ranges : List (List ℕ)) (n : ℕ) (l m : List ℕ)
-    → m ≡ rangedTo ranges n l
-    → sets m (getD (getD ranges n []) 0 0) (replicate (getD (getD ranges n []) 1 0 + 1 - getD (getD ranges n []) 0 0) (getD (getD ranges n []) 2 0))
-    ≡ rangedTo ranges (n + 1) l
-unfolding rangedTo
-ranged-more ranges n l m h = rw (add-one n, h)
-
-pub ranged-all : (ranges : List (List ℕ)) (n : ℕ) (l m : List ℕ) → m ≡ rangedTo ranges n l → n ≡ 18 → rangedTo ranges 18 l ≡ byteKinds → m ≡ byteKinds
-ranged-all ranges n l m h e t = h ∙ ap (λ (i : ℕ). rangedTo ranges i l) e ∙ t
 
 -- Blanks are of their kind, and nothing else is.
 pub blank-kind : (b : ℕ) → byteKind b ≡ BLANK → blankTest b ≡ true

@@ -10,7 +10,7 @@ use lib.ListN.{length, getD, drop}
 use Rattle.grammar.specs.Tokens.{Spelling, sameSpelling, wordByteTest, digitTest, decimalFrom}
 use Rattle.grammar.proofs.Splitting.{within}
 use Rattle.tokens.specs.Runs.{wordFrom, digitsFrom, HASHES, hashFrom, BEYOND, capped}
-use Rattle.tokens.proofs.RunLaws.{run-on, run-stops, run-ends}
+use Rattle.word_kinds.proofs.RunLaws.{run-on, run-stops, run-ends}
 
 -- A word that has bytes stands before the text's end, and goes on with the next byte's word.
 pub record Word (text : List ℕ) (i : ℕ) : Type 0 where

@@ -18,8 +18,8 @@ use Rattle.grammar.proofs.Splitting.{firstTest, runLexeme, blank-skipped, sign-
 use Rattle.grammar.proofs.Fixed.{every-true, fixed-or}
 use Rattle.tokens.specs.Runs.{byteRun, wordFrom, digitsFrom}
 use Rattle.tokens.specs.Next.{K-NAME, K-DIGITS, KINDS, tokenKind, lexemeOf, tokensAt, Skipped, NextIs}
-use Rattle.tokens.specs.Words.{wordLexeme, signLexeme}
-use Rattle.tokens.proofs.RunLaws.{run-on, run-is, run-length}
+use Rattle.word_kinds.specs.Words.{wordLexeme, signLexeme}
+use Rattle.word_kinds.proofs.RunLaws.{run-on, run-is, run-length}
 
 -- Blanks are skipped.
 pub skip-on : (text : List ℕ) (i : ℕ) → i < length text → blankTest (getD text i 0) ≡ true → tokensAt text i ≡ tokensAt text (i + 1)

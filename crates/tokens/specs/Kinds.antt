@@ -5,7 +5,7 @@ use mathlib.Core.List.{List, [], _∷_}
 use lib.Dec.{leb}
 use Rattle.grammar.specs.Tokens.{blankTest, digitTest, letterTest}
 use Rattle.tokens.specs.Next.{K-NAME, K-DIGITS, tokenKind}
-use Rattle.tokens.specs.Words.{signLexeme}
+use Rattle.word_kinds.specs.Words.{signLexeme}
 
 -- A blank begins no token.
 abbrev pub BLANK : ℕ

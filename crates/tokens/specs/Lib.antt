@@ -1,5 +1,4 @@
 pub mod Runs
 pub mod Next
-pub mod Words
 pub mod Kinds
 pub mod Names

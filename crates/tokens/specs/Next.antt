@@ -8,21 +8,12 @@ use lib.ListN.{length, drop, getD}
 use Rattle.grammar.specs.Tokens.{Lexeme, fixed, name-token, digits-token, TEXT-END, chosenLexeme, blankTest, Token, tokenAt, tokensFrom, b-nothing}
 use Rattle.tokens.specs.declared.Next.{Next}
 use Rattle.tokens.specs.Runs.{wordFrom, digitsFrom}
+pub use Rattle.word_kinds.specs.Kind.{K-NAME, K-DIGITS}
+unfoldable pub use Rattle.word_kinds.specs.Kind.{tokenKind}
 
--- Kinds of tokens: a word or sign that the grammar spells out has its number, and behind those come names and digits.
-abbrev pub K-NAME : ℕ
-K-NAME = 28
-
-abbrev pub K-DIGITS : ℕ
-K-DIGITS = 29
-
+-- How many kinds there are.
 abbrev pub KINDS : ℕ
 KINDS = 30
-
-unfoldable pub tokenKind : Lexeme → ℕ
-tokenKind (fixed k) = k
-tokenKind (name-token w) = K-NAME
-tokenKind (digits-token w) = K-DIGITS
 
 -- The token of a kind that stands at the head of a text.
 unfoldable pub lexemeOf : ℕ → List ℕ → Lexeme

@@ -1,25 +1,11 @@
 -- Runs of bytes at the head of a text, and what the code makes of them.
 use Prim.Native.Nat.{ℕ, _+_, _*_, _%_}
 use mathlib.Core.Bool.{Bool, true, false}
-use mathlib.Core.List.{List, [], _∷_}
+use mathlib.Core.List.{[], _∷_}
 use lib.Dec.{leb}
-use Rattle.grammar.specs.Tokens.{Spelling, wordByteTest, digitTest}
-
-abbrev pub runWith : Bool → ℕ → Spelling → Spelling
-runWith true b w = b ∷ w
-runWith false b w = []
-
--- The longest run of bytes at the head that pass a test.
-unfoldable pub byteRun : (ℕ → Bool) → List ℕ → Spelling
-byteRun test [] = []
-byteRun test (b ∷ s) = runWith (test b) b (byteRun test s)
-
--- The word, "letters, digits and underscore", that goes on at the head; and the digits.
-abbrev pub wordFrom : List ℕ → Spelling
-wordFrom s = byteRun wordByteTest s
-
-abbrev pub digitsFrom : List ℕ → Spelling
-digitsFrom s = byteRun digitTest s
+use Rattle.grammar.specs.Tokens.{Spelling}
+unfoldable pub use Rattle.word_kinds.specs.Runs.{byteRun}
+pub use Rattle.word_kinds.specs.Runs.{wordFrom, digitsFrom}
 
 -- How many hashes names have, and the hash of a name.
 abbrev pub HASHES : ℕ

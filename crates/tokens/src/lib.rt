@@ -1,41 +1,29 @@
 // Tokens of a text: the next one, and what names and digits say. A text is read in place, each token where it stands.
 mod bytes;
-mod kinds;
 mod names;
 mod scan;
-mod words;
 
 ghost use mathlib.Core.Path.{_≡_};
 ghost use Rattle.tokens.specs.Kinds.{BLANK};
-ghost use Rattle.tokens.specs.Next.{K-NAME, K-DIGITS};
+ghost use Rattle.tokens.specs.Next.{K-DIGITS};
 ghost use Rattle.tokens.specs.Runs.{HASHES, BEYOND};
-ghost use Rattle.tokens.specs.Words.{LONGEST, WORD-SLOTS, RADIX};
-pub use kinds::byte_kinds;
 pub use names::is_name;
 pub use names::magnitude_at;
 pub use names::name_at;
 pub use scan::next_token;
+pub use word_kinds::NAME;
 
-// Kinds of tokens: a word or sign that the grammar spells out has its number, below these.
-pub const NAME: u8 = 28;
-
+// The kind of digits: that of names comes before it, and before that those of the words and signs that the grammar spells out, which have their numbers.
 pub const DIGITS: u8 = 29;
 
 // A blank begins no token.
-const BLANK: u8 = 0;
+pub const BLANK: u8 = 0;
 
 // A hash of a name is below this.
 pub const HASHES: usize = 512;
 
 // What the value of digits is at most: the first number that no integer has, with a minus or without.
 pub const BEYOND: u32 = 2147483649;
-
-// The longest word that the grammar spells out has so many bytes, such words have so many slots, and codes are numbers in this radix.
-const LONGEST: usize = 10;
-
-const SLOTS: usize = 32;
-
-const RADIX: u64 = 128;
 
 // A token's kind, where it starts and where it ends. The text's end is of kind 0.
 pub struct Next {
@@ -52,12 +40,8 @@ pub struct Name {
 
 // The constants and the definitions are the same numbers.
 pub fn agreed()
-    ensures { λ r. do ⌜ (← ⟦NAME⟧ .entry) ≡ K-NAME ⌝ }
     ensures { λ r. do ⌜ (← ⟦DIGITS⟧ .entry) ≡ K-DIGITS ⌝ }
     ensures { λ r. do ⌜ (← ⟦BLANK⟧ .entry) ≡ BLANK ⌝ }
     ensures { λ r. do ⌜ (← ⟦HASHES⟧ .entry) ≡ HASHES ⌝ }
     ensures { λ r. do ⌜ (← ⟦BEYOND⟧ .entry) ≡ BEYOND ⌝ }
-    ensures { λ r. do ⌜ (← ⟦LONGEST⟧ .entry) ≡ LONGEST ⌝ }
-    ensures { λ r. do ⌜ (← ⟦SLOTS⟧ .entry) ≡ WORD-SLOTS ⌝ }
-    ensures { λ r. do ⌜ (← ⟦RADIX⟧ .entry) ≡ RADIX ⌝ }
 {}

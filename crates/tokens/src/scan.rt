@@ -3,7 +3,7 @@ use crate::BLANK;
 use crate::DIGITS;
 use crate::NAME;
 use crate::Next;
-use crate::words::word_kind;
+use word_kinds::word_kind;
 ghost use mathlib.Core.Path.{_≡_};
 ghost use Prim.Native.Nat.{_+_, _≤_, _<_};
 ghost use lib.ListN.{length, getD, drop};

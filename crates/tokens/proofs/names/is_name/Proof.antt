@@ -5,7 +5,7 @@ use borrow.Author.Needs.{needs}
 use lib.ListN.{length, drop}
 use Rattle.grammar.specs.Tokens.{sameSpelling, wordByteTest}
 use Rattle.tokens.specs.Runs.{wordFrom}
-use Rattle.tokens.proofs.RunLaws.{run-length}
+use Rattle.word_kinds.proofs.RunLaws.{run-length}
 use Rattle.tokens.proofs.NameLaws.{Word, word-there, sizes-differ, same-not, same-on, no-bytes}
 use Rattle.tokens.proofs.names.is_name.Statement.{statement}
 use Rattle.tokens.proofs.names.is_name.Tie as tie

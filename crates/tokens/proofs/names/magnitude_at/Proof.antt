@@ -6,7 +6,7 @@ use borrow.Author.Needs.{needs}
 use lib.ListN.{length, drop}
 use Rattle.grammar.specs.Tokens.{digitTest, decimal, decimalFrom}
 use Rattle.tokens.specs.Runs.{digitsFrom, BEYOND}
-use Rattle.tokens.proofs.RunLaws.{run-stops, run-ends}
+use Rattle.word_kinds.proofs.RunLaws.{run-stops, run-ends}
 use Rattle.tokens.proofs.NameLaws.{digit-from, value-on, value-done, value-beyond}
 use Rattle.tokens.proofs.names.magnitude_at.Statement.{statement}
 use Rattle.tokens.proofs.names.magnitude_at.Tie as tie

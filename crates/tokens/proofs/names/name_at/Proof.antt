@@ -4,7 +4,7 @@ use native.Mathlib.Omega.{arith}
 use lib.ListN.{length, getD, drop}
 use Rattle.grammar.specs.Tokens.{wordByteTest}
 use Rattle.tokens.specs.Runs.{wordFrom, HASHES, hashFrom, spellingHash}
-use Rattle.tokens.proofs.RunLaws.{run-on, run-stops, run-ends}
+use Rattle.word_kinds.proofs.RunLaws.{run-on, run-stops, run-ends}
 use Rattle.tokens.proofs.KindLaws.{word-in, word-out}
 use Rattle.tokens.proofs.NameLaws.{hash-on, hash-done}
 use Rattle.tokens.proofs.names.name_at.Statement.{statement}

@@ -11,7 +11,7 @@ use Rattle.grammar.specs.Tokens.{sameSpelling, wordByteTest}
 use Rattle.tokens.specs.Kinds.{byteKinds}
 use Rattle.tokens.specs.Next.{K-NAME}
 use Rattle.tokens.specs.Runs.{wordFrom}
-use Rattle.tokens.proofs.RunLaws.{run-on, run-stops, run-ends}
+use Rattle.word_kinds.proofs.RunLaws.{run-on, run-stops, run-ends}
 use Rattle.tokens.proofs.KindLaws.{word-in, word-out}
 use Rattle.tokens.proofs.names.word_ends.Statement.{statement}
 use Rattle.tokens.proofs.names.word_ends.Tie as tie

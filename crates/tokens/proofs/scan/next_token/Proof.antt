@@ -2,7 +2,7 @@ use Prim.Native.Nat.{_<_}
 use native.Mathlib.Omega.{arith}
 use borrow.Author.Needs.{needs}
 use lib.ListN.{getD}
-use Rattle.tokens.specs.Words.{WordAt}
+use Rattle.word_kinds.specs.Words.{WordAt}
 use Rattle.tokens.proofs.TokenLaws.{on-end, at-word}
 use Rattle.tokens.proofs.KindLaws.{kind-there, KindAt, of-sign, of-digits, word-there}
 use Rattle.tokens.proofs.scan.next_token.Statement.{statement}

@@ -8,7 +8,7 @@ use lib.Dec.{leb}
 use lib.ListN.{length, getD, drop}
 use Rattle.tokens.specs.Runs.{byteRun}
 use Rattle.tokens.specs.Kinds.{byteKind, kindTest}
-use Rattle.tokens.proofs.RunLaws.{run-on, run-stops, run-ends}
+use Rattle.word_kinds.proofs.RunLaws.{run-on, run-stops, run-ends}
 use Rattle.tokens.proofs.KindLaws.{kind-there}
 use Rattle.tokens.proofs.scan.run_end.Statement.{statement}
 use Rattle.tokens.proofs.scan.run_end.Tie as tie

@@ -3,9 +3,9 @@ use native.Mathlib.Omega.{arith}
 use mathlib.Core.Path.{_≡_, refl, _∙_}
 use lib.ListN.{replicate}
 use lib.Seq.{sets}
-use Rattle.tokens.proofs.KindLaws.{range-on, range-done}
-use Rattle.tokens.proofs.kinds.put_range.Statement.{statement}
-use Rattle.tokens.proofs.kinds.put_range.Tie as tie
+use Rattle.byte_table.proofs.RangeLaws.{range-on, range-done}
+use Rattle.byte_table.proofs.put_range.Statement.{statement}
+use Rattle.byte_table.proofs.put_range.Tie as tie
 
 abbrev Inv-loop : tie.InvT-loop
 Inv-loop kinds₀ first last kind b₀ kinds b = sets kinds b (replicate (last + 1 - b) kind) ≡ sets kinds₀ first (replicate (last + 1 - first) kind)

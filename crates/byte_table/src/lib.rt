@@ -1,12 +1,12 @@
 // The kinds of the tokens that bytes begin, in one table.
-use crate::BLANK;
-use crate::DIGITS;
-use crate::NAME;
+use tokens::BLANK;
+use tokens::DIGITS;
+use tokens::NAME;
 ghost use mathlib.Core.Path.{_≡_};
 ghost use Prim.Native.Nat.{_+_, _-_};
 ghost use lib.ListN.{replicate};
 ghost use lib.Seq.{sets};
 ghost use Rattle.tokens.specs.Kinds.{byteKinds};
 
 // The first and the last of bytes that begin tokens of the same kind, and that kind. Signs have their numbers, in the order of the grammar's list.
 const RANGES: [[u8; 3]; 18] = [

@@ -15,11 +15,11 @@ use Rattle.script.proofs.Tests.{true-false}
 use Rattle.grammar.specs.Tokens.{Spelling, name-token, fixed, Fixed, fixedWords, fixedOr, sameSpelling, chosenLexeme, wordByteTest, All, all-more}
 use Rattle.grammar.proofs.Splitting.{within}
 use Rattle.grammar.proofs.Fixed.{same-is, every-true, all-true}
-use Rattle.tokens.specs.declared.words.Spelled.{Spelled}
-use Rattle.tokens.specs.Next.{K-NAME, tokenKind}
-use Rattle.tokens.specs.Runs.{wordFrom}
-use Rattle.tokens.specs.Words.{wordLexeme, WordAt, LONGEST, WORD-SLOTS, wordSlot, keyOf, RADIX, wordCode, chosenFixed, fixedAt, SpelledIs}
-use Rattle.tokens.proofs.RunLaws.{run-on, run-is, run-length, run-slice}
+use Rattle.word_kinds.specs.declared.Spelled.{Spelled}
+use Rattle.word_kinds.specs.Kind.{K-NAME, tokenKind}
+use Rattle.word_kinds.specs.Runs.{wordFrom}
+use Rattle.word_kinds.specs.Words.{wordLexeme, WordAt, LONGEST, WORD-SLOTS, wordSlot, keyOf, RADIX, wordCode, chosenFixed, fixedAt, SpelledIs}
+use Rattle.word_kinds.proofs.RunLaws.{run-on, run-is, run-length, run-slice}
 
 -- A code of few bytes fits.
 code-below : (w : Spelling) → wordCode w < RADIX ^ length w

@@ -1,16 +1,30 @@
-// What a word is.
-use crate::LONGEST;
-use crate::NAME;
-use crate::RADIX;
-use crate::SLOTS;
+// What a word is: one that the grammar spells out, or a name.
 ghost use mathlib.Core.Path.{_≡_};
 ghost use Prim.Native.Nat.{_+_, _*_, _%_, _≤_, _<_};
 ghost use lib.ListN.{length, drop};
 ghost use lib.Seq.{slice};
 ghost use Rattle.grammar.specs.Tokens.{fixedWords};
-ghost use Rattle.tokens.specs.Next.{tokenKind};
-ghost use Rattle.tokens.specs.Runs.{wordFrom};
-ghost use Rattle.tokens.specs.Words.{wordLexeme, WordAt, LONGEST, WORD-SLOTS, wordCode, fixedAt, SpelledIs};
+ghost use Rattle.word_kinds.specs.Kind.{K-NAME, tokenKind};
+ghost use Rattle.word_kinds.specs.Runs.{wordFrom};
+ghost use Rattle.word_kinds.specs.Words.{wordLexeme, WordAt, LONGEST, WORD-SLOTS, RADIX, wordCode, fixedAt, SpelledIs};
+
+// The kind of a name: a word or sign that the grammar spells out has its number, below it.
+pub const NAME: u8 = 28;
+
+// The longest word that the grammar spells out has so many bytes, such words have so many slots, and codes are numbers in this radix.
+const LONGEST: usize = 10;
+
+const SLOTS: usize = 32;
+
+const RADIX: u64 = 128;
+
+// The constants and the definitions are the same numbers.
+pub fn agreed()
+    ensures { λ r. do ⌜ (← ⟦NAME⟧ .entry) ≡ K-NAME ⌝ }
+    ensures { λ r. do ⌜ (← ⟦LONGEST⟧ .entry) ≡ LONGEST ⌝ }
+    ensures { λ r. do ⌜ (← ⟦SLOTS⟧ .entry) ≡ WORD-SLOTS ⌝ }
+    ensures { λ r. do ⌜ (← ⟦RADIX⟧ .entry) ≡ RADIX ⌝ }
+{}
 
 // A word that the grammar spells out: its number, its key, and the code of the bytes behind its first one.
 struct Spelled(u8, usize, u64);

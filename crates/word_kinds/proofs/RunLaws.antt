@@ -9,7 +9,7 @@ use lib.ListN.{length, getD, take, drop, drop-of-length-le, length-drop, length-
 use lib.Seq.{drop-cons, slice, take-add, drop-at, length-take-le, take-append-seam}
 use Rattle.grammar.specs.Tokens.{All, all-none, all-more}
 use Rattle.grammar.proofs.Splitting.{headTest}
-use Rattle.tokens.specs.Runs.{byteRun}
+use Rattle.word_kinds.specs.Runs.{byteRun}
 
 module _ (test : ℕ → Bool) (text : List ℕ) (i : ℕ) where
   pub run-on : i < length text → test (getD text i 0) ≡ true → byteRun test (drop i text) ≡ getD text i 0 ∷ byteRun test (drop (i + 1) text)

@@ -4,10 +4,10 @@ use native.Mathlib.Omega.{arith}
 use denote.Ref.{now}
 use lib.ListN.{getD}
 use lib.Seq.{slice, slice-empty}
-use Rattle.tokens.specs.Words.{wordCode, RADIX}
-use Rattle.tokens.proofs.WordLaws.{code-fits, code-on}
-use Rattle.tokens.proofs.words.code_between.Statement.{statement}
-use Rattle.tokens.proofs.words.code_between.Tie as tie
+use Rattle.word_kinds.specs.Words.{wordCode, RADIX}
+use Rattle.word_kinds.proofs.WordLaws.{code-fits, code-on}
+use Rattle.word_kinds.proofs.code_between.Statement.{statement}
+use Rattle.word_kinds.proofs.code_between.Tie as tie
 
 abbrev Inv-loop : tie.InvT-loop
 Inv-loop text start end code₀ i₀ code i = (start ≤ i) × (i ≤ end) × (code ≡ wordCode (slice i end text))

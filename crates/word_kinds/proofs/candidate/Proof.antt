@@ -1,9 +1,9 @@
 use mathlib.Core.Path.{refl}
 use borrow.Author.Tests.{ne-eqb}
 use Rattle.grammar.specs.Tokens.{fixedWords}
-use Rattle.tokens.specs.Words.{wordCode, fixedAt}
-use Rattle.tokens.proofs.words.candidate.Statement.{statement}
-use Rattle.tokens.proofs.words.candidate.Tie as tie
+use Rattle.word_kinds.specs.Words.{wordCode, fixedAt}
+use Rattle.word_kinds.proofs.candidate.Statement.{statement}
+use Rattle.word_kinds.proofs.candidate.Tie as tie
 
 returns : tie.Need-returns
 unfolding fixedAt fixedWords wordCode

@@ -1,8 +1,8 @@
 use native.Mathlib.Omega.{arith}
 use borrow.Author.Needs.{needs}
-use Rattle.tokens.proofs.WordLaws.{long-name, few, other-key, other-rest, same-word}
-use Rattle.tokens.proofs.words.word_kind.Statement.{statement}
-use Rattle.tokens.proofs.words.word_kind.Tie as tie
+use Rattle.word_kinds.proofs.WordLaws.{long-name, few, other-key, other-rest, same-word}
+use Rattle.word_kinds.proofs.word_kind.Statement.{statement}
+use Rattle.word_kinds.proofs.word_kind.Tie as tie
 
 returns : tie.Need-returns
 returns c = long-name _ _ _ (c .before .before .pre) (c .if1 .taken)

@@ -6,9 +6,9 @@ use mathlib.Core.List.{List, [], _∷_}
 use lib.Dec.{eqb}
 use lib.ListN.{length, getD, drop}
 use Rattle.grammar.specs.Tokens.{Spelling, Lexeme, name-token, fixed, STRAY, Fixed, fixedWords, fixedSigns, fixedOr, letterTest}
-use Rattle.tokens.specs.declared.words.Spelled.{Spelled}
-use Rattle.tokens.specs.Next.{K-NAME}
-use Rattle.tokens.specs.Runs.{wordFrom}
+use Rattle.word_kinds.specs.declared.Spelled.{Spelled}
+use Rattle.word_kinds.specs.Kind.{K-NAME}
+use Rattle.word_kinds.specs.Runs.{wordFrom}
 
 -- A word: one that the grammar spells out, or a name. And any other byte: a sign, or a byte that begins no token.
 abbrev pub wordLexeme : Spelling → Lexeme

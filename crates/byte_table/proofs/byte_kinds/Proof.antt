@@ -3,11 +3,11 @@ use native.Mathlib.Omega.{arith}
 use mathlib.Core.Path.{_≡_, refl, _∙_}
 use borrow.Author.Needs.{needs}
 use Rattle.grammar.specs.Tokens.{fixedOr, fixedSigns, sameSpelling}
 use Rattle.tokens.specs.Next.{tokenKind}
 use Rattle.tokens.specs.Kinds.{byteKind, kindsFrom, byteKinds}
-use Rattle.tokens.proofs.KindLaws.{rangedTo, ranged-more, ranged-all}
-use Rattle.tokens.proofs.kinds.byte_kinds.Statement.{statement}
-use Rattle.tokens.proofs.kinds.byte_kinds.Tie as tie
+use Rattle.byte_table.proofs.RangeLaws.{rangedTo, ranged-more, ranged-all}
+use Rattle.byte_table.proofs.byte_kinds.Statement.{statement}
+use Rattle.byte_table.proofs.byte_kinds.Tie as tie
 
 abbrev Inv-loop : tie.InvT-loop
 Inv-loop ranges kinds₀ n₀ kinds n = (n ≤ 18) × (kinds ≡ rangedTo ranges n kinds₀)
