@@ -1,5 +1,5 @@
 # make            build/: the library, its header and the two programs, ready to take away
-# make demo       Figure 10 from its text to its number, what is said of a damaged save, and the programs on every sample, with what each shows
+# make demo       Figure 10 from its text to its number, what a time panel shows on the way, what is said of a damaged save, and the programs on every sample, with what each shows
 # make test       the whole test run, which is the gate
 # make quick      for daily work: what has changed since it was last proved, proved and compiled, and the short tests; no must-fail edit
 # make install    under PREFIX (default /usr/local; each place by itself: LIBDIR, INCLUDEDIR, BINDIR, PKGCONFIGDIR, DOCDIR), in DESTDIR if it is given
@@ -22,7 +22,7 @@ SOURCES := crates.txt $(shell find crates -type f)
 version_part = $(shell sed -n 's/^.define OOLONG_VERSION_$(1) //p' include/oolong.h)
 MAJOR := $(call version_part,MAJOR)
 VERSION := $(MAJOR).$(call version_part,MINOR).$(call version_part,PATCH)
-CALLS := oolong_read oolong_check oolong_start oolong_offer oolong_run
+CALLS := oolong_read oolong_check oolong_silent oolong_start oolong_offer oolong_run
 
 LIBRARY := build/lib/liboolong.a
 NAMES := oolong_read oolong_check

@@ -1,10 +1,11 @@
 /*
  * oolong.h - OOlong scripts in a converter.
  *
- * The engine is a static library, liboolong.a, of proved functions. There are five calls:
+ * The engine is a static library, liboolong.a, of proved functions. There are six calls:
  *
  *     oolong_read    makes a script of a text, as an author types it
  *     oolong_check   is this a script that may run, and what is the type of its result?
+ *     oolong_silent  how many silent moves does a thread at a node make before its next published step, wait or finish?
  *     oolong_start   writes the state of a run that has not begun into a block of yours
  *     oolong_offer   which threads can move next?
  *     oolong_run     moves threads in the order that you choose
@@ -32,13 +33,14 @@
  * file and load it again, copy it to come back to that state later, and run the copies on in different ways. Lend it with the script that it was started with. You may also lend a block
  * that was changed, damaged or made by hand: if it is one of the well-formed states of the script, the run goes on from there, and else the call is refused with the number of the first part that
  * is bad: OOLONG_NO_BLOCK_OBJECTS, OOLONG_NO_BLOCK_BINDINGS or OOLONG_NO_BLOCK_THREADS. OOLONG_IS_BLOCK_FAULT asks for any of the three.
- * A block of major version 2 is as good as before; one that was written by a library of major version 1 (layout 1, 49,152 bytes) is refused with OOLONG_NO_BLOCK_LENGTH: let the old library end its runs, or start them anew.
+ * A block of major version 2 or 3 is as good as before; one that was written by a library of major version 1 (layout 1, 49,152 bytes) is refused with OOLONG_NO_BLOCK_LENGTH: let the old library end its runs, or start them anew.
  *
  * Stack. The calls that are lent a script go as deep as its expressions are nested: OOLONG_STACK_FOR says what a thread needs that makes them. oolong_read needs the same for every nesting, and
  * more of it: OOLONG_READ_STACK.
  *
  * Versions. The names that the linker sees end in the major version: a program that was compiled with the header of another major version does not link with this library, since replies are
  * returned by value and may then have other fields. In C and C++ the calls have the names that are declared here. The header is for gcc and clang, in C from C89 and in C++ from C++98 on.
+ * Version 4 has oolong_silent, and one member more at the end of oolong_check's reply: code that names the members of a reply is compiled again as it stands. All else is as in version 3.
  */
 #ifndef OOLONG_H
 #define OOLONG_H
@@ -51,7 +53,7 @@ extern "C" {
 #endif
 
 /* The major version changes where a call, a reply, a number's meaning or the block's layout does; the minor where something is added; the patch where neither does. */
-#define OOLONG_VERSION_MAJOR 3
+#define OOLONG_VERSION_MAJOR 4
 #define OOLONG_VERSION_MINOR 0
 #define OOLONG_VERSION_PATCH 0
 #define OOLONG_VERSION (OOLONG_VERSION_MAJOR * 10000 + OOLONG_VERSION_MINOR * 100 + OOLONG_VERSION_PATCH)
@@ -95,8 +97,8 @@ extern "C" {
 #define OOLONG_OLD_NAME(text)
 #endif
 
-/* Why a call is refused: the first question, in this order, that gets a no. oolong_check asks those to 15, oolong_start these and OOLONG_NO_BLOCK_LENGTH, oolong_offer and oolong_run
- * all down to OOLONG_NO_BLOCK_THREADS; oolong_read asks the last three and no others. */
+/* Why a call is refused: the first question, in this order, that gets a no. oolong_check and oolong_silent ask those to 15, oolong_start these and OOLONG_NO_BLOCK_LENGTH, oolong_offer and
+ * oolong_run all down to OOLONG_NO_BLOCK_THREADS; oolong_read asks the last three and no others. */
 enum oolong_number {
     OOLONG_OK = 0,
     OOLONG_NO_LENGTH = 1,      /* the file is not 24 to 13,592 bytes; place 0 */
@@ -190,13 +192,43 @@ struct oolong_check_reply {
     uint16_t number; /* OOLONG_OK or OOLONG_NO_.. */
     uint16_t place;  /* where the fault is; 0 with OOLONG_OK */
     uint16_t type;   /* the start's type: 0 Unit, then the interfaces from 1, then the classes, and last Int, the signed 32-bit numbers; 0 with a refusal */
+    uint16_t silent; /* the most silent moves in a row from any node, 0 to 1,024: the largest count that oolong_silent answers for this script; 0 with a refusal */
 };
 
 /*
  * Check a script: is it within layout and limits, and does OOlong's type system give it a type? The script is only read. The answer depends on nothing but its bytes.
  * A script that gets OOLONG_OK is accepted: only such a script can be started and run. The other calls ask the same questions again, so this call need not come first.
+ *
+ * `silent` is over all nodes of the script, the bodies of methods that nobody calls included, so no thread of any run makes more silent moves in a row: a time panel may take it for its full scale.
  */
 struct oolong_check_reply oolong_check(const uint8_t *script, size_t script_len) OOLONG_LINKED("oolong_check");
+
+struct oolong_silent_reply {
+    uint16_t number; /* OOLONG_OK or OOLONG_NO_.. */
+    uint16_t place;  /* where the fault is; 0 with OOLONG_OK */
+    uint16_t count;  /* how many silent moves come first, 0 to 1,024; 0 where the script has no such node, and with a refusal */
+};
+
+/*
+ * For a time panel: how many silent moves does a thread that stands at this node make before its next published step, wait or finish? Some moves are no step of the published semantics: the
+ * thread goes one part deeper into an expression, or a null or a number becomes its value. They are silent. All other moves are published steps of OOlong: a variable or a field gives its
+ * value, a sum is made, an object is made, a field is written, a variable is bound, a method is entered, a lock is taken or opened, a cast is done with, threads fork and join, a thread fails. The
+ * count says how many silent moves the thread makes in a row from this node on. Behind them a published step is its next move, or it waits for a lock, or it has finished.
+ *
+ * What counts: a write, a call, a let and a cast count 1 each, and the count goes on with the part of them that runs first: the value to be written, the argument, what the variable is to be, what
+ * is cast. A null or a number counts 1 and ends the row. All else counts 0 and ends the row: a variable, a read, a new, a sum, a fork, and a lock, whether its object is open or shut. So a thread at
+ * `let x = new C in ..` has a count of 1, and one at `let x = (C) null in ..` of 3; what stands behind `in` counts for a thread that has come there, and not before.
+ *
+ * The script is only read, and asked the questions of oolong_check: one that is refused gets the number and place that oolong_check gives it. A number that is no node's, from how many nodes there
+ * are up to the largest of 32 bits, is no fault: it is answered with OOLONG_OK and count 0. No block is lent, since the node alone decides. Where the threads of a run stand is read from its
+ * block (BLOCK.md): the record of tree position p begins at byte 37,896 + 14 * p, and where its first word is 1 it is a thread at a node, whose number is the second word. A thread with a value
+ * (the first word is 2) makes no silent move next: a published step is due, unless it has finished.
+ *
+ * The count holds however the other threads move in between: none of their moves makes it more or less. But each silent move of a write, a call, a let or a cast needs a place for a frame: where
+ * these are full (OOLONG_FULL_FRAMES), the row stops early, until there is room again. And a thread may be dropped, together with a join that fails. Moves of others may also give its position another number. While there is room, oolong_run with `count`
+ * choices of the thread's position makes just its silent moves.
+ */
+struct oolong_silent_reply oolong_silent(const uint8_t *script, size_t script_len, uint32_t node) OOLONG_LINKED("oolong_silent");
 
 struct oolong_start_reply {
     uint16_t number; /* OOLONG_OK or OOLONG_NO_.. */

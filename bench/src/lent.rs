@@ -2,7 +2,7 @@
 
 use crate::timing::{alone, race, Times};
 use second::block;
-use second::script::Script;
+use second::script::{Script, LIMITS};
 use second::state::State;
 use second::{FLAGS, MOST_CHOICES};
 use std::hint::black_box;
@@ -29,8 +29,19 @@ pub fn made(script: &Script, state: &State) -> (Vec<u8>, Vec<u8>) {
 
 pub fn check_times(file: &[u8]) -> Times {
     let (given, expected) = (engine::check(file), second::check(file));
-    assert_eq!((given.number, given.place, given.start_type), (expected.number, expected.place, expected.ty));
+    let second::Reply { number, place, ty, silent } = expected;
+    assert_eq!(given, engine::CheckReply { number, place, start_type: ty, silent });
     race(|| engine::check(black_box(file)), || second::check(black_box(file)))
+}
+
+/// The silent moves from the first node that has the most of them.
+pub fn silent_times(file: &[u8]) -> Times {
+    let most = second::check(file).silent;
+    let node =
+        (0..LIMITS[5] as u32).find(|&node| second::silent(file, node).count == most).expect("a node has the most");
+    let second::SilentReply { number, place, count } = second::silent(file, node);
+    assert_eq!(engine::silent(file, node), engine::SilentReply { number, place, count });
+    race(|| engine::silent(black_box(file), black_box(node)), || second::silent(black_box(file), black_box(node)))
 }
 
 pub fn start_times(file: &[u8]) -> Times {

@@ -9,12 +9,14 @@ mod question;
 mod read;
 mod run;
 mod scripts;
+mod silent;
 mod small;
 mod table;
 mod timing;
 
 fn main() {
     check::bench();
+    silent::bench();
     small::bench();
     run::bench();
     question::bench();

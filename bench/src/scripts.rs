@@ -1,5 +1,6 @@
 //! Scripts at the limits.
 
+use second::directed::sized;
 use second::expr::parts_mut;
 use second::script::Script;
 
@@ -129,6 +130,11 @@ pub fn deepest(nodes: u16) -> Script {
     }
     script.nodes.push([1, 2, 0, 0]);
     script
+}
+
+/// Casts in casts, and at the bottom a null: so many nodes, and as many silent moves in a row.
+pub fn casts(nodes: usize) -> Script {
+    sized([0, 0, 0, 0, 0, nodes])
 }
 
 /// Lets in lets, each binding a variable of its own to a cast null: no first part looks a variable up.

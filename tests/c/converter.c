@@ -1,15 +1,17 @@
 /*
- * A converter's use of the engine: check a script before anything is sewn, say where it is at fault, and begin a run. Then the edges that a converter would rather not meet in the field.
- * It prints nothing unless something is wrong. tests/c/player.c plays a script to its end.
+ * A converter's use of the engine: check a script before anything is sewn, say where it is at fault, count the silent moves from its nodes, and begin a run. Then the edges that a converter would
+ * rather not meet in the field. It prints the longest row of silent moves that there is, and else nothing unless something is wrong. tests/c/player.c plays a script to its end.
  */
 #include "lent.h"
 #include "oolong.h"
 
 static int failures;
 
-static void expect_check(const char *what, struct oolong_check_reply got, unsigned number, unsigned place, unsigned type) {
-    if (got.number == number && got.place == place && got.type == type) return;
-    printf("FAIL  %s: got %u at %u, type %u; wanted %u at %u, type %u\n", what, got.number, got.place, got.type, number, place, type);
+_Static_assert(sizeof(struct oolong_check_reply) == 8 && sizeof(struct oolong_silent_reply) == 6, "the replies of Check and Silent have no byte that is no member's");
+
+static void expect_check(const char *what, struct oolong_check_reply got, unsigned number, unsigned place, unsigned type, unsigned silent) {
+    if (got.number == number && got.place == place && got.type == type && got.silent == silent) return;
+    printf("FAIL  %s: got %u at %u, type %u, silent %u; wanted %u at %u, type %u, silent %u\n", what, got.number, got.place, got.type, got.silent, number, place, type, silent);
     failures++;
 }
 
@@ -29,6 +31,16 @@ static struct oolong_check_reply check_guarded(const uint8_t *script, size_t len
     struct oolong_check_reply reply = oolong_check(lent.bytes, len);
     take_back(lent);
     return reply;
+}
+
+/* The silent moves from a node, of a script in guarded memory. */
+static void expect_silent(const char *what, const uint8_t *script, size_t len, uint32_t node, unsigned number, unsigned place, unsigned count) {
+    struct lent lent = lend_to_read(script, len);
+    struct oolong_silent_reply got = oolong_silent(lent.bytes, len, node);
+    take_back(lent);
+    if (got.number == number && got.place == place && got.count == count) return;
+    printf("FAIL  %s, node %lu: got %u at %u, count %u; wanted %u at %u, count %u\n", what, (unsigned long)node, got.number, got.place, got.count, number, place, count);
+    failures++;
 }
 
 /* Start in guarded memory: the reply, and whether the block then has one position at a node and is 0 elsewhere, or, after a refusal, every byte that it had. */
@@ -59,46 +71,77 @@ static void checks_of_small_scripts(void) {
     uint8_t script[OOLONG_SCRIPT_LEAST + 16];
     size_t len = nodes_alone(script, unit_null, 2);
 
-    expect_check("(Unit)null is accepted with type Unit", oolong_check(script, len), OOLONG_OK, 0, 0);
-    expect_check("the same in guarded memory", check_guarded(script, len), OOLONG_OK, 0, 0);
-    expect_check("no bytes and no pointer", oolong_check(NULL, 0), OOLONG_NO_LENGTH, 0, 0);
-    expect_check("no bytes at a pointer", oolong_check(script, 0), OOLONG_NO_LENGTH, 0, 0);
+    expect_check("(Unit)null is accepted with type Unit", oolong_check(script, len), OOLONG_OK, 0, 0, 2);
+    expect_check("the same in guarded memory", check_guarded(script, len), OOLONG_OK, 0, 0, 2);
+    expect_check("no bytes and no pointer", oolong_check(NULL, 0), OOLONG_NO_LENGTH, 0, 0, 0);
+    expect_check("no bytes at a pointer", oolong_check(script, 0), OOLONG_NO_LENGTH, 0, 0, 0);
     for (size_t cut = 0; cut < len; cut++) {
         unsigned number = cut < OOLONG_SCRIPT_LEAST ? OOLONG_NO_LENGTH : OOLONG_NO_PLACES;
-        expect_check("a script that is cut", check_guarded(script, cut), number, 0, 0);
+        expect_check("a script that is cut", check_guarded(script, cut), number, 0, 0, 0);
+        expect_silent("a script that is cut", script, cut, 0, number, 0, 0);
     }
     len = nodes_alone(script, start_null, 1);
-    expect_check("a start that is null", check_guarded(script, len), OOLONG_NO_NULL, 24, 0);
+    expect_check("a start that is null", check_guarded(script, len), OOLONG_NO_NULL, 24, 0, 0);
+    expect_silent("a start that is null", script, len, 0, OOLONG_NO_NULL, 24, 0);
+    expect_silent("a start that is null", script, len, 1, OOLONG_NO_NULL, 24, 0);
 }
 
 /* Nodes alone: Int is type 1. */
 static void checks_of_numbers(void) {
     static const struct {
         const char *what;
-        unsigned nodes[5][4], count, number, place, type;
+        unsigned nodes[5][4], count, number, place, type, silent;
     } cases[] = {
-        {"-1", {{10, 65535, 65535, 0}}, 1, OOLONG_OK, 0, 1},
-        {"let x = 1 in x + x", {{5, 2, 1, 2}, {10, 1, 0, 0}, {11, 2, 2, 0}}, 3, OOLONG_OK, 0, 1},
-        {"(Int)null", {{7, 1, 1, 0}, {0, 0, 0, 0}}, 2, OOLONG_NO_FIT, 32, 0},
-        {"(Unit)1", {{7, 0, 1, 0}, {10, 1, 0, 0}}, 2, OOLONG_NO_FIT, 32, 0},
-        {"new Int", {{6, 1, 0, 0}}, 1, OOLONG_NO_TYPE, 24, 0},
-        {"a cast to the type behind Int", {{7, 2, 1, 0}, {10, 1, 0, 0}}, 2, OOLONG_NO_TYPE, 24, 0},
-        {"a constant's unused word", {{10, 1, 0, 1}}, 1, OOLONG_NO_NODE, 24, 0},
-        {"a sum's unused word", {{11, 2, 2, 1}}, 1, OOLONG_NO_NODE, 24, 0},
-        {"kind 12", {{12, 0, 0, 0}}, 1, OOLONG_NO_NODE, 24, 0},
-        {"let x = 1 in lock x in x", {{5, 2, 1, 2}, {10, 1, 0, 0}, {9, 2, 3, 0}, {1, 2, 0, 0}}, 4, OOLONG_NO_MEMBER, 40, 0},
-        {"let x = 1 in x.f", {{5, 2, 1, 2}, {10, 1, 0, 0}, {2, 2, 0, 0}}, 3, OOLONG_NO_MEMBER, 40, 0},
-        {"let x = 1 in x.f = null", {{5, 2, 1, 2}, {10, 1, 0, 0}, {3, 2, 0, 3}, {0, 0, 0, 0}}, 4, OOLONG_NO_MEMBER, 40, 0},
-        {"let x = 1 in x.m(null)", {{5, 2, 1, 2}, {10, 1, 0, 0}, {4, 2, 0, 3}, {0, 0, 0, 0}}, 4, OOLONG_NO_MEMBER, 40, 0},
-        {"(Int)let x = 1 in null", {{7, 1, 1, 0}, {5, 2, 2, 3}, {10, 1, 0, 0}, {0, 0, 0, 0}}, 4, OOLONG_NO_FIT, 48, 0},
-        {"let x = 1 in x + y", {{5, 2, 1, 2}, {10, 1, 0, 0}, {11, 2, 3, 0}}, 3, OOLONG_NO_VARIABLE, 40, 0},
-        {"let x = (Unit)null in x + x", {{5, 2, 1, 3}, {7, 0, 2, 0}, {0, 0, 0, 0}, {11, 2, 2, 0}}, 4, OOLONG_NO_FIT, 48, 0},
+        {"-1", {{10, 65535, 65535, 0}}, 1, OOLONG_OK, 0, 1, 1},
+        {"let x = 1 in x + x", {{5, 2, 1, 2}, {10, 1, 0, 0}, {11, 2, 2, 0}}, 3, OOLONG_OK, 0, 1, 2},
+        {"(Int)null", {{7, 1, 1, 0}, {0, 0, 0, 0}}, 2, OOLONG_NO_FIT, 32, 0, 0},
+        {"(Unit)1", {{7, 0, 1, 0}, {10, 1, 0, 0}}, 2, OOLONG_NO_FIT, 32, 0, 0},
+        {"new Int", {{6, 1, 0, 0}}, 1, OOLONG_NO_TYPE, 24, 0, 0},
+        {"a cast to the type behind Int", {{7, 2, 1, 0}, {10, 1, 0, 0}}, 2, OOLONG_NO_TYPE, 24, 0, 0},
+        {"a constant's unused word", {{10, 1, 0, 1}}, 1, OOLONG_NO_NODE, 24, 0, 0},
+        {"a sum's unused word", {{11, 2, 2, 1}}, 1, OOLONG_NO_NODE, 24, 0, 0},
+        {"kind 12", {{12, 0, 0, 0}}, 1, OOLONG_NO_NODE, 24, 0, 0},
+        {"let x = 1 in lock x in x", {{5, 2, 1, 2}, {10, 1, 0, 0}, {9, 2, 3, 0}, {1, 2, 0, 0}}, 4, OOLONG_NO_MEMBER, 40, 0, 0},
+        {"let x = 1 in x.f", {{5, 2, 1, 2}, {10, 1, 0, 0}, {2, 2, 0, 0}}, 3, OOLONG_NO_MEMBER, 40, 0, 0},
+        {"let x = 1 in x.f = null", {{5, 2, 1, 2}, {10, 1, 0, 0}, {3, 2, 0, 3}, {0, 0, 0, 0}}, 4, OOLONG_NO_MEMBER, 40, 0, 0},
+        {"let x = 1 in x.m(null)", {{5, 2, 1, 2}, {10, 1, 0, 0}, {4, 2, 0, 3}, {0, 0, 0, 0}}, 4, OOLONG_NO_MEMBER, 40, 0, 0},
+        {"(Int)let x = 1 in null", {{7, 1, 1, 0}, {5, 2, 2, 3}, {10, 1, 0, 0}, {0, 0, 0, 0}}, 4, OOLONG_NO_FIT, 48, 0, 0},
+        {"let x = 1 in x + y", {{5, 2, 1, 2}, {10, 1, 0, 0}, {11, 2, 3, 0}}, 3, OOLONG_NO_VARIABLE, 40, 0, 0},
+        {"let x = (Unit)null in x + x", {{5, 2, 1, 3}, {7, 0, 2, 0}, {0, 0, 0, 0}, {11, 2, 2, 0}}, 4, OOLONG_NO_FIT, 48, 0, 0},
     };
     uint8_t script[OOLONG_SCRIPT_LEAST + 40];
     for (size_t i = 0; i < sizeof cases / sizeof *cases; i++) {
         size_t len = nodes_alone(script, cases[i].nodes, cases[i].count);
-        expect_check(cases[i].what, check_guarded(script, len), cases[i].number, cases[i].place, cases[i].type);
+        expect_check(cases[i].what, check_guarded(script, len), cases[i].number, cases[i].place, cases[i].type, cases[i].silent);
     }
+}
+
+/* Every node of a script, and numbers that are no node's: behind the last, and with a node's number as their low half. Of scripts with fields and methods tests/c/reader.c has one. */
+static void counts_of_nodes(void) {
+    static const struct {
+        const char *what;
+        unsigned nodes[8][4], count, silent[8], most;
+    } cases[] = {
+        {"let x = (Unit)(Unit)null in x", {{5, 2, 1, 4}, {7, 0, 2, 0}, {7, 0, 3, 0}, {0, 0, 0, 0}, {1, 2, 0, 0}}, 5, {4, 3, 2, 1, 0}, 4},
+        {"let x = let y = 1 in y in (Int)(Int)2", {{5, 2, 1, 4}, {5, 3, 2, 3}, {10, 1, 0, 0}, {1, 3, 0, 0}, {7, 1, 5, 0}, {7, 1, 6, 0}, {10, 2, 0, 0}}, 7, {3, 2, 1, 0, 3, 2, 1}, 3},
+        {"(Int)fork{(Unit)null}{1}; (Int)2", {{7, 1, 1, 0}, {8, 2, 4, 5}, {7, 0, 3, 0}, {0, 0, 0, 0}, {10, 1, 0, 0}, {7, 1, 6, 0}, {10, 2, 0, 0}}, 7, {1, 0, 2, 1, 1, 2, 1}, 2},
+        {"let x = (Unit)null in (Unit)lock x in (Unit)null",
+         {{5, 2, 1, 3}, {7, 0, 2, 0}, {0, 0, 0, 0}, {7, 0, 4, 0}, {9, 2, 5, 0}, {7, 0, 6, 0}, {0, 0, 0, 0}}, 7, {3, 2, 1, 1, 0, 2, 1}, 3},
+        {"let x = 1 in (Int)x + x", {{5, 2, 1, 2}, {10, 1, 0, 0}, {7, 1, 3, 0}, {11, 2, 2, 0}}, 4, {2, 1, 1, 0}, 2},
+    };
+    uint8_t script[OOLONG_SCRIPT_LEAST + 64];
+    for (size_t i = 0; i < sizeof cases / sizeof *cases; i++) {
+        size_t len = nodes_alone(script, cases[i].nodes, cases[i].count);
+        if (oolong_check(script, len).silent != cases[i].most) printf("FAIL  %s: not %u at the most\n", cases[i].what, cases[i].most), failures++;
+        for (unsigned node = 0; node < cases[i].count; node++) {
+            expect_silent(cases[i].what, script, len, node, OOLONG_OK, 0, cases[i].silent[node]);
+            expect_silent(cases[i].what, script, len, 65536 + node, OOLONG_OK, 0, 0);
+        }
+        const uint32_t no_nodes[] = {cases[i].count, cases[i].count + 1, OOLONG_NODES_MOST, UINT16_MAX, INT32_MAX, UINT32_MAX};
+        for (size_t j = 0; j < sizeof no_nodes / sizeof *no_nodes; j++) expect_silent(cases[i].what, script, len, no_nodes[j], OOLONG_OK, 0, 0);
+    }
+    struct oolong_silent_reply none = oolong_silent(NULL, 0, 0);
+    if (none.number != OOLONG_NO_LENGTH || none.place != 0 || none.count != 0) printf("FAIL  no bytes and no pointer: got %u\n", none.number), failures++;
 }
 
 static void checks_of_large_scripts(void) {
@@ -109,13 +152,17 @@ static void checks_of_large_scripts(void) {
         deep[node][2] = node + 1;
     }
     size_t len = nodes_alone(script, (const unsigned(*)[4])deep, OOLONG_NODES_MOST);
-    expect_check("1,024 nodes in one chain", check_guarded(script, len), OOLONG_OK, 0, 0);
+    expect_check("1,024 nodes in one chain", check_guarded(script, len), OOLONG_OK, 0, 0, OOLONG_NODES_MOST);
+    for (unsigned node = 0; node <= OOLONG_NODES_MOST; node++) expect_silent("1,024 nodes in one chain", script, len, node, OOLONG_OK, 0, OOLONG_NODES_MOST - node);
+    printf("1,024 nodes in one chain: %u silent moves from node 0\n", oolong_silent(script, len, 0).count);
     expect_start("1,024 nodes in one chain", script, len, OOLONG_BLOCK, OOLONG_OK, 0);
     put(script, 22, OOLONG_NODES_MOST + 1);
-    expect_check("1,025 nodes", check_guarded(script, len), OOLONG_NO_COUNTS, 0, 0);
+    expect_check("1,025 nodes", check_guarded(script, len), OOLONG_NO_COUNTS, 0, 0, 0);
+    expect_silent("1,025 nodes", script, len, 0, OOLONG_NO_COUNTS, 0, 0);
     memset(script, 0xff, sizeof script);
-    expect_check("13,593 bytes", check_guarded(script, sizeof script), OOLONG_NO_LENGTH, 0, 0);
-    expect_check("13,592 bytes of 255", check_guarded(script, sizeof script - 1), OOLONG_NO_COUNTS, 0, 0);
+    expect_check("13,593 bytes", check_guarded(script, sizeof script), OOLONG_NO_LENGTH, 0, 0, 0);
+    expect_silent("13,593 bytes", script, sizeof script, 0, OOLONG_NO_LENGTH, 0, 0);
+    expect_check("13,592 bytes of 255", check_guarded(script, sizeof script - 1), OOLONG_NO_COUNTS, 0, 0, 0);
 }
 
 static void starts(void) {
@@ -139,6 +186,7 @@ static void starts(void) {
 int main(void) {
     checks_of_small_scripts();
     checks_of_numbers();
+    counts_of_nodes();
     checks_of_large_scripts();
     starts();
     if (failures > 0) printf("%d failed\n", failures);

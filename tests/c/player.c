@@ -1,13 +1,18 @@
 /*
  * A converter that plays a script. `player STOP MOVES OBJECTS [NUMBER] < script` starts it, always moves the first tree position that Offer flags, and must come to that stop after that many moves
- * and with that many objects; it finishes with a number just where one is given, and with that one. Then it plays the same choices again, as many as fit into each call, and asks for every refusal
- * of Offer and Run. It prints the number that the script finished with, and else nothing unless something is wrong. `player damaged < script` plays it too, and says what
- * a converter would of its last block, kept as a save and then damaged: in a byte of each part, cut, and, where the script finishes with a number, in that number.
+ * and with that many objects; it finishes with a number just where one is given, and with that one. Before each move every thread that is at a node must make as many silent moves, in a copy of the
+ * block, as are counted for its node. Then it plays the same choices again, as many as fit into each call, and asks for every refusal of Offer and Run. It prints the number that the script
+ * finished with, and else nothing unless something is wrong. `player damaged < script` plays it too, and says what a converter would of its last block, kept as a save and then damaged: in a byte
+ * of each part, cut, and, where the script finishes with a number, in that number. `player panel MOVES < script` plays so many moves and shows a time panel of the block that they lead to: a line
+ * for each thread.
  */
 #include "lent.h"
 #include "oolong.h"
 
 enum { MOST_MOVES = 65536 };
+
+/* docs/BLOCK.md: the tree positions, the size of a record, and what its first word says. */
+enum { POSITIONS = 37896, POSITION = 14, AT_NODE = 1, WITH_VALUE = 2, FAILED = 3 };
 
 static uint8_t script[OOLONG_SCRIPT_MOST + 1];
 static size_t script_len;
@@ -51,13 +56,53 @@ static struct oolong_run_reply ran(uint8_t *block, const uint8_t *choices, size_
     return reply;
 }
 
-/* The loop of a converter: offer, choose, move, until the run stops. Leaves the choices made and how many they are; what it stopped with is the answer. */
-static unsigned play(uint8_t *block, uint8_t *choices, size_t *made) {
+static const uint8_t *position_record(const uint8_t *block, size_t position) {
+    return block + POSITIONS + POSITION * position;
+}
+
+/* The silent moves from a node. */
+static unsigned counted(unsigned node) {
+    struct oolong_silent_reply reply = oolong_silent(script, script_len, node);
+    must_pass("Silent", reply.number, reply.place);
+    return reply.count;
+}
+
+/* Is a position a thread at a node of a kind that moves silently? docs/SCRIPT.md: where the nodes are, and their kinds. */
+static int is_silent(const uint8_t *block, size_t position) {
+    static const int kinds[] = {1, 0, 0, 1, 1, 1, 0, 1, 0, 0, 1, 0};
+    const uint8_t *record = position_record(block, position);
+    return get(record, 0) == AT_NODE && kinds[get(script, get(script, 20) + 8u * get(record, 2))];
+}
+
+/* Does a position move silently next, behind so many choices of it in a copy of the block? Each of them must be a move. */
+static int is_silent_behind(const uint8_t *block, size_t position, unsigned count) {
+    static uint8_t copy[OOLONG_BLOCK], choices[OOLONG_NODES_MOST];
+    memcpy(copy, block, OOLONG_BLOCK);
+    memset(choices, (int)position, count);
+    must(ran(copy, choices, count).moves == count, "a silent move is not made");
+    return is_silent(copy, position);
+}
+
+/* Of each thread at a node: as many choices of it as are counted for its node make its silent moves, and one fewer leaves one; unless frames may be full before. */
+static void expect_rows(const uint8_t *block) {
+    for (size_t position = 0; position < get(block, 6); position++) {
+        const uint8_t *record = position_record(block, position);
+        if (get(record, 0) != AT_NODE) continue;
+        unsigned count = counted(get(record, 2));
+        must((count > 0) == is_silent(block, position), "a silent move is not counted, or another one is");
+        if (count == 0 || get(block, 4) + count > OOLONG_FRAMES_MOST) continue;
+        must(is_silent_behind(block, position, count - 1), "a thread makes fewer silent moves than are counted");
+        must(!is_silent_behind(block, position, count), "a thread makes more silent moves than are counted");
+    }
+}
+
+/* The loop of a converter: offer, choose, move, until the run stops or so many moves are made. Leaves the choices made and how many they are; what it stopped with is the answer. */
+static unsigned play(uint8_t *block, uint8_t *choices, size_t *made, size_t most) {
     struct oolong_run_reply reply = ran(block, NULL, 0);
-    while (reply.stop == OOLONG_SPENT) {
+    while (reply.stop == OOLONG_SPENT && *made < most) {
         size_t position = first_offered(block);
+        expect_rows(block);
         must(position < OOLONG_FLAGS, "a run that has not ended offers nothing");
-        must(*made < MOST_MOVES, "the run does not end");
         choices[*made] = (uint8_t)position;
         reply = ran(block, &choices[(*made)++], 1);
         must(reply.read == 1 && reply.moves == (reply.stop < OOLONG_FULL_OBJECTS), "what is offered does not move");
@@ -220,10 +265,22 @@ static void tell_damage(uint8_t *block) {
     if (get(block, 37902) == 2) tell_changed(block, 37904, OOLONG_OK);
 }
 
+/* A time panel: of each thread how many silent moves come before its next step, wait or finish. The longest row of the script is its full scale. */
+static void show_panel(const uint8_t *block) {
+    for (size_t position = 0; position < get(block, 6); position++) {
+        const uint8_t *record = position_record(block, position);
+        unsigned kind = get(record, 0), node = get(record, 2);
+        if (kind == AT_NODE) printf("position %zu, at node %u: silent moves before its next step, wait or finish: %u\n", position, node, counted(node));
+        if (kind == WITH_VALUE) printf("position %zu, with a value: no silent move\n", position);
+        if (kind == FAILED) printf("position %zu: failed\n", position);
+    }
+    printf("at most from any node: %u\n", oolong_check(script, script_len).silent);
+}
+
 int main(int count, char **words) {
     static uint8_t block[OOLONG_BLOCK], again[OOLONG_BLOCK], first[OOLONG_BLOCK], choices[MOST_MOVES];
-    int tells = count == 2 && strcmp(words[1], "damaged") == 0;
-    must(tells || count == 4 || count == 5, "usage: player STOP MOVES OBJECTS [NUMBER] < script, or player damaged < script");
+    int tells = count == 2 && strcmp(words[1], "damaged") == 0, shows = count == 3 && strcmp(words[1], "panel") == 0;
+    must(tells || shows || count == 4 || count == 5, "usage: player STOP MOVES OBJECTS [NUMBER] < script, player damaged < script, or player panel MOVES < script");
     script_len = fread(script, 1, sizeof script, stdin);
     must(oolong_check(script, script_len).number == OOLONG_OK, "the script is not accepted");
     memset(block, 0xaa, sizeof block);
@@ -232,8 +289,10 @@ int main(int count, char **words) {
     must(memcmp(block, again, sizeof block) == 0, "two starts differ");
     memcpy(first, block, sizeof block);
 
-    size_t made = 0;
-    unsigned stop = play(block, choices, &made);
+    size_t made = 0, most = shows ? (size_t)atoi(words[2]) : MOST_MOVES;
+    unsigned stop = play(block, choices, &made, most < MOST_MOVES ? most : MOST_MOVES);
+    if (shows) return show_panel(block), EXIT_SUCCESS;
+    must(stop != OOLONG_SPENT, "the run does not end");
     if (tells) return tell_damage(block), EXIT_SUCCESS;
     size_t moves = made - (stop >= OOLONG_FULL_OBJECTS);
     unsigned objects = get(block, 0); /* docs/BLOCK.md: the first count of the header */

@@ -71,6 +71,18 @@ static const uint16_t figure_10[] = {
     2, 0, 0, 0,                                /* this.cnt */
 };
 
+/* The silent moves from each of its nodes: the expression that begins there goes down so often before a variable, a read, a new, a sum, a fork or a lock, or behind a number. */
+static const unsigned silent_10[] = {1, 0, 2, 1, 0, 3, 2, 1, 0, 0, 2, 1, 0, 2, 1, 2, 1, 1, 0, 1, 0, 1, 0, 0};
+
+static void expect_silent_10(const uint8_t *file, size_t len) {
+    enum { NODES = sizeof silent_10 / sizeof *silent_10 };
+    for (uint32_t node = 0; node < NODES + 1; node++) {
+        struct oolong_silent_reply got = oolong_silent(file, len, node), none = oolong_silent(file, len, 65536 + node);
+        expect(got.number == OOLONG_OK && got.place == 0 && got.count == (node < NODES ? silent_10[node] : 0), "Figure 10", "a wrong count of silent moves");
+        expect(none.number == OOLONG_OK && none.place == 0 && none.count == 0, "Figure 10", "a count of silent moves from no node");
+    }
+}
+
 /* From the text to the end of its run, as a converter goes. */
 static void from_text_to_end(const uint8_t *bytes, size_t len) {
     static uint8_t file[OOLONG_FILE], block[OOLONG_BLOCK], flags[OOLONG_FLAGS];
@@ -79,6 +91,8 @@ static void from_text_to_end(const uint8_t *bytes, size_t len) {
     struct oolong_read_reply text = oolong_read(bytes, len, file, sizeof file);
     struct oolong_check_reply checked = oolong_check(file, text.length);
     expect(checked.number == OOLONG_OK && checked.place == 0 && checked.type == 3, "Figure 10", "Check does not answer type 3");
+    expect(checked.silent == 3, "Figure 10", "Check does not answer 3 silent moves in a row at the most");
+    expect_silent_10(file, text.length);
     struct oolong_start_reply started = oolong_start(file, text.length, block, sizeof block);
     expect(started.number == OOLONG_OK && started.place == 0, "Figure 10", "Start is refused");
     struct oolong_run_reply ran = {0};

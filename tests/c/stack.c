@@ -12,6 +12,10 @@ static unsigned check(const uint8_t *script, size_t len) {
     return oolong_check(script, len).number;
 }
 
+static unsigned silent(const uint8_t *script, size_t len) {
+    return oolong_silent(script, len, 0).number;
+}
+
 static unsigned start(const uint8_t *script, size_t len) {
     return oolong_start(script, len, block, sizeof block).number;
 }
@@ -35,7 +39,7 @@ static unsigned run(const uint8_t *script, size_t len) {
 static const struct {
     const char *name;
     unsigned (*call)(const uint8_t *, size_t);
-} calls[] = {{"Check", check}, {"Start", start}, {"Offer", offer}, {"Run", move}, {"then Offer", offer}, {"Run", run}};
+} calls[] = {{"Check", check}, {"Silent", silent}, {"Start", start}, {"Offer", offer}, {"Run", move}, {"then Offer", offer}, {"Run", run}};
 
 struct job {
     unsigned (*call)(const uint8_t *, size_t);

@@ -32,7 +32,7 @@ static uint8_t pick(const uint8_t *flags, unsigned number) {
     return 0;
 }
 
-/* Read, Check, Start, then Offer and Run for each move; Offer on the one first block too. */
+/* Read, Check, Start, then Offer and Run for each move; Offer on the one first block too, and Silent for one node after another. */
 static void *play(void *given) {
     struct game *game = given;
     uint64_t sum = 14695981039346656037u;
@@ -51,11 +51,13 @@ static void *play(void *given) {
             struct oolong_offer_reply offered = oolong_offer(script.bytes, script.len, game->block, OOLONG_BLOCK, flags, sizeof flags);
             random = random * 1103515245u + 12345u;
             choice = pick(flags, random >> 16);
+            struct oolong_silent_reply counted = oolong_silent(script.bytes, script.len, move % OOLONG_NODES_MOST);
             struct oolong_run_reply ran = oolong_run(script.bytes, script.len, game->block, OOLONG_BLOCK, &choice, 1);
             add(&sum, &shared, sizeof shared);
             add(&sum, first_flags, sizeof first_flags);
             add(&sum, &offered, sizeof offered);
             add(&sum, flags, sizeof flags);
+            add(&sum, &counted, sizeof counted);
             add(&sum, &ran, sizeof ran);
             add(&sum, game->block, OOLONG_BLOCK);
             if (ran.stop != OOLONG_SPENT) break;

@@ -15,7 +15,7 @@ use Rattle.script.specs.declared.Found.the-variants.{At as Is, Nothing as Misse
 use Rattle.script.specs.Section.{countOf, nodeWord}
 use Rattle.script.specs.Syntax.{Point, Expr, Slot, Signature, Program}
 use Rattle.script.specs.Reading.{kindOf, nodeOf, viewAt, exprAt, programOf}
-use Rattle.script.proofs.Reading.{first, in-order}
+use Rattle.script.proofs.Reading.{first, view-by, expr-by, part-by}
 use Rattle.script.proofs.Regular.{formed, regular}
 use Rattle.script.proofs.Tests.{yes-said}
 use Rattle.sections.specs.Laid.{foundOf}
@@ -35,7 +35,7 @@ use Rattle.inference.specs.declared.Given.{Given}
 use Rattle.inference.specs.declared.Given.the-variants.{Typed as typed-at, Null as null-at, Faulty as faulty-at}
 use Rattle.inference.specs.Given.{inferredAs, answerAs, GivenIn}
 use Rattle.inference.proofs.Given.{the-type}
-use Rattle.inference.proofs.InferLaws.{nodeBy, type-small}
+use Rattle.inference.proofs.InferLaws.{type-small}
 use Rattle.machine.specs.Config.{Code, codeOf}
 use Rattle.machine.specs.Machine.{context}
 use Rattle.machine.specs.declared.Want.{Want}
@@ -44,16 +44,10 @@ use Rattle.machine.specs.Decide.{given, ifTyped, only, meetsTest, nullMeetsTest
 use Rattle.machine.proofs.Types.{null-unit}
 use Rattle.environments.specs.Chains.{bindingsIn}
 use Rattle.environments.specs.Known.{ScopedNode, Inferable}
-use Rattle.environments.proofs.KnownLaws.{expr-is}
 use Rattle.awaited.specs.declared.Expects.the-variants.{No, Wants}
 use Rattle.awaited.specs.declared.Waits.{Waits}
 use Rattle.awaited.specs.declared.Waits.the-variants.{Never, For, ForNull}
 use Rattle.awaited.specs.Awaited.{expectsOf, wantsOf, givenTest, waitsBy, GivesSmall, WaitsAs}
-
--- a node of kind k
-pub view-by : (s : List ℕ) (n : Point) (k : ℕ) → nodeWord s n 0 ≡ k → viewAt s n ≡ nodeBy s n k
-unfolding viewAt
-view-by s n k e = rw e
 
 method-missed : {A : Type 0} (o : Option Signature) (r : Member) (k : Signature → Option A) → r ≡ memberOf o → r ≡ Missing → given o k ≡ none
 method-missed none r k e f = refl
@@ -165,11 +159,11 @@ module _ {s starts b : List ℕ} {n : Point} {e : ℕ} (a : ScopedNode s starts 
         ≡ andThen (inferred (programOf s) (context (bindingsIn b) e) (exprAt s (nodeWord s n 2)))
         (λ t. answer (programOf s) (record { name = nodeWord s n 1; type = t } ∷ context (bindingsIn b) e) (exprAt s (nodeWord s n 3)) o)
     unfolding kindOf answer
-    answer-is o = rw (expr-is (a .within) (a .there) 5 k)
+    answer-is o = rw (expr-by s (a .within) n (a .there) 5 k)
 
     pub first-there : {q : Point} → q ≡ nodeWord s n 2 → q < countOf s nodes
     unfolding kindOf
-    first-there eq = rw eq (in-order s (a .within) n (a .there) (nodeWord s n 2) (rw (view-by s n 5 k) first) .there)
+    first-there eq = rw eq (part-by s (a .within) n (a .there) 5 k (nodeWord s n 2) first .there)
 
     module _ (g : Given) (eg : GivenIn (programOf s) (context (bindingsIn b) e) (exprAt s n) g) where
       last-gives : (t : ℕ) → inferred (programOf s) (context (bindingsIn b) e) (exprAt s (nodeWord s n 2)) ≡ Typed t

@@ -1,4 +1,4 @@
--- The reply that a refusal makes.
+-- What a refusal says.
 use Prim.Native.Nat.{ℕ}
 use mathlib.Core.Path.{_≡_, refl}
 use Rattle.script.specs.declared.Question.{Question}

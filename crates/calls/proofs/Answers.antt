@@ -130,7 +130,7 @@ module _ (s : List ℕ) (bytes : (i : ℕ) → getD s i 0 < 256) where
       offer-from b fl (blockAsked s b (flagsLong fl)) (block-answers b (flagsLong fl) (eqb-true (length fl) FLAGS) (eqb-false (length fl) FLAGS))
 
 -- Check, on all inputs.
-check-from : (s : List ℕ) (v : Verdict) → checkOf s ≡ v → CheckAnswers s (checkedFrom v)
+check-from : (s : List ℕ) (v : Verdict) → checkOf s ≡ v → CheckAnswers s (checkedFrom s v)
 check-from s (Accepted t) e = checked e
 check-from s (Refused q place) e = check-refused e
 

@@ -8,6 +8,7 @@ pub mod Lists
 pub mod Runs
 pub mod Still
 pub mod Reached
+pub mod Counts
 pub mod Bytes
 pub mod Damaged
 pub mod Lent

@@ -13,6 +13,7 @@ use Rattle.calls.proofs.Which.{which-part-offer, which-part-run}
 use Rattle.calls.proofs.Replies.{start-writes}
 use Rattle.calls.proofs.Runs.{run-left, run-trace-bytes}
 use Rattle.calls.proofs.Reached.{steps-reached-bytes}
+use Rattle.calls.proofs.Counts.{silent-answers, largest-count, counts-row, counted-run}
 use Rattle.calls.proofs.Lists.{demand-three-bytes}
 
 pub promise : (s : List ℕ) → ((i : ℕ) → getD s i 0 < 256) → Promise s
@@ -22,6 +23,8 @@ promise s bytes =
           record {
             refused = refused-exact s;
             check = check-answers s;
+            silent = silent-answers s;
+            most = λ acc. largest-count s bytes acc;
             start = start-answers s;
             offer = offer-answers s bytes;
             run = run-answers s bytes;
@@ -38,6 +41,8 @@ promise s bytes =
             runs = run-left s bytes;
             moves = run-trace-bytes s bytes;
             silent = λ acc h r p o. silent-bound (accepts s bytes _ acc) limits p (h .well .formed) r o;
+            counts = λ acc h r p o i. counts-row s bytes acc h p i r o;
+            counted = λ acc h k p l i. counted-run s bytes acc h p i k l;
             reached = λ acc h k. steps-reached-bytes s bytes _ acc h k;
           };
       three = λ acc x calls. demand-three-bytes s bytes _ acc calls (x .holds);

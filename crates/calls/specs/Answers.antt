@@ -1,32 +1,38 @@
--- What the four calls answer, as plain statements to be held against document 01.
+-- What the calls answer, as plain statements to be held against documents 01 and 02.
 use Prim.Native.Nat.{ℕ, _<_, _≤_}
 use mathlib.Core.Path.{_≡_}
 use mathlib.Core.Bool.{Bool, true, false}
 use mathlib.Core.List.{List, [], _∷_, _++_}
 use mathlib.Core.Logic.{_⊎_, _↔_}
 use mathlib.Core.Option.{Option, none, some}
-use lib.ListN.{length, take}
-use Rattle.limits.specs.Limits.{BLOCK, CHOICES, FLAGS}
+use lib.ListN.{length, take, replicate}
+use Rattle.limits.specs.Limits.{BLOCK, CHOICES, FLAGS, SILENT}
 use Rattle.script.specs.declared.Question.{Question}
 use Rattle.script.specs.Lists.{_∈_}
 use Rattle.script.specs.Asking.{numberOf}
+use Rattle.script.specs.declared.Section.the-variants.{Nodes as nodes}
+use Rattle.script.specs.Section.{countOf}
+use Rattle.script.specs.Reading.{exprAt}
 use Rattle.typing.specs.declared.Verdict.the-variants.{Accepted, Refused}
 use Rattle.typing.specs.Check.{checkOf}
 use Rattle.machine.specs.declared.Store.{Store}
+use Rattle.machine.specs.declared.Store.the-variants.{Frames}
 use Rattle.machine.specs.declared.Stop.the-variants.{Spent, Full}
 use Rattle.machine.specs.Stops.{storeNumber}
-use Rattle.machine.specs.Config.{Config, codeOf}
+use Rattle.machine.specs.Config.{Tree, Config, codeOf}
 use Rattle.machine.specs.Machine.{limits, full, Path, move, initial}
 use Rattle.machine.specs.WellFormed.{WellFormed}
 use Rattle.machine.specs.Runs.{Report, report, Runs, StopMeans}
 use Rattle.published.specs.ReadAs.{Reading, reading}
 use Rattle.machine.specs.FullStore.{StopsShort}
+use Rattle.machine.specs.Silent.{quietIn, chain, mostSilent}
 use Rattle.published.specs.Reach.{OneRun}
 use Rattle.published.specs.Traces.{Trace}
+use Rattle.published.specs.Counts.{CountedRow}
 use Rattle.block.specs.Block.{encode}
 use Rattle.parts.specs.Parts.{ObjectsAre, BindingsAre, ThreadsAre}
 use Rattle.calls.specs.declared.LentQuestion.the-variants.{BlockLength, BufferLength, BlockObjects, BlockBindings, BlockThreads}
-use Rattle.calls.specs.Calls.{lentNumber, Checked, Started, Offered, flagsOf, Ran, ran, runOf}
+use Rattle.calls.specs.Calls.{lentNumber, Checked, SilentTold, silentOf, Started, Offered, flagsOf, Ran, ran, runOf}
 
 -- The block stands for this configuration, well formed for the script, whose start has type t.
 pub record Holds (s : List ℕ) (t : ℕ) (b : List ℕ) (c : Config) : Type 0 where
@@ -43,10 +49,26 @@ abbrev pub found : Option Config → Bool
 found none = false
 found (some c) = true
 
--- Check has a no, with document 01's number of the question, the place and type 0; or the start's type.
+-- Check has a no, with document 01's number of the question, the place, type 0 and count 0; or the start's type and the largest count.
 pub data CheckAnswers (s : List ℕ) : Checked → Type 0 where
-  check-refused : {q : Question} {place : ℕ} → checkOf s ≡ Refused q place → CheckAnswers s (record { number = numberOf q; place = place; type = 0 })
-  checked : {t : ℕ} → checkOf s ≡ Accepted t → CheckAnswers s (record { number = 0; place = 0; type = t })
+  check-refused : {q : Question} {place : ℕ} → checkOf s ≡ Refused q place
+      → CheckAnswers s (record { number = numberOf q; place = place; type = 0; silent = 0 })
+  checked : {t : ℕ} → checkOf s ≡ Accepted t → CheckAnswers s (record { number = 0; place = 0; type = t; silent = mostSilent (codeOf s) })
+
+-- Silent has Check's no, with count 0; or the count of the node with this number, "the answer is 0 where no such node is".
+pub data SilentAnswers (s : List ℕ) (n : ℕ) : SilentTold → Type 0 where
+  silent-refused : {q : Question} {place : ℕ} → checkOf s ≡ Refused q place → SilentAnswers s n (record { number = numberOf q; place = place; count = 0 })
+  silent-counted : {t : ℕ} → checkOf s ≡ Accepted t → n < countOf s nodes → SilentAnswers s n (record { number = 0; place = 0; count = chain (exprAt s n) })
+  silent-none : {t : ℕ} → checkOf s ≡ Accepted t → countOf s nodes ≤ n → SilentAnswers s n (record { number = 0; place = 0; count = 0 })
+
+-- "the largest such count over all nodes of the script": no count of Silent's is above m, and that of a node is m; and since "A thread makes at most 1,024
+-- silent moves in a row", neither is m above that.
+pub record LargestCount (s : List ℕ) (m : ℕ) : Type 0 where
+  pub none-above : (n : ℕ) → silentOf s n .count ≤ m
+  pub node : ℕ
+  pub there : node < countOf s nodes
+  pub has : silentOf s node .count ≡ m
+  pub few : m ≤ SILENT
 
 -- The first no of each call, in order, and its number and place. `Fine` says what is asked of the other buffer, `Off` that it gets a no.
 pub data FirstNoTo (s b : List ℕ) (Fine Off : Type 0) : ℕ → ℕ → Type 0 where
@@ -135,3 +157,21 @@ pub record ReachedBy (s : List ℕ) (t : ℕ) (b : List ℕ) (c : Config) (q : R
   -- a store has too few places left for the move due at p, or every choice made its move
   pub ends : ((k : Store) × (runOf s b choices .stop ≡ storeNumber k) × (move (codeOf s) limits (by .middle) p ≡ full k))
       ⊎ ((runOf s b choices .moves ≡ length choices) × (reading (codeOf s) config ≡ q))
+
+-- "the exact number of silent moves": of a row of silent moves of a thread, given how many they are and how the place stands behind them, against the count n
+-- of the node where the thread was. The row is never longer; and where the move due is no longer silent, it is exactly as long.
+pub record CountsRow (s : List ℕ) (behind : Option Tree) (moves n : ℕ) : Type 0 where
+  pub most : moves ≤ n
+  pub exact : quietIn (codeOf s) behind ≡ false → moves ≡ n
+
+-- A Run with n choices of position k, and no others, on a block that holds c, where a thread whose count is n stands there, at the place p: it makes silent
+-- moves of that thread, n of them, "assuming no store fills", and then "its next published step, wait or finish" is due.
+pub record CountedRun (s : List ℕ) (t : ℕ) (b : List ℕ) (c : Config) (k : ℕ) (p : Path) (n : ℕ) : Type 0 where
+  pub row : CountedRow (codeOf s) limits c k p n
+  pub few : n ≤ CHOICES
+  pub position : k < FLAGS
+  pub number : runOf s b (replicate n k) .number ≡ 0
+  pub moves : runOf s b (replicate n k) .moves ≡ row .made
+  pub holds : Holds s t (runOf s b (replicate n k) .block) (row .after)
+  -- fewer than n only with stop 6, frames full
+  pub full : row .made < n → runOf s b (replicate n k) .stop ≡ storeNumber Frames

@@ -1,5 +1,5 @@
--- The four calls on byte lists: each gives its reply's numbers and every lent byte that the call may write, for all inputs. The script and the choices are lent
--- to be read only.
+-- The four calls of document 01 and Silent, request 6's, on byte lists: each gives its reply's numbers and every lent byte that the call may write, for all
+-- inputs. The script and the choices are lent to be read only.
 use Prim.Native.Nat.{ℕ}
 use mathlib.Core.Bool.{Bool, true, false}
 use mathlib.Core.List.{List}
@@ -15,6 +15,7 @@ use Rattle.typing.specs.Check.{checkOf, verdictNumber, verdictPlace, verdictTyp
 use Rattle.machine.specs.Stops.{stopNumber}
 use Rattle.machine.specs.Config.{Config, codeOf}
 use Rattle.machine.specs.Machine.{fieldCount, oneIf, limits, canMove, initial}
+use Rattle.machine.specs.Silent.{silentFrom, mostSilent}
 use Rattle.machine.specs.Decide.{only, wellFormedTest}
 use Rattle.machine.specs.Runs.{Report, report}
 use Rattle.block.specs.Block.{encode}
@@ -89,6 +90,12 @@ pub record Checked : Type 0 where
   pub number : ℕ
   pub place : ℕ
   pub type : ℕ
+  pub silent : ℕ
+
+pub record SilentTold : Type 0 where
+  pub number : ℕ
+  pub place : ℕ
+  pub count : ℕ
 
 pub record Started : Type 0 where
   pub number : ℕ
@@ -109,12 +116,26 @@ pub record Ran : Type 0 where
   pub moves : ℕ
   pub block : List ℕ
 
+-- "Check reports the largest such count over all nodes of the script"
+abbrev pub verdictSilent : List ℕ → Verdict → ℕ
+verdictSilent s (Accepted t) = mostSilent (codeOf s)
+verdictSilent s (Refused q place) = 0
+
 -- "Check answers the start's type."
-abbrev pub checkedFrom : Verdict → Checked
-checkedFrom v = record { number = verdictNumber v; place = verdictPlace v; type = verdictType v }
+abbrev pub checkedFrom : List ℕ → Verdict → Checked
+checkedFrom s v = record { number = verdictNumber v; place = verdictPlace v; type = verdictType v; silent = verdictSilent s v }
 
 unfoldable pub checkedOf : List ℕ → Checked
-checkedOf s = checkedFrom (checkOf s)
+checkedOf s = checkedFrom s (checkOf s)
+
+-- "For a thread at a node, given by number (the answer is 0 where no such node is), the engine, after questions 1 to 15, reports the exact number of silent
+-- moves"
+abbrev pub silentTold : List ℕ → ℕ → Verdict → SilentTold
+silentTold s n (Accepted t) = record { number = 0; place = 0; count = silentFrom (codeOf s) n }
+silentTold s n (Refused q place) = record { number = numberOf q; place = place; count = 0 }
+
+unfoldable pub silentOf : List ℕ → ℕ → SilentTold
+silentOf s n = silentTold s n (checkOf s)
 
 -- "Start writes the initial block over anything"
 abbrev pub startedFrom : List ℕ → Questioned → Started

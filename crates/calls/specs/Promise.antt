@@ -1,27 +1,30 @@
--- The whole promise, of the four calls on bytes, a field to each sentence of docs/DEMANDS.md. By the contracts of the crate `engine` the four calls from C are
--- `checkedOf`, `startOf`, `offerOf` and `runOf`, so each sentence is about what they return and leave.
+-- The whole promise, of the four calls on bytes and of Silent, a field to each sentence of docs/DEMANDS.md. By the contracts of the crate `engine` the calls
+-- from C are `checkedOf`, `silentOf`, `startOf`, `offerOf` and `runOf`, so each sentence is about what they return and leave.
 use Prim.Native.Nat.{ℕ, _≤_}
 use mathlib.Core.Path.{_≡_}
 use mathlib.Core.List.{List}
 use mathlib.Core.Logic.{_↔_}
+use mathlib.Core.Option.{some}
 use lib.ListN.{length}
 use Rattle.limits.specs.Limits.{BLOCK, CHOICES, FLAGS, SILENT}
 use Rattle.script.specs.declared.Question.{Question}
+use Rattle.script.specs.Syntax.{Point}
 use Rattle.script.specs.Reading.{programOf}
 use Rattle.script.specs.Statements.{WithinLayout}
 use Rattle.typing.specs.declared.Verdict.the-variants.{Accepted, Refused}
 use Rattle.typing.specs.Published.{WfProgram}
 use Rattle.typing.specs.Refusals.{FirstNo}
 use Rattle.typing.specs.Check.{checkOf}
-use Rattle.machine.specs.Config.{Config, codeOf}
-use Rattle.machine.specs.Machine.{limits, Path, initial}
+use Rattle.machine.specs.declared.Frame.{Frame}
+use Rattle.machine.specs.Config.{running, Config, codeOf}
+use Rattle.machine.specs.Machine.{limits, Path, locate, initial, part}
 use Rattle.published.specs.ReadAs.{Reading, reading, Steps, initialReading}
 use Rattle.published.specs.Reach.{site}
 use Rattle.published.specs.Traces.{Trace, OnlySilent, silentMoves}
 use Rattle.parts.specs.ByBytes.{ByBytes}
-use Rattle.calls.specs.Calls.{checkedOf, startOf, offerOf, runOf}
-use Rattle.calls.specs.Answers.{Holds, Stands, CheckAnswers, StartAnswers, OfferAnswers, RunAnswers, PartsStand, WhichPart}
-use Rattle.calls.specs.Answers.{NotRefused, TraceOf, ReachedBy}
+use Rattle.calls.specs.Calls.{checkedOf, silentOf, startOf, offerOf, runOf}
+use Rattle.calls.specs.Answers.{Holds, Stands, CheckAnswers, SilentAnswers, LargestCount, StartAnswers, OfferAnswers, RunAnswers, PartsStand, WhichPart}
+use Rattle.calls.specs.Answers.{NotRefused, TraceOf, ReachedBy, CountsRow, CountedRun}
 use Rattle.calls.specs.Lists.{Lent, DemandThreeOf}
 
 -- Demand 1: "The converter gets a reply from every call .., without checking them first; a bad one gets document 01's refusal number and changes no lent byte."
@@ -29,8 +32,12 @@ use Rattle.calls.specs.Lists.{Lent, DemandThreeOf}
 pub record DemandOneOf (s : List ℕ) : Type 0 where
   -- Check is refused with the first no and its place, and by no other
   pub refused : (q : Question) (place : ℕ) → (checkOf s ≡ Refused q place) ↔ FirstNo s q place
-  -- and its reply is that no's number and place, "with every other number 0", or the start's type
+  -- and its reply is that no's number and place, "with every other number 0", or the start's type and the largest count
   pub check : CheckAnswers s (checkedOf s)
+  -- request 6, whatever the number of the node: refused as Check is, or the node's count
+  pub silent : (n : ℕ) → SilentAnswers s n (silentOf s n)
+  -- "Check reports the largest such count over all nodes of the script"
+  pub most : {t : ℕ} → checkOf s ≡ Accepted t → LargestCount s (checkedOf s .silent)
   -- Start, Offer and Run, whatever is lent to them: refused with their first no, with the lent bytes as they were, or done
   pub start : (b : List ℕ) → StartAnswers s b (startOf s b)
   pub offer : (b fl : List ℕ) → OfferAnswers s b fl (offerOf s b fl)
@@ -57,6 +64,13 @@ pub record DemandTwoOf (s : List ℕ) : Type 0 where
   -- "A thread makes at most 1,024 silent moves in a row": on every way from a block that holds a configuration, so between any two points of a Run
   pub silent : {t : ℕ} → checkOf s ≡ Accepted t → {b : List ℕ} {c d : Config} {ns : List ℕ} {n : ℕ} → Holds s t b c
       → (r : Trace (codeOf s) limits c ns n d) (p : Path) → OnlySilent p r → silentMoves p r ≤ SILENT
+  -- request 6, "the exact number of silent moves": on every such way that begins with a thread at node a, its silent moves in a row against Silent's count of a
+  pub counts : {t : ℕ} → checkOf s ≡ Accepted t → {b : List ℕ} {c d : Config} {ns : List ℕ} {n : ℕ} → Holds s t b c
+      → (r : Trace (codeOf s) limits c ns n d) (p : Path) → OnlySilent p r → {a : Point} {e : ℕ} {fs : List Frame} → part (c .tree) p ≡ some (running a e fs)
+      → CountsRow s (part (d .tree) p) (silentMoves p r) (silentOf s a .count)
+  -- "before its next published step, wait or finish, assuming no store fills": the Run that chooses such a thread as often as its count says
+  pub counted : {t : ℕ} → checkOf s ≡ Accepted t → {b : List ℕ} {c : Config} → Holds s t b c → (k : ℕ) (p : Path) → locate (c .tree) k ≡ some p
+      → {a : Point} {e : ℕ} {fs : List Frame} → part (c .tree) p ≡ some (running a e fs) → CountedRun s t b c k p (silentOf s a .count)
   -- "each open published step can be reached by choices, unless a store is full"
   pub reached : {t : ℕ} → checkOf s ≡ Accepted t → {b : List ℕ} {c : Config} {q : Reading} → Holds s t b c
       → (k : Steps (codeOf s .program) (reading (codeOf s) c) q) → ReachedBy s t b c q (site k)

@@ -6,6 +6,10 @@ use lib.ListN.{replicate, length-replicate}
 use Rattle.typing.specs.declared.Verdict.{Verdict}
 use Rattle.typing.specs.declared.Verdict.the-variants.{Accepted, Refused}
 use Rattle.typing.specs.Check.{checkOf, verdictNumber, verdictPlace, verdictType}
+use Rattle.machine.specs.Config.{codeOf}
+use Rattle.machine.specs.Silent.{mostSilent}
+use Rattle.calls.specs.Calls.{verdictSilent}
+use Rattle.c_replies.specs.declared.check.CheckReply.{CheckReply}
 use Rattle.subtypes.specs.Tables.{STARTS, Starts}
 use Rattle.names.specs.Ranks.{FACTS}
 use Rattle.names.specs.Facts.{Facts}
@@ -44,3 +48,21 @@ accepts s n = go (checkOf s) refl n
 -- The start's type, where the script is accepted.
 pub type-is : (s : List ℕ) (checked t : ℕ) → checked ≡ verdictNumber (checkOf s) → checked ≡ 0 → t ≡ verdictType (checkOf s) → checkOf s ≡ Accepted t
 type-is s checked t c z e = let a = accepts s (sym z ∙ c) in rw (e, a .1) refl
+
+-- What Check replies, for a script that is refused and for one that is accepted.
+module _ (s : List ℕ) where
+  abbrev pub CheckSays : CheckReply → Type 0
+  CheckSays r =
+      (r .number ≡ verdictNumber (checkOf s)) × ((r .place ≡ verdictPlace (checkOf s)) × ((r .«start_type» ≡ verdictType (checkOf s)) × (r .silent ≡ verdictSilent s (checkOf s))))
+
+  pub check-refused : (r : CheckReply) (number place : ℕ) → r ≡ record { number = number; place = place; «start_type» = 0; silent = 0 } → number ≡ verdictNumber (checkOf s) → place ≡ verdictPlace (checkOf s)
+      → (number ≡ 0 → ⊥) → CheckSays r
+  check-refused r number place e n p ne = rw e (go (checkOf s) n p)
+    where
+      go : (v : Verdict) → number ≡ verdictNumber v → place ≡ verdictPlace v → (number ≡ verdictNumber v) × ((place ≡ verdictPlace v) × ((0 ≡ verdictType v) × (0 ≡ verdictSilent s v)))
+      go (Accepted t) n p = absurd (ne n)
+      go (Refused q at) n p = (n, (p, (refl, refl)))
+
+  pub check-accepted : (r : CheckReply) (asked t most : ℕ) → r ≡ record { number = 0; place = 0; «start_type» = t; silent = most } → asked ≡ verdictNumber (checkOf s) → asked ≡ 0 → t ≡ verdictType (checkOf s)
+      → most ≡ mostSilent (codeOf s) → CheckSays r
+  check-accepted r asked t most e n z k m = rw (e, type-is s asked t n z k) (refl, (refl, (refl, m)))

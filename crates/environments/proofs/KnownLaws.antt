@@ -10,11 +10,10 @@ use Rattle.script.specs.declared.Found.{Found}
 use Rattle.script.specs.declared.Found.the-variants.{At, Nothing}
 use Rattle.script.specs.declared.Section.the-variants.{Nodes as nodes}
 use Rattle.script.specs.Section.{countOf, nodeWord}
-use Rattle.script.specs.Syntax.{Point, Expr, update, cast, add, intOf, Slot, Signature, Program, build}
-use Rattle.script.specs.Reading.{kindOf, viewAt, exprAt, programOf}
-use Rattle.script.specs.Statements.{WithinLayout}
+use Rattle.script.specs.Syntax.{Point, Expr, update, cast, add, intOf, Slot, Signature, Program}
+use Rattle.script.specs.Reading.{kindOf, exprAt, programOf}
 use Rattle.script.proofs.Declarations.{declared-int}
-use Rattle.script.proofs.Reading.{expr-at, in-order}
+use Rattle.script.proofs.Reading.{expr-by}
 use Rattle.script.proofs.Regular.{formed, regular}
 use Rattle.sections.specs.Laid.{foundOf}
 use Rattle.typing.specs.declared.Answer.{Answer}
@@ -28,7 +27,7 @@ use Rattle.members.specs.declared.Member.the-variants.{Types}
 use Rattle.members.specs.Lookup.{memberOf}
 use Rattle.members.proofs.LookupLaws.{found-at}
 use Rattle.inference.specs.Walk.{EmptyEnv}
-use Rattle.inference.proofs.InferLaws.{nodeBy, type-small}
+use Rattle.inference.proofs.InferLaws.{type-small}
 use Rattle.machine.specs.Machine.{context}
 use Rattle.environments.specs.Chains.{Chain, bindingsIn}
 use Rattle.environments.specs.Known.{ScopedNode, Inferable, Tells}
@@ -54,11 +53,6 @@ cast-own (BD-INFER-CAST h) = refl
 sum-int : {p : Program} {Γ : List Slot} {n x y t : ℕ} → Infer p Γ (add n x y) t → intOf p ≡ t
 sum-int {p} {t = t} (BD-INFER-ADD f g e) = sym (declared-int p t e)
 
--- the expression at a node of a kind
-pub expr-is : {s : List ℕ} {a : Point} (w : WithinLayout s) → a < countOf s nodes → (kind : ℕ) → nodeWord s a 0 ≡ kind → exprAt s a ≡ build a (exprAt s) (nodeBy s a kind)
-unfolding viewAt
-expr-is {s} {a} w h kind e = expr-at s a h (in-order s w a h) ∙ rw e
-
 -- nothing is told
 pub told-nothing : (s b : List ℕ) (env : ℕ) (a : Point) → Tells s b env a Nothing
 told-nothing s b env a t e = absurd (let z : _≡_ {A = ℕ} 0 1 = cc in omega arith)
@@ -80,18 +74,18 @@ module _ {s starts b : List ℕ} {env : ℕ} {a : Point} (k : ScopedNode s start
   module _ (x : ℕ) (ex : x ≡ nodeWord s a 1) where
     pub told-var : nodeWord s a 0 ≡ 1 → (r : Found) → r ≡ foundOf (typeIn (context (bindingsIn b) env) x) → Tells s b env a r
     unfolding kindOf answer
-    told-var e r h t f = rw (expr-is (k .within) (k .there) 1 e, ← ex, found-at (typeIn (context (bindingsIn b) env) x) r h t f)
+    told-var e r h t f = rw (expr-by s (k .within) a (k .there) 1 e, ← ex, found-at (typeIn (context (bindingsIn b) env) x) r h t f)
 
     pub told-new : nodeWord s a 0 ≡ 6 → Tells s b env a (At x)
     unfolding kindOf answer
-    told-new e t f = let z : x ≡ t = cc in rw (expr-is (k .within) (k .there) 6 e, ← ex, z)
+    told-new e t f = let z : x ≡ t = cc in rw (expr-by s (k .within) a (k .there) 6 e, ← ex, z)
 
     -- a read and a call, by the type of the target
     module _ (v : Found) (ev : v ≡ foundOf (typeIn (context (bindingsIn b) env) x)) (c : ℕ) (fv : v ≡ At c) (m : ℕ) (em : m ≡ nodeWord s a 2) where
       pub told-read : nodeWord s a 0 ≡ 2 → (r : Found) → r ≡ foundOf (fieldIn (programOf s) c m) → Tells s b env a r
       unfolding kindOf answer
       told-read e r h t f =
-          rw (expr-is (k .within) (k .there) 2 e, ← ex, found-at (typeIn (context (bindingsIn b) env) x) v ev c fv, ← em, found-at (fieldIn (programOf s) c m) r h t f)
+          rw (expr-by s (k .within) a (k .there) 2 e, ← ex, found-at (typeIn (context (bindingsIn b) env) x) v ev c fv, ← em, found-at (fieldIn (programOf s) c m) r h t f)
 
       pub told-call : nodeWord s a 0 ≡ 4 → Inferable s b env a → (r : Member) → r ≡ memberOf (methodIn (programOf s) c m) → (p u : ℕ) → r ≡ Types p u → Tells s b env a (At u)
       unfolding kindOf answer
@@ -101,25 +95,25 @@ module _ {s starts b : List ℕ} {env : ℕ} {a : Point} (k : ScopedNode s start
         where
           call-is : inferred (programOf s) (context (bindingsIn b) env) (exprAt s a)
               ≡ orFaulty Members a (methodIn (programOf s) c m) (λ g. andThen (checked (programOf s) (context (bindingsIn b) env) (exprAt s (nodeWord s a 3)) (g .param)) (λ v. Typed (g .result)))
-          call-is = rw (expr-is (k .within) (k .there) 4 e, ← ex, found-at (typeIn (context (bindingsIn b) env) x) v ev c fv, ← em)
+          call-is = rw (expr-by s (k .within) a (k .there) 4 e, ← ex, found-at (typeIn (context (bindingsIn b) env) x) v ev c fv, ← em)
 
     -- a cast and a write that have a type
     pub told-cast : nodeWord s a 0 ≡ 7 → Inferable s b env a → Tells s b env a (At x)
     unfolding kindOf
-    told-cast e i t f = let z : x ≡ t = cc in i .is ∙ ap Typed (sym (cast-own (rw (expr-is (k .within) (k .there) 7 e, ← ex) at (judged (i .type) (i .is)))) ∙ z)
+    told-cast e i t f = let z : x ≡ t = cc in i .is ∙ ap Typed (sym (cast-own (rw (expr-by s (k .within) a (k .there) 7 e, ← ex) at (judged (i .type) (i .is)))) ∙ z)
 
   pub told-write : nodeWord s a 0 ≡ 3 → Inferable s b env a → Tells s b env a (At 0)
   unfolding kindOf
-  told-write e i t f = let z : 0 ≡ t = cc in i .is ∙ ap Typed (sym (write-unit (rw (expr-is (k .within) (k .there) 3 e) at (judged (i .type) (i .is)))) ∙ z)
+  told-write e i t f = let z : 0 ≡ t = cc in i .is ∙ ap Typed (sym (write-unit (rw (expr-by s (k .within) a (k .there) 3 e) at (judged (i .type) (i .is)))) ∙ z)
 
   -- a constant, and a sum that has a type
   module _ (z : ℕ) (ez : z ≡ intOf (programOf s)) where
     pub told-constant : nodeWord s a 0 ≡ 10 → Tells s b env a (At z)
     unfolding kindOf answer
-    told-constant e t f = let q : z ≡ t = cc in rw (expr-is (k .within) (k .there) 10 e, ← ez, q)
+    told-constant e t f = let q : z ≡ t = cc in rw (expr-by s (k .within) a (k .there) 10 e, ← ez, q)
 
     pub told-sum : nodeWord s a 0 ≡ 11 → Inferable s b env a → Tells s b env a (At z)
     unfolding kindOf
     told-sum e i t f =
         let q : z ≡ t = cc in
-        i .is ∙ ap Typed (sym (sum-int (rw (expr-is (k .within) (k .there) 11 e) at (judged (i .type) (i .is)))) ∙ sym ez ∙ q)
+        i .is ∙ ap Typed (sym (sum-int (rw (expr-by s (k .within) a (k .there) 11 e) at (judged (i .type) (i .is)))) ∙ sym ez ∙ q)

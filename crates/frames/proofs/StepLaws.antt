@@ -24,7 +24,8 @@ use Rattle.awaited.specs.declared.Waits.the-variants.{Never, For}
 use Rattle.awaited.specs.Awaited.{givenTest, WaitsAs}
 use Rattle.frames.specs.Expecting.{AwaitsAs, CastsAs, nodeMeetsTest}
 use Rattle.awaited.proofs.ReadyLaws.{bindings-length}
-use Rattle.awaited.proofs.AwaitedLaws.{view-by, gives-by}
+use Rattle.script.proofs.Reading.{view-by}
+use Rattle.awaited.proofs.AwaitedLaws.{gives-by}
 
 -- an environment of the block, and none of it
 module _ (b : List ℕ) (e : ℕ) where

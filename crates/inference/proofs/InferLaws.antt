@@ -20,13 +20,13 @@ use Rattle.script.specs.declared.Found.the-variants.{At as Is, Nothing}
 use Rattle.script.specs.declared.Section.the-variants.{Interfaces as interfaces, Classes as classes, Nodes as nodes}
 use Rattle.script.specs.Lists.{_∈_, named}
 use Rattle.script.specs.Section.{countOf, nodeWord}
-use Rattle.script.specs.Syntax.{Point, Expr, null, var, select, update, call, lock, add, pointOf, isNull, Node, parts, build, Slot, Signature, Program, intOf}
-use Rattle.script.specs.Reading.{kindOf, nodeOf, viewAt, exprAt, programOf}
+use Rattle.script.specs.Syntax.{Point, Expr, null, var, select, update, call, lock, add, pointOf, isNull, parts, build, Slot, Signature, Program, intOf}
+use Rattle.script.specs.Reading.{kindOf, exprAt, programOf}
 use Rattle.script.specs.Statements.{Part, WithinLayout}
 use Rattle.sections.specs.Laid.{foundOf}
 use Rattle.script.specs.Regular.{IsType}
 use Rattle.script.proofs.Declarations.{length-interfaces, length-classes}
-use Rattle.script.proofs.Reading.{first, only-null, expr-at, in-order}
+use Rattle.script.proofs.Reading.{first, only-null, nodeBy, view-by, expr-by, part-by}
 use Rattle.script.proofs.Regular.{formed, regular}
 use Rattle.typing.specs.declared.Aim.{Aim}
 use Rattle.typing.specs.declared.Aim.the-variants.{Infers as infers, Checks as checks}
@@ -159,10 +159,6 @@ module _ {s facts : List ℕ} (f : Facts s facts) where
 pub target-there : {s facts env : List ℕ} {n : Point} {j : ℕ} → Target s facts env n j → getD facts (slotOf n j) 0 < length env
 target-there a = rw (a .size) (rank-small (a .known) (of-node (a .named)))
 
--- The node n, read as one of kind k.
-abbrev pub nodeBy : List ℕ → Point → ℕ → Node
-nodeBy s n k = nodeOf (kindOf k) (nodeWord s n 1) (nodeWord s n 2) (nodeWord s n 3)
-
 module _ {s : List ℕ} (w : WithinLayout s) where
   -- Type numbers are far below the largest word.
   pub type-small : (t : ℕ) → IsType (programOf s) t → t ≤ INTERFACES + CLASSES + 1
@@ -175,18 +171,6 @@ module _ {s : List ℕ} (w : WithinLayout s) where
       go : (o : Option ℕ) → fieldIn (programOf s) t f ≡ o → foundOf o ≡ Is u → u ≤ INTERFACES + CLASSES + 1
       go none q z = absurd (let y : _≡_ {A = ℕ} 0 1 = cc in omega arith)
       go (some v) q z = let y : v ≡ u = cc in type-small u (field-type (programOf s) (regular s w) (field-in (programOf s) (regular s w) t f u .0 (q ∙ ap some y)))
-
-  module _ (n : Point) (h : n < countOf s nodes) (k : ℕ) (e : nodeWord s n 0 ≡ k) where
-    -- A node of kind k, its expression, and its parts.
-    view-kind : viewAt s n ≡ nodeBy s n k
-    unfolding viewAt
-    view-kind = rw e
-
-    expr-kind : exprAt s n ≡ build n (exprAt s) (nodeBy s n k)
-    expr-kind = expr-at s n h (in-order s w n h) ∙ ap (build n (exprAt s)) view-kind
-
-    part-kind : (q : Point) → q ∈ parts (nodeBy s n k) → Part s n q
-    part-kind q m = in-order s w n h q (rw view-kind m)
 
   -- What is inferred for a node is a type.
   inferred-type : (n : Point) → n < countOf s nodes → (facts env : List ℕ) (Γ : List Slot) → EnvIs s facts env Γ → (t : ℕ) → inferred (programOf s) Γ (exprAt s n) ≡ Typed t → IsType (programOf s) t
@@ -316,7 +300,7 @@ same-env s facts e k h Γ g = h Γ (rw k g)
 module _ {s starts facts env : List ℕ} {n : Point} (a : NodeInEnv s starts facts env n) where
   -- A part of the node, and what a call there asks.
   pub part : (k q′ q : ℕ) → nodeWord s n 0 ≡ k → q′ ≡ q → q ∈ parts (nodeBy s n k) → Part s n q′
-  part k q′ q e eq m = rw eq (part-kind (a .within) n (a .there) k e q m)
+  part k q′ q e eq m = rw eq (part-by s (a .within) n (a .there) k e q m)
 
   pub down : (q : Point) (env′ : List ℕ) → Part s n q → env′ ≡ env → NodeInEnv s starts facts env′ q
   down q env′ h e =
@@ -332,7 +316,7 @@ module _ {s starts facts env : List ℕ} {n : Point} (a : NodeInEnv s starts fac
 
   -- The variable that the node names, and its rank.
   named-by : (k j : ℕ) → nodeWord s n 0 ≡ k → nameIn j (nodeBy s n k) ≡ some (nodeWord s n (1 + j)) → Names s n j (nodeWord s n (1 + j))
-  named-by k j e h = record { there = a .there; name = rw (view-kind (a .within) n (a .there) k e) h }
+  named-by k j e h = record { there = a .there; name = rw (view-by s n k e) h }
 
   target : {j : ℕ} → Names s n j (nodeWord s n (1 + j)) → Target s facts env n j
   target h = record { within = a .within; known = a .known; size = a .size; named = h }
@@ -369,53 +353,53 @@ module _ {s starts facts env : List ℕ} {n : Point} (a : NodeInEnv s starts fac
   let-there e = rw (a .size) (rank-small (a .known) (let-rank e))
 
   -- The expression at the node.
-  expr-by : (k : ℕ) → nodeWord s n 0 ≡ k → exprAt s n ≡ build n (exprAt s) (nodeBy s n k)
-  expr-by k e = expr-kind (a .within) n (a .there) k e
+  expr-here : (k : ℕ) → nodeWord s n 0 ≡ k → exprAt s n ≡ build n (exprAt s) (nodeBy s n k)
+  expr-here k e = expr-by s (a .within) n (a .there) k e
 
   -- A variable, a read, a new object, a constant, a sum and a null.
   pub at-var : (r : Answer) → nodeWord s n 0 ≡ 1 → Inferred s facts env (var n (nodeWord s n 1)) r → Inferred s facts env (exprAt s n) r
   unfolding kindOf
-  at-var r e h Γ g = rw (expr-by 1 e) (h Γ g)
+  at-var r e h Γ g = rw (expr-here 1 e) (h Γ g)
 
   pub at-select : (r : Answer) → nodeWord s n 0 ≡ 2 → Inferred s facts env (select n (nodeWord s n 1) (nodeWord s n 2)) r → Inferred s facts env (exprAt s n) r
   unfolding kindOf
-  at-select r e h Γ g = rw (expr-by 2 e) (h Γ g)
+  at-select r e h Γ g = rw (expr-here 2 e) (h Γ g)
 
   pub at-new : (c : ℕ) → nodeWord s n 0 ≡ 6 → c ≡ nodeWord s n 1 → Inferred s facts env (exprAt s n) (Typed c)
   unfolding kindOf answer
-  at-new c e ec Γ g = rw (expr-by 6 e, ec)
+  at-new c e ec Γ g = rw (expr-here 6 e, ec)
 
   pub at-constant : (i : ℕ) → nodeWord s n 0 ≡ 10 → i ≡ intOf (programOf s) → Inferred s facts env (exprAt s n) (Typed i)
   unfolding kindOf answer
-  at-constant i e ei Γ g = rw (expr-by 10 e, ei)
+  at-constant i e ei Γ g = rw (expr-here 10 e, ei)
 
   pub at-add : (r : Answer) → nodeWord s n 0 ≡ 11 → Inferred s facts env (add n (nodeWord s n 1) (nodeWord s n 2)) r → Inferred s facts env (exprAt s n) r
   unfolding kindOf
-  at-add r e h Γ g = rw (expr-by 11 e) (h Γ g)
+  at-add r e h Γ g = rw (expr-here 11 e) (h Γ g)
 
   pub at-null :
       (k : ℕ) → k ≡ nodeWord s n 0
       → (k ≡ 1 → ⊥) → (k ≡ 2 → ⊥) → (k ≡ 3 → ⊥) → (k ≡ 4 → ⊥) → (k ≡ 5 → ⊥) → (k ≡ 6 → ⊥) → (k ≡ 7 → ⊥) → (k ≡ 8 → ⊥) → (k ≡ 9 → ⊥)
       → (k ≡ 10 → ⊥) → (k ≡ 11 → ⊥) → GivenAs s facts env (exprAt s n) (null-at n)
   at-null k e h1 h2 h3 h4 h5 h6 h7 h8 h9 h10 h11 Γ g o =
-      rw (expr-by k (sym e), only-null k (nodeWord s n 1) (nodeWord s n 2) (nodeWord s n 3) h1 h2 h3 h4 h5 h6 h7 h8 h9 h10 h11) (null-as (programOf s) Γ n o)
+      rw (expr-here k (sym e), only-null k (nodeWord s n 1) (nodeWord s n 2) (nodeWord s n 3) h1 h2 h3 h4 h5 h6 h7 h8 h9 h10 h11) (null-as (programOf s) Γ n o)
 
   -- A node of a kind without a last part.
   pub at-plain : (k : ℕ) {r : Answer} → nodeWord s n 0 ≡ k → isNull (lastOf (build n (exprAt s) (nodeBy s n k))) ≡ false → pointOf (lastOf (build n (exprAt s) (nodeBy s n k))) ≡ n
       → Inferred s facts env (exprAt s n) r → GivenAs s facts env (exprAt s n) (givenBy n r)
   at-plain k {r} e h l er Γ g o =
-      by-as (programOf s) n o r ∙ rw (er Γ g, expr-by k e, plain-as (programOf s) Γ (build n (exprAt s) (nodeBy s n k)) o h, l)
+      by-as (programOf s) n o r ∙ rw (er Γ g, expr-here k e, plain-as (programOf s) Γ (build n (exprAt s) (nodeBy s n k)) o h, l)
 
   -- A write: its field, and its value.
   module _ (e : nodeWord s n 0 ≡ 3) (v : Answer) (ev : Inferred s facts env (select n (nodeWord s n 1) (nodeWord s n 2)) v) where
     pub update-field : (q : Question) (m : Point) → v ≡ Faulty q m → Inferred s facts env (exprAt s n) v
     unfolding kindOf
-    update-field q m k Γ g = rw (expr-by 3 e, update-is (programOf s) Γ n (nodeWord s n 1) (nodeWord s n 2) (exprAt s (nodeWord s n 3)), ← ev Γ g, k)
+    update-field q m k Γ g = rw (expr-here 3 e, update-is (programOf s) Γ n (nodeWord s n 1) (nodeWord s n 2) (exprAt s (nodeWord s n 3)), ← ev Γ g, k)
 
     module _ (t b : ℕ) (r : Answer) (k : v ≡ Typed t) (eb : b ≡ nodeWord s n 3) (er : Checked s facts env (exprAt s b) t r) where
       updated : (Γ : List Slot) → EnvIs s facts env Γ → inferred (programOf s) Γ (exprAt s n) ≡ andThen r (λ u. Typed 0)
       unfolding kindOf
-      updated Γ g = rw (expr-by 3 e, update-is (programOf s) Γ n (nodeWord s n 1) (nodeWord s n 2) (exprAt s (nodeWord s n 3)), ← ev Γ g, k, ← eb, er Γ g)
+      updated Γ g = rw (expr-here 3 e, update-is (programOf s) Γ n (nodeWord s n 1) (nodeWord s n 2) (exprAt s (nodeWord s n 3)), ← ev Γ g, k, ← eb, er Γ g)
 
       pub update-value : (q : Question) (m : Point) → r ≡ Faulty q m → Inferred s facts env (exprAt s n) r
       update-value q m f Γ g = rw (updated Γ g, f)
@@ -427,20 +411,20 @@ module _ {s starts facts env : List ℕ} {n : Point} (a : NodeInEnv s starts fac
   module _ (e : nodeWord s n 0 ≡ 4) (v : Answer) (ev : Inferred s facts env (var n (nodeWord s n 1)) v) where
     pub call-unbound : (q : Question) (m : Point) → v ≡ Faulty q m → Inferred s facts env (exprAt s n) v
     unfolding kindOf
-    call-unbound q m k Γ g = rw (expr-by 4 e, call-is (programOf s) Γ n (nodeWord s n 1) (nodeWord s n 2) (exprAt s (nodeWord s n 3)), ← ev Γ g, k)
+    call-unbound q m k Γ g = rw (expr-here 4 e, call-is (programOf s) Γ n (nodeWord s n 1) (nodeWord s n 2) (exprAt s (nodeWord s n 3)), ← ev Γ g, k)
 
     module _ (t m : ℕ) (z : Member) (k : v ≡ Typed t) (em : m ≡ nodeWord s n 2) (ez : z ≡ memberOf (methodIn (programOf s) t m)) where
       pub call-missing : z ≡ Missing → Inferred s facts env (exprAt s n) (Faulty Members n)
       unfolding kindOf
       call-missing f Γ g =
-          rw (expr-by 4 e, call-is (programOf s) Γ n (nodeWord s n 1) (nodeWord s n 2) (exprAt s (nodeWord s n 3)), ← ev Γ g, k, ← em, member-missing n (methodIn (programOf s) t m) z _ ez f)
+          rw (expr-here 4 e, call-is (programOf s) Γ n (nodeWord s n 1) (nodeWord s n 2) (exprAt s (nodeWord s n 3)), ← ev Γ g, k, ← em, member-missing n (methodIn (programOf s) t m) z _ ez f)
 
       module _ (param result b : ℕ) (r : Answer) (f : z ≡ Types param result) (eb : b ≡ nodeWord s n 3) (er : Checked s facts env (exprAt s b) param r) where
         called : (Γ : List Slot) → EnvIs s facts env Γ → inferred (programOf s) Γ (exprAt s n) ≡ andThen r (λ u. Typed result)
         unfolding kindOf
         called Γ g =
             rw
-            (expr-by 4 e, call-is (programOf s) Γ n (nodeWord s n 1) (nodeWord s n 2) (exprAt s (nodeWord s n 3)), ← ev Γ g, k, ← em, ← eb, er Γ g)
+            (expr-here 4 e, call-is (programOf s) Γ n (nodeWord s n 1) (nodeWord s n 2) (exprAt s (nodeWord s n 3)), ← ev Γ g, k, ← em, ← eb, er Γ g)
             (member-types n (methodIn (programOf s) t m) z param result (λ x y. andThen (checked (programOf s) Γ (exprAt s b) x) (λ u. Typed y)) ez f)
 
         pub call-argument : (q : Question) (o : Point) → r ≡ Faulty q o → Inferred s facts env (exprAt s n) r
@@ -453,7 +437,7 @@ module _ {s starts facts env : List ℕ} {n : Point} (a : NodeInEnv s starts fac
   module _ (b : ℕ) (r f : Given) (e : nodeWord s n 0 ≡ 5) (eb : b ≡ nodeWord s n 2) (er : GivenAs s facts env (exprAt s b) r) (ef : f ≡ noNull r) where
     pub let-first : OneOf (1 ∷ 2 ∷ []) (tagOf the-type f) → GivenAs s facts env (exprAt s n) f
     unfolding kindOf answer
-    let-first h Γ g o = rw (expr-by 5 e, ← eb, ← er Γ g infers, ef) (no-null-no (programOf s) o r _ (rw ef at h))
+    let-first h Γ g o = rw (expr-here 5 e, ← eb, ← er Γ g infers, ef) (no-null-no (programOf s) o r _ (rw ef at h))
 
     module _ (t : ℕ) (m : Point) (k : f ≡ typed-at t m) where
       value-typed : inferredAs r ≡ Typed t
@@ -462,7 +446,7 @@ module _ {s starts facts env : List ℕ} {n : Point} (a : NodeInEnv s starts fac
       let-body : (Γ : List Slot) → EnvIs s facts env Γ → (o : Aim)
           → answer (programOf s) Γ (exprAt s n) o ≡ answer (programOf s) (record { name = nodeWord s n 1; type = t } ∷ Γ) (exprAt s (nodeWord s n 3)) o
       unfolding kindOf answer
-      let-body Γ g o = rw (expr-by 5 e, ← eb, ← er Γ g infers, value-typed)
+      let-body Γ g o = rw (expr-here 5 e, ← eb, ← er Γ g infers, value-typed)
 
       value-type : (Γ : List Slot) → EnvIs s facts env Γ → IsType (programOf s) t
       unfolding kindOf
@@ -493,24 +477,24 @@ module _ {s starts facts env : List ℕ} {n : Point} (a : NodeInEnv s starts fac
   -- A cast is its operand, checked.
   pub at-cast : (t b : ℕ) (r : Answer) → nodeWord s n 0 ≡ 7 → t ≡ nodeWord s n 1 → b ≡ nodeWord s n 2 → Checked s facts env (exprAt s b) t r → Inferred s facts env (exprAt s n) r
   unfolding kindOf answer
-  at-cast t b r e et eb er Γ g = rw (expr-by 7 e, ← et, ← eb) (er Γ g)
+  at-cast t b r e et eb er Γ g = rw (expr-here 7 e, ← et, ← eb) (er Γ g)
 
   -- A fork: the flag of its node, and its three parts.
   module _ (e : nodeWord s n 0 ≡ 8) where
     flag : getD facts (2 * n) 0 ≡ flagOf (shares (fv (exprAt s (nodeWord s n 1))) (fv (exprAt s (nodeWord s n 2))))
     unfolding kindOf
-    flag = a .known .forks .flags n (nodeWord s n 1) (nodeWord s n 2) (nodeWord s n 3) (a .there) (view-kind (a .within) n (a .there) 8 e)
+    flag = a .known .forks .flags n (nodeWord s n 1) (nodeWord s n 2) (nodeWord s n 3) (a .there) (view-by s n 8 e)
 
     pub fork-shared : getD facts (2 * n) 0 ≡ 1 → GivenAs s facts env (exprAt s n) (faulty-at Sharing n)
     unfolding kindOf answer
     fork-shared k Γ g o =
-        rw (expr-by 8 e) (fault-as (programOf s) o Sharing n ∙ shared-is n (shares (fv (exprAt s (nodeWord s n 1))) (fv (exprAt s (nodeWord s n 2)))) _ (sym flag ∙ k))
+        rw (expr-here 8 e) (fault-as (programOf s) o Sharing n ∙ shared-is n (shares (fv (exprAt s (nodeWord s n 1))) (fv (exprAt s (nodeWord s n 2)))) _ (sym flag ∙ k))
 
     module _ (k : getD facts (2 * n) 0 ≡ 1 → ⊥) (b : ℕ) (r : Given) (eb : b ≡ nodeWord s n 1) (er : GivenAs s facts env (exprAt s b) r) where
       forked : (Γ : List Slot) → EnvIs s facts env Γ → (o : Aim)
           → answer (programOf s) Γ (exprAt s n) o ≡ andThen (inferredAs r) (λ t. andThen (inferred (programOf s) Γ (exprAt s (nodeWord s n 2))) (λ u. answer (programOf s) Γ (exprAt s (nodeWord s n 3)) o))
       unfolding kindOf answer
-      forked Γ g o = rw (expr-by 8 e, er Γ g infers, eb) (apart-is n (shares (fv (exprAt s (nodeWord s n 1))) (fv (exprAt s (nodeWord s n 2)))) _ (λ z. k (flag ∙ z)))
+      forked Γ g o = rw (expr-here 8 e, er Γ g infers, eb) (apart-is n (shares (fv (exprAt s (nodeWord s n 1))) (fv (exprAt s (nodeWord s n 2)))) _ (λ z. k (flag ∙ z)))
 
       module _ (f : Given) (ef : f ≡ noNull r) where
         pub fork-left : OneOf (1 ∷ 2 ∷ []) (tagOf the-type f) → GivenAs s facts env (exprAt s n) f
@@ -528,11 +512,11 @@ module _ {s starts facts env : List ℕ} {n : Point} (a : NodeInEnv s starts fac
     pub lock-unbound : (q : Question) (m : Point) → v ≡ Faulty q m → GivenAs s facts env (exprAt s n) (givenBy n v)
     unfolding kindOf
     lock-unbound q m k Γ g o =
-        rw (expr-by 9 e, lock-is (programOf s) Γ n (nodeWord s n 1) (exprAt s (nodeWord s n 2)) o, ← ev Γ g, k) (fault-as (programOf s) o q m)
+        rw (expr-here 9 e, lock-is (programOf s) Γ n (nodeWord s n 1) (exprAt s (nodeWord s n 2)) o, ← ev Γ g, k) (fault-as (programOf s) o q m)
 
     pub lock-part : (t b : ℕ) (r : Given) → v ≡ Typed t → b ≡ nodeWord s n 2 → GivenAs s facts env (exprAt s b) r → GivenAs s facts env (exprAt s n) r
     unfolding kindOf
-    lock-part t b r k eb er Γ g o = rw (expr-by 9 e, lock-is (programOf s) Γ n (nodeWord s n 1) (exprAt s (nodeWord s n 2)) o, ← ev Γ g, k, ← eb) (er Γ g o)
+    lock-part t b r k eb er Γ g o = rw (expr-here 9 e, lock-is (programOf s) Γ n (nodeWord s n 1) (exprAt s (nodeWord s n 2)) o, ← ev Γ g, k, ← eb) (er Γ g o)
 
 -- What is answered by what a node gives, where it is inferred and where it is checked.
 module _ {s facts env : List ℕ} (e : Expr) (r : Given) (er : GivenAs s facts env e r) where

@@ -9,10 +9,11 @@ use Rattle.typing.specs.Members.{valuesTo, valueAt, reach, below, meaning, ownM
 use Rattle.typing.specs.declared.Answer.the-variants.{Typed}
 use Rattle.typing.specs.Typing.{without, fv, isIn, shares, answer, bodiesFrom, bodiesOf, walk}
 use Rattle.machine.specs.Machine.{locate, move, choice}
+use Rattle.machine.specs.Silent.{silentFrom, mostSilent}
 use Rattle.machine.specs.Decide.{wellFormedTest}
 use Rattle.machine.specs.Runs.{look, report}
 use Rattle.machine.specs.AllMoves.{exampleNodes, exampleProgram, exampleCode, Example, examples, ExampleOffer, exampleOffers, ExampleRun, exampleRuns}
-use Rattle.machine.specs.AllMoves.{ExampleHolders, exampleHolders, quietAt, ExampleForm, exampleForms, ExampleHolds, OfferHolds, RunHolds, HoldersHold, FormHolds}
+use Rattle.machine.specs.AllMoves.{ExampleHolders, exampleHolders, quietAt, ExampleForm, exampleForms, ExampleCount, exampleCounts, ExampleHolds, OfferHolds, RunHolds, HoldersHold, FormHolds, CountHolds}
 
 outcomes : Every (λ x. choice exampleCode (x .room) (x .config) (x .position) ≡ x .outcome) examples
 unfolding named declarationAt valuesTo valueAt reach below typeIn answer move choice exampleNodes exampleCode examples
@@ -49,12 +50,22 @@ unfolding named declarationAt allOf valuesTo valueAt reach below meaning ownMeth
 forms =
     (refl, (refl, (refl, (refl, (refl, (refl, (refl, (refl, (refl, tt)))))))))
 
+counts : Every (λ x. CountHolds x) exampleCounts
+unfolding silentFrom exampleNodes exampleCode exampleCounts
+counts =
+    (refl, (refl, (refl, (refl, (refl, (refl, (refl, (refl, (refl, (refl, (refl, (refl, (refl, (refl, (refl, (refl, (refl, (refl, (refl, tt)))))))))))))))))))
+
+-- "the largest such count over all nodes of the script"
+pub example-most : mostSilent exampleCode ≡ 3
+unfolding run silentFrom mostSilent exampleNodes exampleCode
+example-most = refl
+
 -- The script gets a yes to questions 11 to 15, and its start has type 2.
 pub example-typed : walk exampleProgram (bodiesOf exampleProgram) ≡ Typed 2
 unfolding named declarationAt valuesTo valueAt reach below meaning ownMethod methodIn typeIn fieldIn without fv isIn shares answer bodiesFrom bodiesOf walk exampleNodes
 example-typed = refl
 
--- the five tables
+-- the six tables
 pub all-examples : (x : Example) → x ∈ examples → ExampleHolds x
 all-examples x m =
     record {
@@ -74,3 +85,6 @@ all-example-holders x m = every-in (λ x. HoldersHold x) exampleHolders holders 
 
 pub all-example-forms : (x : ExampleForm) → x ∈ exampleForms → FormHolds x
 all-example-forms x m = every-in (λ x. FormHolds x) exampleForms forms x m
+
+pub all-example-counts : (x : ExampleCount) → x ∈ exampleCounts → CountHolds x
+all-example-counts x m = every-in (λ x. CountHolds x) exampleCounts counts x m

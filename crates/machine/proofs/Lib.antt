@@ -5,3 +5,4 @@ pub mod Types
 pub mod Locks
 pub mod Positions
 pub mod Decide
+pub mod Counts

@@ -22,7 +22,7 @@ use Rattle.machine.specs.declared.Frame.the-variants.{Awaits as awaits, 
 use Rattle.machine.specs.Config.{Code, Object, Binding, Tree, running, returning, failed, join, Config}
 use Rattle.machine.specs.Machine.{Places, Outcome, still, full, moved, Path, locate, choice, canMove, part}
 use Rattle.machine.specs.Ends.{heldBy}
-use Rattle.machine.specs.Silent.{quietIn}
+use Rattle.machine.specs.Silent.{quietIn, silentFrom}
 use Rattle.machine.specs.Runs.{Report, report}
 use Rattle.machine.specs.Decide.{wellFormedTest}
 
@@ -477,6 +477,43 @@ exampleForms =
     formIs false (aShut nil nil ∷ []) (xy (ref 0) nil) (running 19 2 []) ∷
     []
 
+-- A node's number, and its count.
+pub record ExampleCount : Type 0 where
+  pub node : ℕ
+  pub count : ℕ
+
+abbrev pub countIs : ℕ → ℕ → ExampleCount
+countIs n k = record { node = n; count = k }
+
+unfoldable pub exampleCounts : List ExampleCount
+exampleCounts =
+    -- "one for a final null or constant"
+    countIs 9 1 ∷
+    countIs 23 1 ∷
+    -- "one for each descent": a write, a call, a let and a cast, each into its first-run part, a null, a constant, a variable and a new
+    countIs 8 2 ∷
+    countIs 22 2 ∷
+    countIs 11 1 ∷
+    countIs 5 1 ∷
+    countIs 3 1 ∷
+    -- "the chain of first-run parts": a let of a write of null, a let of a call and a let of a cast
+    countIs 7 3 ∷
+    countIs 10 2 ∷
+    countIs 2 2 ∷
+    -- a let's last part is none: let 5 = n + n in null
+    countIs 28 1 ∷
+    -- a variable, a read, a new, a fork, a lock and a sum are published steps, or wait
+    countIs 6 0 ∷
+    countIs 15 0 ∷
+    countIs 1 0 ∷
+    countIs 13 0 ∷
+    countIs 14 0 ∷
+    countIs 27 0 ∷
+    -- "the answer is 0 where no such node is": the last node, and the number behind it
+    countIs 30 1 ∷
+    countIs 31 0 ∷
+    []
+
 abbrev pub quietAt : Tree → Option Path → Bool
 quietAt t none = false
 quietAt t (some p) = quietIn exampleCode (part t p)
@@ -486,7 +523,8 @@ heldAt t none = 0
 heldAt t (some p) = heldBy 0 0 t p
 
 -- What the tables say: each choice comes to what its row says, from a well-formed configuration (the start's type is 2); each position can move as its row
--- says; each Run reports what its row says; each position holds object 0 as its row says; each configuration is well formed if its row says so.
+-- says; each Run reports what its row says; each position holds object 0 as its row says; each configuration is well formed if its row says so; each node has
+-- the count that its row says.
 pub record ExampleHolds (x : Example) : Type 0 where
   pub formed : wellFormedTest exampleCode (x .room) 2 (x .config) ≡ true
   pub isSilent : quietAt (x .config .tree) (locate (x .config .tree) (x .position)) ≡ x .isSilent
@@ -503,3 +541,6 @@ HoldersHold x = run (λ n. heldAt (x .tree) (locate (x .tree) n)) 0 (length (x .
 
 abbrev pub FormHolds : ExampleForm → Type 0
 FormHolds x = wellFormedTest exampleCode ample 2 (x .config) ≡ x .well
+
+abbrev pub CountHolds : ExampleCount → Type 0
+CountHolds x = silentFrom exampleCode (x .node) ≡ x .count

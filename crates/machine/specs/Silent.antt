@@ -1,10 +1,12 @@
 -- Silent moves.
-use Prim.Native.Nat.{ℕ, suc}
+use Prim.Native.Nat.{ℕ, suc, max}
 use mathlib.Core.Path.{_≡_}
-use mathlib.Core.Bool.{Bool, true, false}
-use mathlib.Core.List.{List, _∷_}
+use mathlib.Core.Bool.{Bool, true, false, cond}
+use mathlib.Core.List.{List, [], _∷_}
 use mathlib.Core.Option.{Option, none, some}
+use lib.Dec.{ltb}
 use lib.IntN.{ℤ}
+use Rattle.script.specs.Lists.{run}
 use Rattle.script.specs.Syntax.{Point, Expr, null, var, select, update, call, bind, new, cast, fork, lock, constant, add}
 use Rattle.script.specs.Syntax.{Node, n-null, n-var, n-select, n-update, n-call, n-bind, n-new, n-cast, n-fork, n-lock, n-constant, n-add}
 use Rattle.machine.specs.declared.Value.the-variants.{Null as nil, Int as int}
@@ -68,8 +70,8 @@ pub data ChangedAt (R : Tree → Tree → Type 0) : Path → Tree → Tree → T
 abbrev pub SilentAt : Code → Path → Tree → Tree → Type 0
 SilentAt s p t u = ChangedAt (SilentMove s) p t u
 
--- How many silent moves a thread has before it at an expression, along "their first-run part": one for each descent and one for a null or constant at the
--- end.
+-- "The count equals the chain of first-run parts from that node, one for each descent and one for a final null or constant": how many silent moves a thread has
+-- before it at an expression.
 abbrev pub chain : Expr → ℕ
 chain (null n) = 1
 chain (var n x) = 0
@@ -84,7 +86,19 @@ chain (lock n x e) = 0
 chain (constant n z) = 1
 chain (add n x y) = 0
 
--- And the part of the tree at a place.
+-- The count of a node of the script, "given by number (the answer is 0 where no such node is)".
+unfoldable pub silentFrom : Code → ℕ → ℕ
+silentFrom s n = cond (ltb n (s .size)) (chain (s .expr n)) 0
+
+-- "the largest such count over all nodes of the script"
+abbrev pub largest : List ℕ → ℕ
+largest [] = 0
+largest (n ∷ ns) = max n (largest ns)
+
+unfoldable pub mostSilent : Code → ℕ
+mostSilent s = largest (run (silentFrom s) 0 (s .size))
+
+-- And the count of the part of the tree at a place: that of its node for a thread at one, and 0 for all else, which makes no silent move.
 abbrev pub due : Code → Option Tree → ℕ
 due s none = 0
 due s (some (running a e fs)) = chain (s .expr a)

@@ -17,12 +17,12 @@ use Rattle.script.specs.Section.{countOf, nodeWord}
 use Rattle.script.specs.Syntax.{Point, Expr, Node, n-null, n-var, n-select, n-update, n-call, n-bind, n-new, n-cast, n-fork, n-lock, n-constant, n-add, parts, build}
 use Rattle.script.specs.Reading.{kindOf, nodeOf, viewAt, exprAt}
 use Rattle.script.specs.Statements.{WithinLayout}
-use Rattle.script.proofs.Reading.{first, second, third, expr-at, in-order, every-node}
+use Rattle.script.proofs.Reading.{first, second, third, by-kind, nodeBy, view-by, expr-at, in-order, expr-by, every-node}
 use Rattle.script.proofs.Tests.{true-false}
 use Rattle.typing.specs.Typing.{without, fv, isIn}
 use Rattle.names.specs.Ranks.{slotOf, nameIn, Names, RankOf, of-node}
 use Rattle.names.specs.Filling.{namesKind}
-use Rattle.names.proofs.KindLaws.{by-kind, a-name}
+use Rattle.names.proofs.KindLaws.{a-name}
 use Rattle.names.proofs.SearchLaws.{rank-first}
 use Rattle.masks.specs.Free.{SPAN, MaskOf, RankMask, FreeMask, maskAt, Along, Ahead, ForkMark}
 use Rattle.masks.proofs.MaskLaws.{in-append, in-without, mask-none, mask-or, mask-without, mask-rank, masks-meet}
@@ -49,20 +49,12 @@ only-fork a b c =
     by-kind (λ k. AFork (nodeOf (kindOf k) a b c) → k ≡ 8) absurd absurd absurd absurd absurd absurd absurd absurd (λ h. refl) absurd absurd absurd (λ k h. absurd h)
 
 module _ (s : List ℕ) (n : ℕ) where
-  -- A node of this kind, with its words.
-  abbrev nodeIs : ℕ → Node
-  nodeIs k = nodeOf (kindOf k) (nodeWord s n 1) (nodeWord s n 2) (nodeWord s n 3)
-
-  view-is : (k : ℕ) → nodeWord s n 0 ≡ k → viewAt s n ≡ nodeIs k
-  unfolding viewAt
-  view-is k e = rw e
-
   pub fork-kind : (a b c : ℕ) → viewAt s n ≡ n-fork a b c → nodeWord s n 0 ≡ 8
   unfolding viewAt
   fork-kind a b c e = only-fork (nodeWord s n 1) (nodeWord s n 2) (nodeWord s n 3) (nodeWord s n 0) (rw e tt)
 
-  pub part-of : (k p : ℕ) → nodeWord s n 0 ≡ k → p ∈ parts (nodeIs k) → p ∈ parts (viewAt s n)
-  part-of k p e h = rw (view-is k e) h
+  pub part-of : (k p : ℕ) → nodeWord s n 0 ≡ k → p ∈ parts (nodeBy s n k) → p ∈ parts (viewAt s n)
+  part-of k p e h = rw (view-by s n k e) h
 
   -- A node of a kind that names a variable at place j.
   pub naming : (k j : ℕ) → nodeWord s n 0 ≡ k → j < namesKind (kindOf k) → n < countOf s nodes → Names s n j (nodeWord s n (1 + j))
@@ -71,16 +63,16 @@ module _ (s : List ℕ) (n : ℕ) where
   -- A fork names none.
   pub fork-nameless : (j : ℕ) → nodeWord s n 0 ≡ 8 → nameIn j (viewAt s n) ≡ none
   unfolding kindOf
-  fork-nameless j e = rw (view-is 8 e)
+  fork-nameless j e = rw (view-by s n 8 e)
 
-  no-fv : (f : Point → Expr) (k : ℕ) → (k ≡ 1 → ⊥) → (k ≡ 2 → ⊥) → (k ≡ 3 → ⊥) → (k ≡ 4 → ⊥) → (k ≡ 5 → ⊥) → (k ≡ 7 → ⊥) → (k ≡ 8 → ⊥) → (k ≡ 9 → ⊥) → (k ≡ 11 → ⊥) → fv (build n f (nodeIs k)) ≡ []
+  no-fv : (f : Point → Expr) (k : ℕ) → (k ≡ 1 → ⊥) → (k ≡ 2 → ⊥) → (k ≡ 3 → ⊥) → (k ≡ 4 → ⊥) → (k ≡ 5 → ⊥) → (k ≡ 7 → ⊥) → (k ≡ 8 → ⊥) → (k ≡ 9 → ⊥) → (k ≡ 11 → ⊥) → fv (build n f (nodeBy s n k)) ≡ []
   unfolding kindOf fv
   no-fv f k n1 n2 n3 n4 n5 n7 n8 n9 n11 = go k refl
     where
-      go : (j : ℕ) → k ≡ j → fv (build n f (nodeIs j)) ≡ []
+      go : (j : ℕ) → k ≡ j → fv (build n f (nodeBy s n j)) ≡ []
       go =
           by-kind
-          (λ j. k ≡ j → fv (build n f (nodeIs j)) ≡ [])
+          (λ j. k ≡ j → fv (build n f (nodeBy s n j)) ≡ [])
           (λ q. refl)
           (λ q. absurd (n1 q))
           (λ q. absurd (n2 q))
@@ -158,8 +150,8 @@ module _ (s facts masks : List ℕ) (start n : ℕ) (h : Ahead s facts masks sta
   own-free own q o = mask-rank s facts start (h .count) (nodeWord s n 1) (getD facts (2 * n) 0) own (h .ranked) (rank-first q) o
 
   -- The mask of a node of kind k.
-  mask-is : (k m : ℕ) → nodeWord s n 0 ≡ k → MaskOf s facts start m (fv (build n (exprAt s) (nodeIs s n k))) → FreeMask s facts start n m
-  mask-is k m e q = rw (expr-at s n (h .there) (in-order s (h .layout) n (h .there)), view-is s n k e) q
+  mask-is : (k m : ℕ) → nodeWord s n 0 ≡ k → MaskOf s facts start m (fv (build n (exprAt s) (nodeBy s n k))) → FreeMask s facts start n m
+  mask-is k m e q = rw (expr-by s (h .layout) n (h .there) k e) q
 
   -- The slots of node n are in the table of facts.
   pub fact-within : 2 * n + 1 < length facts
@@ -234,7 +226,7 @@ module _ (s masks : List ℕ) (n t : ℕ) where
       (a-is : a ≡ getD masks (nodeWord s n 1) 0) (b-is : b ≡ getD masks (nodeWord s n 2) 0) where
     words : (p q r : ℕ) → viewAt s n ≡ n-fork p q r → (nodeWord s n 1 ≡ p) × (nodeWord s n 2 ≡ q)
     unfolding kindOf
-    words p q r v = let e : n-fork (nodeWord s n 1) (nodeWord s n 2) (nodeWord s n 3) ≡ n-fork p q r = sym (view-is s n 8 (sym k-is ∙ fork)) ∙ v in (cc, cc)
+    words p q r v = let e : n-fork (nodeWord s n 1) (nodeWord s n 2) (nodeWord s n 3) ≡ n-fork p q r = sym (view-by s n 8 (sym k-is ∙ fork)) ∙ v in (cc, cc)
 
     async : (facts : List ℕ) (start p m : ℕ) → Along (FreeMask s facts start) (maskAt masks) n (countOf s nodes) → p ∈ parts (viewAt s n) → m ≡ getD masks p 0 → MaskOf s facts start m (fv (exprAt s p))
     async facts start p m masked i e = let w = in-order s layout n there p i in rw e (masked p (omega (arith, w .later)) (w .there))

@@ -12,24 +12,9 @@ use Rattle.script.specs.declared.Section.the-variants.{Nodes as nodes}
 use Rattle.script.specs.Section.{countOf, nodeWord}
 use Rattle.script.specs.Reading.{Kind, null-kind, var-kind, select-kind, update-kind, call-kind, bind-kind, new-kind, cast-kind, fork-kind, lock-kind, unknown-kind}
 use Rattle.script.specs.Reading.{constant-kind, add-kind, kindOf, nodeOf, viewAt}
+use Rattle.script.proofs.Reading.{by-kind}
 use Rattle.names.specs.Ranks.{slotOf, variablesIn, itemAt, nameIn, Names, slotWord, SlotNames}
 use Rattle.names.specs.Filling.{namesKind}
-
--- One case for each kind.
-pub by-kind : (P : ℕ → Type 0) → P 0 → P 1 → P 2 → P 3 → P 4 → P 5 → P 6 → P 7 → P 8 → P 9 → P 10 → P 11 → ((k : ℕ) → P (suc (suc (suc (suc (suc (suc (suc (suc (suc (suc (suc (suc k))))))))))))) → (k : ℕ) → P k
-by-kind P p0 p1 p2 p3 p4 p5 p6 p7 p8 p9 p10 p11 more zero = p0
-by-kind P p0 p1 p2 p3 p4 p5 p6 p7 p8 p9 p10 p11 more (suc zero) = p1
-by-kind P p0 p1 p2 p3 p4 p5 p6 p7 p8 p9 p10 p11 more (suc (suc zero)) = p2
-by-kind P p0 p1 p2 p3 p4 p5 p6 p7 p8 p9 p10 p11 more (suc (suc (suc zero))) = p3
-by-kind P p0 p1 p2 p3 p4 p5 p6 p7 p8 p9 p10 p11 more (suc (suc (suc (suc zero)))) = p4
-by-kind P p0 p1 p2 p3 p4 p5 p6 p7 p8 p9 p10 p11 more (suc (suc (suc (suc (suc zero))))) = p5
-by-kind P p0 p1 p2 p3 p4 p5 p6 p7 p8 p9 p10 p11 more (suc (suc (suc (suc (suc (suc zero)))))) = p6
-by-kind P p0 p1 p2 p3 p4 p5 p6 p7 p8 p9 p10 p11 more (suc (suc (suc (suc (suc (suc (suc zero))))))) = p7
-by-kind P p0 p1 p2 p3 p4 p5 p6 p7 p8 p9 p10 p11 more (suc (suc (suc (suc (suc (suc (suc (suc zero)))))))) = p8
-by-kind P p0 p1 p2 p3 p4 p5 p6 p7 p8 p9 p10 p11 more (suc (suc (suc (suc (suc (suc (suc (suc (suc zero))))))))) = p9
-by-kind P p0 p1 p2 p3 p4 p5 p6 p7 p8 p9 p10 p11 more (suc (suc (suc (suc (suc (suc (suc (suc (suc (suc zero)))))))))) = p10
-by-kind P p0 p1 p2 p3 p4 p5 p6 p7 p8 p9 p10 p11 more (suc (suc (suc (suc (suc (suc (suc (suc (suc (suc (suc zero))))))))))) = p11
-by-kind P p0 p1 p2 p3 p4 p5 p6 p7 p8 p9 p10 p11 more (suc (suc (suc (suc (suc (suc (suc (suc (suc (suc (suc (suc k)))))))))))) = more k
 
 -- Every other kind names no variable.
 pub no-naming : (k : ℕ) → (k ≡ 1 → ⊥) → (k ≡ 2 → ⊥) → (k ≡ 3 → ⊥) → (k ≡ 4 → ⊥) → (k ≡ 5 → ⊥) → (k ≡ 9 → ⊥) → (k ≡ 11 → ⊥) → 0 ≡ namesKind (kindOf k)

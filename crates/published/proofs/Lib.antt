@@ -6,3 +6,4 @@ pub mod HeldLocks
 pub mod LockRules
 pub mod Reach
 pub mod Reached
+pub mod Counts

@@ -15,7 +15,7 @@ use Rattle.machine.specs.WellFormed.{WellFormed, WfConfig}
 use Rattle.machine.specs.Accepted.{AcceptedCode}
 use Rattle.machine.specs.Runs.{Report, report, Runs, ends, spends, passes, makes, fills}
 use Rattle.soundness.proofs.Run.{run-runs, moved-choice}
-use Rattle.machine.specs.Silent.{SilentAt, due, samePlace}
+use Rattle.machine.specs.Silent.{quietIn, SilentAt, due, samePlace}
 use Rattle.soundness.proofs.Silent.{OnNode, on-node, place-counts, others-stay, same-place, due-told}
 use Rattle.soundness.proofs.CannotMove.{still-exactly}
 use Rattle.soundness.proofs.FullStore.{full-exactly}
@@ -53,7 +53,7 @@ module _ {s : Code} {start : ℕ} (acc : AcceptedCode s start) (lim : Places) wh
   pub run-trace : (ns : List ℕ) (c : Config) → WellFormed s lim start c → Trace s lim c (take (report s lim c ns .read) ns) (report s lim c ns .moves) (report s lim c ns .config)
   run-trace ns c h = runs-trace (run-runs s lim ns c) h
 
--- "A thread makes at most 1,024 silent moves in a row": each takes one off what it has before it, and no other's move does.
+-- Each silent move of a thread takes one off its count, and no other's move does.
 module _ {s : Code} {start : ℕ} (acc : AcceptedCode s start) (lim : Places) (p : Path) where
   one-silent : {q : Path} {t u : Tree} → SilentAt s q t u → OnNode s (part t p)
       → OnNode s (part u p) × (oneIf (samePlace p q) + due s (part u p) ≡ due s (part t p))
@@ -67,20 +67,26 @@ module _ {s : Code} {start : ℕ} (acc : AcceptedCode s start) (lim : Places) (p
       go false e = let k = others-stay x p e in (k .0 h, omega (arith, k .1))
 
   silent-due : {c d : Config} {ns : List ℕ} {n : ℕ} (r : Trace s lim c ns n d) → OnlySilent p r → OnNode s (part (c .tree) p)
-      → silentMoves p r ≤ due s (part (c .tree) p)
-  silent-due trace-none o h = omega arith
+      → OnNode s (part (d .tree) p) × (silentMoves p r + due s (part (d .tree) p) ≡ due s (part (c .tree) p))
+  silent-due trace-none o h = (h, omega arith)
   silent-due (trace-passes k r) o h = silent-due r o h
-  silent-due (trace-moves l (published-step k e) r) o h = let j = silent-due r (o .1) (rw (o .0) h) in omega (arith, j, ap (due s) (o .0))
+  silent-due (trace-moves l (published-step k e) r) o h = let j = silent-due r (o .1) (rw (o .0) h) in (j .0, omega (arith, j .1, ap (due s) (o .0)))
   silent-due (trace-moves l (silent-move x e f) r) o h =
       let k = one-silent x h in
       let j = silent-due r o (k .0) in
-      omega (arith, k .1, j)
-  silent-due (trace-full l k) o h = omega arith
+      (j .0, omega (arith, k .1, j .1))
+  silent-due (trace-full l k) o h = (h, omega arith)
 
-  pub silent-bound : {w : Want} {c d : Config} {ns : List ℕ} {n : ℕ} → WfConfig s w c → (r : Trace s lim c ns n d) → OnlySilent p r → silentMoves p r ≤ SILENT
-  silent-bound {c = c} h r o =
-      let k = on-node (h .tree) p in
-      omega (arith, silent-due r o k, due-told acc (part (c .tree) p) k .0, acc .most)
+  module _ {w : Want} {c d : Config} {ns : List ℕ} {n : ℕ} (h : WfConfig s w c) (r : Trace s lim c ns n d) (o : OnlySilent p r) where
+    -- Those that it makes and those that it still has before it are those that it had. So a row is never longer than the count, and one that ends where its move due is not silent is exactly as long.
+    pub trace-counts : (silentMoves p r ≤ due s (part (c .tree) p)) × (quietIn s (part (d .tree) p) ≡ false → silentMoves p r ≡ due s (part (c .tree) p))
+    trace-counts =
+        let k = silent-due r o (on-node (h .tree) p) in
+        (omega (arith, k .1), λ q. let z : due s (part (d .tree) p) ≡ 0 = rw q at (due-told acc (part (d .tree) p) (k .0) .1) in omega (arith, k .1))
+
+    -- "A thread makes at most 1,024 silent moves in a row"
+    pub silent-bound : silentMoves p r ≤ SILENT
+    silent-bound = omega (arith, trace-counts .0, due-told acc (part (c .tree) p) (on-node (h .tree) p) .0, acc .most)
 
 -- The configuration that Start writes is the paper's initial one.
 pub initial-reads : {s : Code} {start : ℕ} → AcceptedCode s start → reading s initial ≡ initialReading (s .program)

@@ -5,3 +5,4 @@ pub mod LockRules
 pub mod Reach
 pub mod Means
 pub mod Traces
+pub mod Counts

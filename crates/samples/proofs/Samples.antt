@@ -24,13 +24,14 @@ use Rattle.typing.specs.Check.{namesIn, joinsTest, classesTest, memberQuestions
 use Rattle.machine.specs.Config.{Config, codeOf}
 use Rattle.machine.specs.Stops.{stopNumber}
 use Rattle.machine.specs.Machine.{limits, move, choice, initial}
+use Rattle.machine.specs.Silent.{silentFrom, mostSilent}
 use Rattle.machine.specs.WellFormed.{WellFormed}
 use Rattle.machine.specs.Runs.{Report, look, report}
 use Rattle.block.specs.Rows.{filled}
 use Rattle.block.specs.Block.{encode}
 use Rattle.block.proofs.Fits.{all-small}
-use Rattle.calls.specs.Calls.{Checked, Ran, checkedOf, startAsked, startOf, flagsOf}
-use Rattle.samples.specs.Samples.{Trial, Sample, Tried, Sampled, nodesAlone, nodesWithClass, nodesWithField, nodesWithMethod, samples}
+use Rattle.calls.specs.Calls.{Checked, Ran, checkedOf, silentOf, startAsked, startOf, flagsOf}
+use Rattle.samples.specs.Samples.{Trial, Sample, Tried, Sampled, nodesAlone, nodesWithClass, nodesWithField, nodesWithMethod, samples, silentSamples}
 use Rattle.calls.proofs.Replies.{start-writes, offer-reply, run-reply, run-holds}
 use Rattle.calls.proofs.Runs.{number-some}
 use Rattle.samples.proofs.Tables.{in-map}
@@ -48,7 +49,7 @@ stated x = record { choices = x .choices; stop = x .stop; read = x .read; moves 
 
 -- the whole table, as Check and the machine answer
 all-checked : map (λ x. checkedOf (x .script)) samples ≡ map (λ x. x .checked) samples
-unfolding wordAt bytes run sumBelow named countIn sections bodyAt countOf endOf recordAt recordWord declarationAt kindOf viewAt lastExprs exprAt ownSignatures ownFields ownMethods signatureAt interfaceAt fieldAt methodAt classAt programOf firstNo firstOut lowestIn lengthTest withinTest countsTest placedFrom placesTest interfaceTest interfacesTest ownersTest typeTest interfaceTypeTest classTypeTest typesTest allOf partsFrom usesIn nodeTest nodesTest runStart hasName freshTest namesTest layoutQuestions valuesTo valueAt reach below meaning ownMethod methodIn typeIn fieldIn without fv isIn shares answer bodiesFrom bodiesOf walk namesIn joinsTest classesTest memberQuestions checkOf checkedOf nodesAlone nodesWithClass nodesWithField nodesWithMethod samples
+unfolding wordAt bytes run sumBelow named countIn sections bodyAt countOf endOf recordAt recordWord declarationAt kindOf viewAt lastExprs exprAt ownSignatures ownFields ownMethods signatureAt interfaceAt fieldAt methodAt classAt programOf firstNo firstOut lowestIn lengthTest withinTest countsTest placedFrom placesTest interfaceTest interfacesTest ownersTest typeTest interfaceTypeTest classTypeTest typesTest allOf partsFrom usesIn nodeTest nodesTest runStart hasName freshTest namesTest layoutQuestions valuesTo valueAt reach below meaning ownMethod methodIn typeIn fieldIn without fv isIn shares answer bodiesFrom bodiesOf walk namesIn joinsTest classesTest memberQuestions silentFrom mostSilent checkOf checkedOf nodesAlone nodesWithClass nodesWithField nodesWithMethod samples
 all-checked = refl
 
 all-tried : map (λ x. map (trialOf (x .script)) (x .trials)) samples ≡ map (λ x. map stated (x .trials)) samples
@@ -117,3 +118,8 @@ all-samples x m =
           let v = number-none (x .script) (ap (λ (z : Checked). z .number) c ∙ r .0) in
           tried (x .script) (v .0) y (v .1) (r .1 .0) (r .1 .1) (in-trials (λ z. trialOf (z .script)) (λ z. stated) all-tried x m y k) b l;
     }
+
+-- and that of Silent
+pub all-silent-samples : map (λ x. silentOf (x .script) (x .node)) silentSamples ≡ map (λ x. x .told) silentSamples
+unfolding wordAt bytes run sumBelow named countIn sections bodyAt countOf endOf recordAt recordWord declarationAt kindOf viewAt lastExprs exprAt ownSignatures ownFields ownMethods signatureAt interfaceAt fieldAt methodAt classAt programOf firstNo firstOut lowestIn lengthTest withinTest countsTest placedFrom placesTest interfaceTest interfacesTest ownersTest typeTest interfaceTypeTest classTypeTest typesTest allOf partsFrom usesIn nodeTest nodesTest runStart hasName freshTest namesTest layoutQuestions valuesTo valueAt reach below meaning ownMethod methodIn typeIn fieldIn without fv isIn shares answer bodiesFrom bodiesOf walk namesIn joinsTest classesTest memberQuestions silentFrom checkOf silentOf nodesAlone nodesWithClass silentSamples
+all-silent-samples = refl

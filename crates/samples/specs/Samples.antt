@@ -19,7 +19,7 @@ use Rattle.machine.specs.Machine.{limits, initial}
 use Rattle.machine.specs.WellFormed.{WellFormed}
 use Rattle.block.specs.Rows.{filled}
 use Rattle.block.specs.Block.{encode}
-use Rattle.calls.specs.Calls.{Checked, checkedOf, startOf, offerOf, runOf}
+use Rattle.calls.specs.Calls.{Checked, SilentTold, checkedOf, startOf, offerOf, runOf}
 
 -- A Run right after Start: its choices; the stop, choices read and moves made that it returns; the configuration that it leaves, whole; and Offer's flags on
 -- the block that it leaves, by position, those after the last one named being 0.
@@ -35,9 +35,9 @@ pub record Trial : Type 0 where
 abbrev pub trial : List ℕ → ℕ → ℕ → ℕ → Config → List ℕ → Trial
 trial choices stop read moves config flags = record { choices = choices; stop = stop; read = read; moves = moves; config = config; flags = flags }
 
--- Check's reply: its number, place and type, in this order.
-abbrev pub reply : ℕ → ℕ → ℕ → Checked
-reply number place type = record { number = number; place = place; type = type }
+-- Check's reply: its number, place, type and largest count, in this order.
+abbrev pub reply : ℕ → ℕ → ℕ → ℕ → Checked
+reply number place type silent = record { number = number; place = place; type = type; silent = silent }
 
 -- A script, what Check replies, and the Runs that the sample speaks of.
 pub record Sample : Type 0 where
@@ -130,32 +130,32 @@ samples =
     -- "Nodes 7,0,1,0 and 0,0,0,0 alone, 40 bytes: type 0, finished after 3 moves; with two choices 0, stop 0, moves 2."
     record {
       script = nodesAlone (7 ∷ 0 ∷ 1 ∷ 0 ∷ 0 ∷ 0 ∷ 0 ∷ 0 ∷ []);
-      checked = reply 0 0 0;
+      checked = reply 0 0 0 2;
       trials =
           trial (times 9 0 []) 1 3 3 (configured [] [] (returning nil [])) [] ∷
           trial (times 2 0 []) 0 2 2 (configured [] [] (returning nil (casts 0 ∷ []))) (1 ∷ []) ∷
           [];
     } ∷
     -- "Start null: 12 at offset 24."
-    record { script = nodesAlone (0 ∷ 0 ∷ 0 ∷ 0 ∷ []); checked = reply 12 24 0; trials = [] } ∷
+    record { script = nodesAlone (0 ∷ 0 ∷ 0 ∷ 0 ∷ []); checked = reply 12 24 0 0; trials = [] } ∷
     -- "new 1: 6."
-    record { script = nodesWithClass (6 ∷ 1 ∷ 0 ∷ 0 ∷ []); checked = reply 6 36 0; trials = [] } ∷
+    record { script = nodesWithClass (6 ∷ 1 ∷ 0 ∷ 0 ∷ []); checked = reply 6 36 0 0; trials = [] } ∷
     -- "let x = new C in let y = (I)x in (C)y: 14 at the last y."
     record {
       script = nodesWithClass (5 ∷ 2 ∷ 1 ∷ 2 ∷ 6 ∷ 2 ∷ 0 ∷ 0 ∷ 5 ∷ 3 ∷ 3 ∷ 5 ∷ 7 ∷ 1 ∷ 4 ∷ 0 ∷ 1 ∷ 2 ∷ 0 ∷ 0 ∷ 7 ∷ 2 ∷ 6 ∷ 0 ∷ 1 ∷ 3 ∷ 0 ∷ 0 ∷ []);
-      checked = reply 14 84 0;
+      checked = reply 14 84 0 0;
       trials = [];
     } ∷
     -- "let x = new C in fork{x}{x}; x: 15 at the fork."
     record {
       script = nodesWithClass (5 ∷ 2 ∷ 1 ∷ 2 ∷ 6 ∷ 2 ∷ 0 ∷ 0 ∷ 8 ∷ 3 ∷ 4 ∷ 5 ∷ 1 ∷ 2 ∷ 0 ∷ 0 ∷ 1 ∷ 2 ∷ 0 ∷ 0 ∷ 1 ∷ 2 ∷ 0 ∷ 0 ∷ []);
-      checked = reply 15 52 0;
+      checked = reply 15 52 0 0;
       trials = [];
     } ∷
     -- "let x = new C in lock x in lock x in x: finished after 7 moves, open; the inner lock opens nothing": it is still shut after move 6.
     record {
       script = nodesWithClass (5 ∷ 2 ∷ 1 ∷ 2 ∷ 6 ∷ 2 ∷ 0 ∷ 0 ∷ 9 ∷ 2 ∷ 3 ∷ 0 ∷ 9 ∷ 2 ∷ 4 ∷ 0 ∷ 1 ∷ 2 ∷ 0 ∷ 0 ∷ []);
-      checked = reply 0 0 2;
+      checked = reply 0 0 2 1;
       trials =
           trial (times 7 0 []) 1 7 7 (configured (openC ∷ []) (boundX ∷ []) (returning (ref 0) [])) [] ∷
           trial (times 6 0 []) 0 6 6 (configured (shutC ∷ []) (boundX ∷ []) (returning (ref 0) (locks 0 ∷ []))) (1 ∷ []) ∷
@@ -164,7 +164,7 @@ samples =
     -- "let x = (C)null in lock x in x: failed at move 6."
     record {
       script = nodesWithClass (5 ∷ 2 ∷ 1 ∷ 2 ∷ 7 ∷ 2 ∷ 3 ∷ 0 ∷ 9 ∷ 2 ∷ 4 ∷ 0 ∷ 0 ∷ 0 ∷ 0 ∷ 0 ∷ 1 ∷ 2 ∷ 0 ∷ 0 ∷ []);
-      checked = reply 0 0 2;
+      checked = reply 0 0 2 3;
       trials =
           trial (times 6 0 []) 2 6 6 (configured [] (variable 2 2 nil 0 ∷ []) failed) [] ∷
           trial (times 5 0 []) 0 5 5 (configured [] (variable 2 2 nil 0 ∷ []) (running 2 1 [])) (1 ∷ []) ∷
@@ -176,7 +176,7 @@ samples =
           nodesWithClass
           (5 ∷ 2 ∷ 1 ∷ 2 ∷ 6 ∷ 2 ∷ 0 ∷ 0 ∷ 9 ∷ 2 ∷ 3 ∷ 0 ∷ 8 ∷ 4 ∷ 5 ∷ 6 ∷ 7 ∷ 0 ∷ 7 ∷ 0 ∷ 9 ∷ 2 ∷ 8 ∷ 0 ∷ 1 ∷ 2 ∷ 0 ∷ 0 ∷ 0 ∷ 0 ∷ 0 ∷ 0
           ∷ 1 ∷ 2 ∷ 0 ∷ 0 ∷ []);
-      checked = reply 0 0 2;
+      checked = reply 0 0 2 2;
       trials =
           trial (times 5 0 (times 3 1 [])) 3 8 8 (configured (shutC ∷ []) (boundX ∷ []) (join (locks 0 ∷ []) 6 1 (returning nil []) (running 5 1 []))) [] ∷
           [];
@@ -188,7 +188,7 @@ samples =
           nodesWithClass
           (5 ∷ 2 ∷ 1 ∷ 2 ∷ 6 ∷ 2 ∷ 0 ∷ 0 ∷ 5 ∷ 3 ∷ 3 ∷ 4 ∷ 1 ∷ 2 ∷ 0 ∷ 0 ∷ 8 ∷ 5 ∷ 6 ∷ 7 ∷ 9 ∷ 2 ∷ 8 ∷ 0 ∷ 9 ∷ 3 ∷ 9 ∷ 0 ∷ 1 ∷ 2 ∷ 0 ∷ 0
           ∷ 1 ∷ 2 ∷ 0 ∷ 0 ∷ 1 ∷ 3 ∷ 0 ∷ 0 ∷ []);
-      checked = reply 0 0 2;
+      checked = reply 0 0 2 1;
       trials =
           trial (times 7 0 (1 ∷ 2 ∷ [])) 0 9 8
           (configured (shutC ∷ []) (variable 3 2 (ref 0) 1 ∷ boundX ∷ []) (join [] 7 2 (running 8 2 (locks 0 ∷ [])) (running 6 2 []))) (0 ∷ 1 ∷ 0 ∷ []) ∷
@@ -200,7 +200,7 @@ samples =
     -- there is the object, move 8 fails.
     record {
       script = nodesWithField (5 ∷ 2 ∷ 1 ∷ 2 ∷ 7 ∷ 2 ∷ 3 ∷ 0 ∷ 3 ∷ 2 ∷ 0 ∷ 4 ∷ 0 ∷ 0 ∷ 0 ∷ 0 ∷ 6 ∷ 2 ∷ 0 ∷ 0 ∷ []);
-      checked = reply 0 0 0;
+      checked = reply 0 0 0 3;
       trials =
           trial (times 7 0 []) 0 7 7
           (configured (record { class = 2; shut = false; fields = nil ∷ [] } ∷ []) (variable 2 2 nil 0 ∷ []) (returning (ref 0) (awaits 2 1 ∷ []))) (1 ∷ []) ∷
@@ -211,7 +211,7 @@ samples =
     -- not the object's class C.
     record {
       script = nodesWithClass (5 ∷ 2 ∷ 1 ∷ 2 ∷ 7 ∷ 1 ∷ 3 ∷ 0 ∷ 1 ∷ 2 ∷ 0 ∷ 0 ∷ 6 ∷ 2 ∷ 0 ∷ 0 ∷ []);
-      checked = reply 0 0 1;
+      checked = reply 0 0 1 2;
       trials =
           trial (times 5 0 []) 0 5 5 (configured (openC ∷ []) (variable 2 1 (ref 0) 0 ∷ []) (running 2 1 [])) (1 ∷ []) ∷
           trial (times 6 0 []) 1 6 6 (configured (openC ∷ []) (variable 2 1 (ref 0) 0 ∷ []) (returning (ref 0) [])) [] ∷
@@ -221,7 +221,7 @@ samples =
     -- a parameter of type I that gives it back; let x = new C in x.0(x). `this` has type C and no binding beneath, the parameter type I and `this` beneath.
     record {
       script = nodesWithMethod 1 1 4 (5 ∷ 2 ∷ 1 ∷ 2 ∷ 6 ∷ 2 ∷ 0 ∷ 0 ∷ 4 ∷ 2 ∷ 0 ∷ 3 ∷ 1 ∷ 2 ∷ 0 ∷ 0 ∷ 1 ∷ 1 ∷ 0 ∷ 0 ∷ []);
-      checked = reply 0 0 1;
+      checked = reply 0 0 1 1;
       trials =
           trial (times 6 0 []) 0 6 6 (configured (openC ∷ []) (variable 1 1 (ref 0) 2 ∷ variable 0 2 (ref 0) 0 ∷ boundX ∷ []) (running 4 3 [])) (1 ∷ []) ∷
           trial (times 7 0 []) 1 7 7 (configured (openC ∷ []) (variable 1 1 (ref 0) 2 ∷ variable 0 2 (ref 0) 0 ∷ boundX ∷ []) (returning (ref 0) [])) [] ∷
@@ -230,14 +230,14 @@ samples =
     -- "when a let, a lock or a fork is checked against a type, its last part is checked against that same type": (C)let x = new C in null.
     record {
       script = nodesWithClass (7 ∷ 2 ∷ 1 ∷ 0 ∷ 5 ∷ 2 ∷ 2 ∷ 3 ∷ 6 ∷ 2 ∷ 0 ∷ 0 ∷ 0 ∷ 0 ∷ 0 ∷ 0 ∷ []);
-      checked = reply 0 0 2;
+      checked = reply 0 0 2 2;
       trials =
           trial (times 3 0 []) 0 3 3 (configured (openC ∷ []) [] (returning (ref 0) (awaits 1 0 ∷ casts 0 ∷ []))) (1 ∷ []) ∷
           trial (times 6 0 []) 1 6 6 (configured (openC ∷ []) (boundX ∷ []) (returning nil [])) [] ∷
           [];
     } ∷
     -- "A start that ends in null still gets 12": let x = new C in null, at the null.
-    record { script = nodesWithClass (5 ∷ 2 ∷ 1 ∷ 2 ∷ 6 ∷ 2 ∷ 0 ∷ 0 ∷ 0 ∷ 0 ∷ 0 ∷ 0 ∷ []); checked = reply 12 52 0; trials = [] } ∷
+    record { script = nodesWithClass (5 ∷ 2 ∷ 1 ∷ 2 ∷ 6 ∷ 2 ∷ 0 ∷ 0 ∷ 0 ∷ 0 ∷ 0 ∷ 0 ∷ []); checked = reply 12 52 0 0; trials = [] } ∷
     -- The same at an async: C has a method with the body let y = new C in lock y in fork{new C}{new C}; null, and the start is
     -- let x = new C in fork{x.0(x)}{new C}; x. First the let waits, then the fork's last part is run under the lock's frame, then all is finished.
     record {
@@ -245,7 +245,7 @@ samples =
           nodesWithMethod 2 2 7
           (5 ∷ 2 ∷ 1 ∷ 2 ∷ 6 ∷ 2 ∷ 0 ∷ 0 ∷ 8 ∷ 3 ∷ 4 ∷ 5 ∷ 4 ∷ 2 ∷ 0 ∷ 6 ∷ 6 ∷ 2 ∷ 0 ∷ 0 ∷ 1 ∷ 2 ∷ 0 ∷ 0 ∷ 1 ∷ 2 ∷ 0 ∷ 0
           ∷ 5 ∷ 3 ∷ 8 ∷ 9 ∷ 6 ∷ 2 ∷ 0 ∷ 0 ∷ 9 ∷ 3 ∷ 10 ∷ 0 ∷ 8 ∷ 11 ∷ 12 ∷ 13 ∷ 6 ∷ 2 ∷ 0 ∷ 0 ∷ 6 ∷ 2 ∷ 0 ∷ 0 ∷ 0 ∷ 0 ∷ 0 ∷ 0 ∷ []);
-      checked = reply 0 0 2;
+      checked = reply 0 0 2 1;
       trials =
           trial (times 4 0 (times 4 1 [])) 0 8 8
           (configured (openC ∷ []) (afterCalls (λ n. ref 0) 1) (join [] 5 1 (running 8 3 (awaits 7 3 ∷ [])) (running 4 1 []))) (0 ∷ 1 ∷ 1 ∷ []) ∷
@@ -260,14 +260,14 @@ samples =
     -- "Type I+C+1 is Int", "Kind 10 is a constant (a low word, b high word, two's complement), which becomes a value silently as null does": -1 alone.
     record {
       script = nodesAlone (10 ∷ 65535 ∷ 65535 ∷ 0 ∷ []);
-      checked = reply 0 0 1;
+      checked = reply 0 0 1 1;
       trials = trial (times 9 0 []) 1 1 1 (configured [] [] (returning (int (negsuc 0)) [])) [] ∷ [];
     } ∷
     -- "kind 11 adds variables a and b .. in one step", "A sum outside the range fails the thread as null does": let x = 2147483647 in let y = 1 in x + y fails
     -- at move 7.
     record {
       script = nodesAlone (5 ∷ 2 ∷ 1 ∷ 2 ∷ 10 ∷ 65535 ∷ 32767 ∷ 0 ∷ 5 ∷ 3 ∷ 3 ∷ 4 ∷ 10 ∷ 1 ∷ 0 ∷ 0 ∷ 11 ∷ 2 ∷ 3 ∷ 0 ∷ []);
-      checked = reply 0 0 1;
+      checked = reply 0 0 1 2;
       trials =
           trial (times 6 0 []) 0 6 6 (configured [] (variable 3 1 (int (pos 1)) 1 ∷ variable 2 1 (int (pos 2147483647)) 0 ∷ []) (running 4 2 [])) (1 ∷ []) ∷
           trial (times 7 0 []) 2 7 7 (configured [] (variable 3 1 (int (pos 1)) 1 ∷ variable 2 1 (int (pos 2147483647)) 0 ∷ []) failed) [] ∷
@@ -276,34 +276,34 @@ samples =
     -- The same with x = 2147483646 gives the greatest number.
     record {
       script = nodesAlone (5 ∷ 2 ∷ 1 ∷ 2 ∷ 10 ∷ 65534 ∷ 32767 ∷ 0 ∷ 5 ∷ 3 ∷ 3 ∷ 4 ∷ 10 ∷ 1 ∷ 0 ∷ 0 ∷ 11 ∷ 2 ∷ 3 ∷ 0 ∷ []);
-      checked = reply 0 0 1;
+      checked = reply 0 0 1 2;
       trials =
           trial (times 7 0 []) 1 7 7
           (configured [] (variable 3 1 (int (pos 1)) 1 ∷ variable 2 1 (int (pos 2147483646)) 0 ∷ []) (returning (int (pos 2147483647)) [])) [] ∷
           [];
     } ∷
     -- "Null does not fit Int (14)": (Int)null, at the null.
-    record { script = nodesAlone (7 ∷ 1 ∷ 1 ∷ 0 ∷ 0 ∷ 0 ∷ 0 ∷ 0 ∷ []); checked = reply 14 32 0; trials = [] } ∷
+    record { script = nodesAlone (7 ∷ 1 ∷ 1 ∷ 0 ∷ 0 ∷ 0 ∷ 0 ∷ 0 ∷ []); checked = reply 14 32 0 0; trials = [] } ∷
     -- "Int is no target of field, call or lock (13)": let x = 1 in lock x in x, at the lock.
-    record { script = nodesAlone (5 ∷ 2 ∷ 1 ∷ 2 ∷ 10 ∷ 1 ∷ 0 ∷ 0 ∷ 9 ∷ 2 ∷ 3 ∷ 0 ∷ 1 ∷ 2 ∷ 0 ∷ 0 ∷ []); checked = reply 13 40 0; trials = [] } ∷
+    record { script = nodesAlone (5 ∷ 2 ∷ 1 ∷ 2 ∷ 10 ∷ 1 ∷ 0 ∷ 0 ∷ 9 ∷ 2 ∷ 3 ∷ 0 ∷ 1 ∷ 2 ∷ 0 ∷ 0 ∷ []); checked = reply 13 40 0 0; trials = [] } ∷
     -- A `new` operand is a class, so not Int, which is type 3 beside I and C: 6.
-    record { script = nodesWithClass (6 ∷ 3 ∷ 0 ∷ 0 ∷ []); checked = reply 6 36 0; trials = [] } ∷
+    record { script = nodesWithClass (6 ∷ 3 ∷ 0 ∷ 0 ∷ []); checked = reply 6 36 0 0; trials = [] } ∷
     -- Each other question's no, with its number: "Is the file 24 to 13,592 bytes? 1", the empty file.
-    record { script = []; checked = reply 1 0 0; trials = [] } ∷
+    record { script = []; checked = reply 1 0 0 0; trials = [] } ∷
     -- "Are counts within the table, and is there a node? 2": no node.
-    record { script = nodesAlone []; checked = reply 2 0 0; trials = [] } ∷
+    record { script = nodesAlone []; checked = reply 2 0 0 0; trials = [] } ∷
     -- "Are the bodies where the contents must place them, the last ending with the file? 3": the nodes two bytes late.
-    record { script = bytes (24 ∷ 0 ∷ 24 ∷ 0 ∷ 24 ∷ 0 ∷ 24 ∷ 0 ∷ 24 ∷ 0 ∷ 26 ∷ 1 ∷ 10 ∷ 0 ∷ 0 ∷ 0 ∷ []); checked = reply 3 0 0; trials = [] } ∷
+    record { script = bytes (24 ∷ 0 ∷ 24 ∷ 0 ∷ 24 ∷ 0 ∷ 24 ∷ 0 ∷ 24 ∷ 0 ∷ 26 ∷ 1 ∷ 10 ∷ 0 ∷ 0 ∷ 0 ∷ []); checked = reply 3 0 0 0; trials = [] } ∷
     -- "Is each interface record of form 0 or 1 .. ? 4": form 2.
-    record { script = bytes (24 ∷ 1 ∷ 30 ∷ 0 ∷ 30 ∷ 0 ∷ 30 ∷ 0 ∷ 30 ∷ 0 ∷ 30 ∷ 1 ∷ 2 ∷ 0 ∷ 0 ∷ 10 ∷ 0 ∷ 0 ∷ 0 ∷ []); checked = reply 4 24 0; trials = [] } ∷
+    record { script = bytes (24 ∷ 1 ∷ 30 ∷ 0 ∷ 30 ∷ 0 ∷ 30 ∷ 0 ∷ 30 ∷ 0 ∷ 30 ∷ 1 ∷ 2 ∷ 0 ∷ 0 ∷ 10 ∷ 0 ∷ 0 ∷ 0 ∷ []); checked = reply 4 24 0 0; trials = [] } ∷
     -- "Do owners' counts add up to each section's count? 5": a list of one signature, and no signature.
-    record { script = bytes (24 ∷ 1 ∷ 30 ∷ 0 ∷ 30 ∷ 0 ∷ 30 ∷ 0 ∷ 30 ∷ 0 ∷ 30 ∷ 1 ∷ 0 ∷ 1 ∷ 0 ∷ 10 ∷ 0 ∷ 0 ∷ 0 ∷ []); checked = reply 5 0 0; trials = [] } ∷
+    record { script = bytes (24 ∷ 1 ∷ 30 ∷ 0 ∷ 30 ∷ 0 ∷ 30 ∷ 0 ∷ 30 ∷ 0 ∷ 30 ∷ 1 ∷ 0 ∷ 1 ∷ 0 ∷ 10 ∷ 0 ∷ 0 ∷ 0 ∷ []); checked = reply 5 0 0 0; trials = [] } ∷
     -- "Has each node a known kind", else 7: kind 12.
-    record { script = nodesAlone (12 ∷ 0 ∷ 0 ∷ 0 ∷ []); checked = reply 7 24 0; trials = [] } ∷
+    record { script = nodesAlone (12 ∷ 0 ∷ 0 ∷ 0 ∷ []); checked = reply 7 24 0 0; trials = [] } ∷
     -- "Are names unique in each list, each class's fields .. ? 8": two fields of name 0, at the second.
     record {
       script = bytes (24 ∷ 1 ∷ 30 ∷ 0 ∷ 30 ∷ 1 ∷ 36 ∷ 2 ∷ 44 ∷ 0 ∷ 44 ∷ 1 ∷ 0 ∷ 0 ∷ 0 ∷ 1 ∷ 2 ∷ 0 ∷ 0 ∷ 2 ∷ 0 ∷ 2 ∷ 6 ∷ 2 ∷ 0 ∷ 0 ∷ []);
-      checked = reply 8 40 0;
+      checked = reply 8 40 0 0;
       trials = [];
     } ∷
     -- "Do all meanings of a method name in a join have the same types? 9": a join of two lists with method 0, of result Unit in one and Int in the other.
@@ -311,21 +311,21 @@ samples =
       script =
           bytes
           (24 ∷ 3 ∷ 42 ∷ 2 ∷ 54 ∷ 0 ∷ 54 ∷ 0 ∷ 54 ∷ 0 ∷ 54 ∷ 1 ∷ 0 ∷ 1 ∷ 0 ∷ 0 ∷ 1 ∷ 0 ∷ 1 ∷ 1 ∷ 2 ∷ 0 ∷ 0 ∷ 0 ∷ 0 ∷ 0 ∷ 4 ∷ 10 ∷ 0 ∷ 0 ∷ 0 ∷ []);
-      checked = reply 9 36 0;
+      checked = reply 9 36 0 0;
       trials = [];
     } ∷
     -- "Has each class every method of its interface, with the same types? 10": a class without a method of an interface with one.
     record {
       script = bytes (24 ∷ 1 ∷ 30 ∷ 1 ∷ 36 ∷ 1 ∷ 42 ∷ 0 ∷ 42 ∷ 0 ∷ 42 ∷ 1 ∷ 0 ∷ 1 ∷ 0 ∷ 0 ∷ 0 ∷ 0 ∷ 1 ∷ 0 ∷ 0 ∷ 6 ∷ 2 ∷ 0 ∷ 0 ∷ []);
-      checked = reply 10 36 0;
+      checked = reply 10 36 0 0;
       trials = [];
     } ∷
     -- "Is each variable bound? 11": variable 2 alone.
-    record { script = nodesAlone (1 ∷ 2 ∷ 0 ∷ 0 ∷ []); checked = reply 11 24 0; trials = [] } ∷
+    record { script = nodesAlone (1 ∷ 2 ∷ 0 ∷ 0 ∷ []); checked = reply 11 24 0 0; trials = [] } ∷
     -- "the 256th object is made, the 257th gives stop 4": a method's body is this.0(new C), and the start let x = new C in x.0(new C).
     record {
       script = nodesWithMethod 2 2 4 (5 ∷ 2 ∷ 1 ∷ 2 ∷ 6 ∷ 2 ∷ 0 ∷ 0 ∷ 4 ∷ 2 ∷ 0 ∷ 3 ∷ 6 ∷ 2 ∷ 0 ∷ 0 ∷ 4 ∷ 0 ∷ 0 ∷ 5 ∷ 6 ∷ 2 ∷ 0 ∷ 0 ∷ []);
-      checked = reply 0 0 2;
+      checked = reply 0 0 2 1;
       trials =
           trial (times 900 0 []) 4 770 769 (configured (replicate 256 openC) (afterCalls ref 255) (running 5 511 (awaits 4 511 ∷ []))) (1 ∷ []) ∷
           [];
@@ -333,7 +333,7 @@ samples =
     -- "5 bindings", "as bindings with one place left are for a call": the body is this.0(x), the start let x = new C in x.0(x). 2,047 bindings are there.
     record {
       script = nodesWithMethod 2 2 4 (5 ∷ 2 ∷ 1 ∷ 2 ∷ 6 ∷ 2 ∷ 0 ∷ 0 ∷ 4 ∷ 2 ∷ 0 ∷ 3 ∷ 1 ∷ 2 ∷ 0 ∷ 0 ∷ 4 ∷ 0 ∷ 0 ∷ 5 ∷ 1 ∷ 1 ∷ 0 ∷ 0 ∷ []);
-      checked = reply 0 0 2;
+      checked = reply 0 0 2 1;
       trials =
           trial (times 4000 0 []) 5 3075 3074 (configured (openC ∷ []) (afterCalls (λ n. ref 0) 1023) (returning (ref 0) (awaits 4 2047 ∷ []))) (1 ∷ []) ∷
           [];
@@ -344,7 +344,7 @@ samples =
           nodesWithMethod 2 2 4
           (5 ∷ 2 ∷ 1 ∷ 2 ∷ 6 ∷ 2 ∷ 0 ∷ 0 ∷ 4 ∷ 2 ∷ 0 ∷ 3 ∷ 1 ∷ 2 ∷ 0 ∷ 0 ∷ 7 ∷ 2 ∷ 5 ∷ 0 ∷ 7 ∷ 2 ∷ 6 ∷ 0 ∷ 7 ∷ 2 ∷ 7 ∷ 0 ∷ 7 ∷ 2 ∷ 8 ∷ 0
           ∷ 4 ∷ 0 ∷ 0 ∷ 9 ∷ 1 ∷ 1 ∷ 0 ∷ 0 ∷ []);
-      checked = reply 0 0 2;
+      checked = reply 0 0 2 5;
       trials =
           trial (times 4000 0 []) 6 3588 3587 (configured (openC ∷ []) (afterCalls (λ n. ref 0) 512) (running 8 1025 (fourCasts 512))) (1 ∷ []) ∷
           [];
@@ -356,9 +356,37 @@ samples =
           nodesWithMethod 2 2 4
           (5 ∷ 2 ∷ 1 ∷ 2 ∷ 6 ∷ 2 ∷ 0 ∷ 0 ∷ 4 ∷ 2 ∷ 0 ∷ 3 ∷ 1 ∷ 2 ∷ 0 ∷ 0 ∷ 8 ∷ 5 ∷ 6 ∷ 7 ∷ 4 ∷ 0 ∷ 0 ∷ 8 ∷ 6 ∷ 2 ∷ 0 ∷ 0 ∷ 1 ∷ 1 ∷ 0 ∷ 0
           ∷ 1 ∷ 1 ∷ 0 ∷ 0 ∷ []);
-      checked = reply 0 0 2;
+      checked = reply 0 0 2 1;
       trials =
           trial (times 7 0 (fourTimes 31 1)) 7 131 130 (configured (openC ∷ []) (afterCalls (λ n. ref 0) 32) (leftJoins 31 3)) (times 31 0 (times 32 1 [])) ∷
           [];
     } ∷
+    []
+
+-- Request 6: a script, a node's number, and what Silent replies: number, place and count.
+pub record SilentSample : Type 0 where
+  pub script : List ℕ
+  pub node : ℕ
+  pub told : SilentTold
+
+abbrev pub silentSample : List ℕ → ℕ → ℕ → ℕ → ℕ → SilentSample
+silentSample s n number place count = record { script = s; node = n; told = record { number = number; place = place; count = count } }
+
+unfoldable pub silentSamples : List SilentSample
+silentSamples =
+    -- the first sample: "one for each descent and one for a final null", and "0 where no such node is"
+    silentSample (nodesAlone (7 ∷ 0 ∷ 1 ∷ 0 ∷ 0 ∷ 0 ∷ 0 ∷ 0 ∷ [])) 0 0 0 2 ∷
+    silentSample (nodesAlone (7 ∷ 0 ∷ 1 ∷ 0 ∷ 0 ∷ 0 ∷ 0 ∷ 0 ∷ [])) 1 0 0 1 ∷
+    silentSample (nodesAlone (7 ∷ 0 ∷ 1 ∷ 0 ∷ 0 ∷ 0 ∷ 0 ∷ 0 ∷ [])) 2 0 0 0 ∷
+    silentSample (nodesAlone (7 ∷ 0 ∷ 1 ∷ 0 ∷ 0 ∷ 0 ∷ 0 ∷ 0 ∷ [])) 65536 0 0 0 ∷
+    -- "after questions 1 to 15": start null, for which every count would be 1
+    silentSample (nodesAlone (0 ∷ 0 ∷ 0 ∷ 0 ∷ [])) 0 12 24 0 ∷
+    -- "one for .. a final .. constant"
+    silentSample (nodesAlone (10 ∷ 65535 ∷ 65535 ∷ 0 ∷ [])) 0 0 0 1 ∷
+    -- let x = (C)null in lock x in x: at the let, and at the lock
+    silentSample (nodesWithClass (5 ∷ 2 ∷ 1 ∷ 2 ∷ 7 ∷ 2 ∷ 3 ∷ 0 ∷ 9 ∷ 2 ∷ 4 ∷ 0 ∷ 0 ∷ 0 ∷ 0 ∷ 0 ∷ 1 ∷ 2 ∷ 0 ∷ 0 ∷ [])) 0 0 0 3 ∷
+    silentSample (nodesWithClass (5 ∷ 2 ∷ 1 ∷ 2 ∷ 7 ∷ 2 ∷ 3 ∷ 0 ∷ 9 ∷ 2 ∷ 4 ∷ 0 ∷ 0 ∷ 0 ∷ 0 ∷ 0 ∷ 1 ∷ 2 ∷ 0 ∷ 0 ∷ [])) 2 0 0 0 ∷
+    -- parts that are entered by a published step: let x = (C)null in lock x in (C)null at the lock, and fork{(C)null}{(C)null}; (C)null at the fork
+    silentSample (nodesWithClass (5 ∷ 2 ∷ 1 ∷ 3 ∷ 7 ∷ 2 ∷ 2 ∷ 0 ∷ 0 ∷ 0 ∷ 0 ∷ 0 ∷ 9 ∷ 2 ∷ 4 ∷ 0 ∷ 7 ∷ 2 ∷ 5 ∷ 0 ∷ 0 ∷ 0 ∷ 0 ∷ 0 ∷ [])) 3 0 0 0 ∷
+    silentSample (nodesWithClass (8 ∷ 1 ∷ 3 ∷ 5 ∷ 7 ∷ 2 ∷ 2 ∷ 0 ∷ 0 ∷ 0 ∷ 0 ∷ 0 ∷ 7 ∷ 2 ∷ 4 ∷ 0 ∷ 0 ∷ 0 ∷ 0 ∷ 0 ∷ 7 ∷ 2 ∷ 6 ∷ 0 ∷ 0 ∷ 0 ∷ 0 ∷ 0 ∷ [])) 0 0 0 0 ∷
     []

@@ -1,6 +1,6 @@
 -- The expressions of a script: each is built from those of its parts, and what goes from parts to nodes holds of all.
 use Prim.Native.Nat.{ℕ, zero, suc, _+_, _-_, _<_, _≤_}
-use mathlib.Core.Path.{_≡_, refl, ap, ap₂}
+use mathlib.Core.Path.{_≡_, refl, _∙_, ap, ap₂}
 use mathlib.Core.List.{List, [], _∷_, List·Memᴰ·head, List·Memᴰ·tail, List·Memᴰ·cases-cons, List·Memᴰ·not-nil}
 use mathlib.Core.Logic.{⊎-elim}
 use native.Mathlib.Omega.{arith}
@@ -51,23 +51,53 @@ build-point n f (n-lock x p) = refl
 build-point n f (n-constant z) = refl
 build-point n f (n-add x y) = refl
 
+-- One case for each kind.
+pub by-kind : (P : ℕ → Type 0) → P 0 → P 1 → P 2 → P 3 → P 4 → P 5 → P 6 → P 7 → P 8 → P 9 → P 10 → P 11 → ((k : ℕ) → P (suc (suc (suc (suc (suc (suc (suc (suc (suc (suc (suc (suc k))))))))))))) → (k : ℕ) → P k
+by-kind P p0 p1 p2 p3 p4 p5 p6 p7 p8 p9 p10 p11 more zero = p0
+by-kind P p0 p1 p2 p3 p4 p5 p6 p7 p8 p9 p10 p11 more (suc zero) = p1
+by-kind P p0 p1 p2 p3 p4 p5 p6 p7 p8 p9 p10 p11 more (suc (suc zero)) = p2
+by-kind P p0 p1 p2 p3 p4 p5 p6 p7 p8 p9 p10 p11 more (suc (suc (suc zero))) = p3
+by-kind P p0 p1 p2 p3 p4 p5 p6 p7 p8 p9 p10 p11 more (suc (suc (suc (suc zero)))) = p4
+by-kind P p0 p1 p2 p3 p4 p5 p6 p7 p8 p9 p10 p11 more (suc (suc (suc (suc (suc zero))))) = p5
+by-kind P p0 p1 p2 p3 p4 p5 p6 p7 p8 p9 p10 p11 more (suc (suc (suc (suc (suc (suc zero)))))) = p6
+by-kind P p0 p1 p2 p3 p4 p5 p6 p7 p8 p9 p10 p11 more (suc (suc (suc (suc (suc (suc (suc zero))))))) = p7
+by-kind P p0 p1 p2 p3 p4 p5 p6 p7 p8 p9 p10 p11 more (suc (suc (suc (suc (suc (suc (suc (suc zero)))))))) = p8
+by-kind P p0 p1 p2 p3 p4 p5 p6 p7 p8 p9 p10 p11 more (suc (suc (suc (suc (suc (suc (suc (suc (suc zero))))))))) = p9
+by-kind P p0 p1 p2 p3 p4 p5 p6 p7 p8 p9 p10 p11 more (suc (suc (suc (suc (suc (suc (suc (suc (suc (suc zero)))))))))) = p10
+by-kind P p0 p1 p2 p3 p4 p5 p6 p7 p8 p9 p10 p11 more (suc (suc (suc (suc (suc (suc (suc (suc (suc (suc (suc zero))))))))))) = p11
+by-kind P p0 p1 p2 p3 p4 p5 p6 p7 p8 p9 p10 p11 more (suc (suc (suc (suc (suc (suc (suc (suc (suc (suc (suc (suc k)))))))))))) = more k
+
 -- Kinds 1 to 11 are not null, and every other one is read as null.
 pub only-null : (k a b c : ℕ) → (k ≡ 1 → ⊥) → (k ≡ 2 → ⊥) → (k ≡ 3 → ⊥) → (k ≡ 4 → ⊥) → (k ≡ 5 → ⊥) → (k ≡ 6 → ⊥) → (k ≡ 7 → ⊥) → (k ≡ 8 → ⊥)
     → (k ≡ 9 → ⊥) → (k ≡ 10 → ⊥) → (k ≡ 11 → ⊥) → nodeOf (kindOf k) a b c ≡ n-null
 unfolding kindOf
-only-null zero a b c h1 h2 h3 h4 h5 h6 h7 h8 h9 h10 h11 = refl
-only-null (suc zero) a b c h1 h2 h3 h4 h5 h6 h7 h8 h9 h10 h11 = absurd (h1 refl)
-only-null (suc (suc zero)) a b c h1 h2 h3 h4 h5 h6 h7 h8 h9 h10 h11 = absurd (h2 refl)
-only-null (suc (suc (suc zero))) a b c h1 h2 h3 h4 h5 h6 h7 h8 h9 h10 h11 = absurd (h3 refl)
-only-null (suc (suc (suc (suc zero)))) a b c h1 h2 h3 h4 h5 h6 h7 h8 h9 h10 h11 = absurd (h4 refl)
-only-null (suc (suc (suc (suc (suc zero))))) a b c h1 h2 h3 h4 h5 h6 h7 h8 h9 h10 h11 = absurd (h5 refl)
-only-null (suc (suc (suc (suc (suc (suc zero)))))) a b c h1 h2 h3 h4 h5 h6 h7 h8 h9 h10 h11 = absurd (h6 refl)
-only-null (suc (suc (suc (suc (suc (suc (suc zero))))))) a b c h1 h2 h3 h4 h5 h6 h7 h8 h9 h10 h11 = absurd (h7 refl)
-only-null (suc (suc (suc (suc (suc (suc (suc (suc zero)))))))) a b c h1 h2 h3 h4 h5 h6 h7 h8 h9 h10 h11 = absurd (h8 refl)
-only-null (suc (suc (suc (suc (suc (suc (suc (suc (suc zero))))))))) a b c h1 h2 h3 h4 h5 h6 h7 h8 h9 h10 h11 = absurd (h9 refl)
-only-null (suc (suc (suc (suc (suc (suc (suc (suc (suc (suc zero)))))))))) a b c h1 h2 h3 h4 h5 h6 h7 h8 h9 h10 h11 = absurd (h10 refl)
-only-null (suc (suc (suc (suc (suc (suc (suc (suc (suc (suc (suc zero))))))))))) a b c h1 h2 h3 h4 h5 h6 h7 h8 h9 h10 h11 = absurd (h11 refl)
-only-null (suc (suc (suc (suc (suc (suc (suc (suc (suc (suc (suc (suc k)))))))))))) a b c h1 h2 h3 h4 h5 h6 h7 h8 h9 h10 h11 = refl
+only-null k a b c h1 h2 h3 h4 h5 h6 h7 h8 h9 h10 h11 = go k refl
+  where
+    go : (j : ℕ) → k ≡ j → nodeOf (kindOf j) a b c ≡ n-null
+    go =
+        by-kind
+        (λ j. k ≡ j → nodeOf (kindOf j) a b c ≡ n-null)
+        (λ q. refl)
+        (λ q. absurd (h1 q))
+        (λ q. absurd (h2 q))
+        (λ q. absurd (h3 q))
+        (λ q. absurd (h4 q))
+        (λ q. absurd (h5 q))
+        (λ q. absurd (h6 q))
+        (λ q. absurd (h7 q))
+        (λ q. absurd (h8 q))
+        (λ q. absurd (h9 q))
+        (λ q. absurd (h10 q))
+        (λ q. absurd (h11 q))
+        (λ j q. refl)
+
+-- A node whose first word is k is of kind k.
+abbrev pub nodeBy : List ℕ → Point → ℕ → Node
+nodeBy s n k = nodeOf (kindOf k) (nodeWord s n 1) (nodeWord s n 2) (nodeWord s n 3)
+
+pub view-by : (s : List ℕ) (n : Point) (k : ℕ) → nodeWord s n 0 ≡ k → viewAt s n ≡ nodeBy s n k
+unfolding viewAt
+view-by s n k e = rw e
 
 module _ (s : List ℕ) where
   -- The table of the last j + k nodes ends in that of the last k.
@@ -121,6 +151,13 @@ module _ (s : List ℕ) where
 
     pub known : kindOf (nodeWord s n 0) ≡ unknown-kind → ⊥
     known e = let x = w .nodes-are .1 .0 n h .words .a-is in rw e at x
+
+    -- By its first word, its expression and its parts.
+    pub expr-by : (k : ℕ) → nodeWord s n 0 ≡ k → exprAt s n ≡ build n (exprAt s) (nodeBy s n k)
+    expr-by k e = expr-at n h in-order ∙ ap (build n (exprAt s)) (view-by s n k e)
+
+    pub part-by : (k : ℕ) → nodeWord s n 0 ≡ k → (p : Point) → p ∈ parts (nodeBy s n k) → Part s n p
+    part-by k e p m = in-order p (rw (view-by s n k e) m)
 
   -- What holds of a node whenever it holds of the node's parts holds of every node, since parts stand later.
   module _ (P : Point → Type 0)

@@ -1,26 +1,29 @@
 -- The silent moves of a thread in a row, counted; "A thread makes at most 1,024 silent moves in a row".
-use Prim.Native.Nat.{ℕ, zero, suc, _+_, _≤_, _<_}
+use Prim.Native.Nat.{ℕ, zero, suc, _+_, _-_, _≤_, _<_}
 use native.Mathlib.Omega.{arith}
-use mathlib.Core.Path.{_≡_, refl, sym, ap}
+use mathlib.Core.Path.{_≡_, refl, sym, _∙_, ap}
 use mathlib.Core.Bool.{Bool, true, false}
-use mathlib.Core.List.{List, [], _∷_}
+use mathlib.Core.List.{List, [], _∷_, _++_}
+use mathlib.Core.Logic.{_⊎_, inl, inr, ⊎-elim}
 use mathlib.Core.Option.{Option, none, some}
 use Rattle.limits.specs.Limits.{SILENT}
 use Rattle.script.specs.Lists.{_∈_}
 use Rattle.script.specs.Syntax.{Point, Node, n-null, n-var, n-select, n-update, n-call, n-bind, n-new, n-cast, n-fork, n-lock, n-constant, n-add, build, parts}
 use Rattle.script.proofs.Reading.{first}
+use Rattle.machine.specs.declared.Store.the-variants.{Frames}
 use Rattle.machine.specs.declared.Value.{Value}
 use Rattle.machine.specs.declared.Value.the-variants.{Null as nil, Int as int}
 use Rattle.machine.specs.declared.Frame.{Frame}
 use Rattle.machine.specs.declared.Frame.the-variants.{Awaits as awaits, Casts as casts}
 use Rattle.machine.specs.Config.{Code, Stores, Tree, running, returning, failed, join, Config}
-use Rattle.machine.specs.Machine.{Places, spare, moved, descend, runNode, Path, here, left, right, moveAt, move, part}
+use Rattle.machine.specs.Machine.{Places, spare, frameCount, Outcome, full, moved, descend, inLeft, inRight, Path, here, left, right, moveAt, move, size, locate, part}
 use Rattle.machine.specs.declared.Want.{Want}
 use Rattle.machine.specs.WellFormed.{TreeOk, running-ok, WfConfig}
 use Rattle.machine.specs.Accepted.{AcceptedCode}
+use Rattle.machine.specs.Ends.{Thread, thread-running, thread-returning, thread-failed}
+use Rattle.machine.proofs.Counts.{node-count}
 use Rattle.soundness.proofs.Places.{part-ok}
-use Rattle.soundness.proofs.Outcomes.{Made, made-move, made}
-use Rattle.machine.specs.Silent.{quiet, quietIn, SilentMove, null-value, constant-value, into-write, into-call, into-let, into-cast, ChangedAt, changed-here, changed-left, changed-right, SilentAt, chain, due, Row, row-none, and-then, meanwhile, samePlace}
+use Rattle.machine.specs.Silent.{quiet, quietIn, SilentMove, null-value, constant-value, into-write, into-call, into-let, into-cast, changed-here, changed-left, changed-right, SilentAt, chain, silentFrom, due, Row, row-none, and-then, meanwhile, samePlace}
 
 -- a thread at a place is at a node
 abbrev pub OnNode : Code → Option Tree → Type 0
@@ -32,43 +35,66 @@ running-node (running-ok le g r) = g .node
 pub on-node : {s : Code} {st : Stores} {w : Want} {t : Tree} → TreeOk s st w t → (p : Path) → OnNode s (part t p)
 on-node {t = t} x p a e fs h = running-node (part-ok t p x h .1)
 
--- A silent move is one of the listed ones.
-descended : (st : Stores) (fs : List Frame) (e : ℕ) (f : Frame) (b : Point) (k : ℕ) {su : Stores} {u : Tree} → descend st fs e f b k ≡ moved su u → u ≡ running b e (f ∷ fs)
-descended st fs e f b zero h = absurd (let z : _≡_ {A = ℕ} 0 1 = cc in omega arith)
-descended st fs e f b (suc k) h = cc
+-- Where the move due at a place is silent, it is one of the listed ones.
+next-silent : (s : Code) (fs : List Frame) (e : ℕ) (a : Point) (n : Node) → s .view a ≡ n → quiet n ≡ true → (u : Tree) × SilentMove s (running a e fs) u
+next-silent s fs e a n-null i q = (returning nil fs, null-value i)
+next-silent s fs e a (n-var x) i q = absurd (let z : _≡_ {A = ℕ} 0 1 = cc in omega arith)
+next-silent s fs e a (n-select x f) i q = absurd (let z : _≡_ {A = ℕ} 0 1 = cc in omega arith)
+next-silent s fs e a (n-update x f b) i q = (running b e (awaits a e ∷ fs), into-write i)
+next-silent s fs e a (n-call x g b) i q = (running b e (awaits a e ∷ fs), into-call i)
+next-silent s fs e a (n-bind x b c) i q = (running b e (awaits a e ∷ fs), into-let i)
+next-silent s fs e a (n-new c) i q = absurd (let z : _≡_ {A = ℕ} 0 1 = cc in omega arith)
+next-silent s fs e a (n-cast t b) i q = (running b e (casts a ∷ fs), into-cast i)
+next-silent s fs e a (n-fork b c d) i q = absurd (let z : _≡_ {A = ℕ} 0 1 = cc in omega arith)
+next-silent s fs e a (n-lock x b) i q = absurd (let z : _≡_ {A = ℕ} 0 1 = cc in omega arith)
+next-silent s fs e a (n-constant k) i q = (returning (int k) fs, constant-value i)
+next-silent s fs e a (n-add x y) i q = absurd (let z : _≡_ {A = ℕ} 0 1 = cc in omega arith)
+
+pub next-at : (s : Code) (t : Tree) (p : Path) → quietIn s (part t p) ≡ true → (u : Tree) × SilentAt s p t u
+next-at s (running a e fs) here q = let x = next-silent s fs e a (s .view a) refl q in (x .0, changed-here (x .1))
+next-at s (running a e fs) (left p) q = absurd (let z : _≡_ {A = ℕ} 0 1 = cc in omega arith)
+next-at s (running a e fs) (right p) q = absurd (let z : _≡_ {A = ℕ} 0 1 = cc in omega arith)
+next-at s (returning v fs) here q = absurd (let z : _≡_ {A = ℕ} 0 1 = cc in omega arith)
+next-at s (returning v fs) (left p) q = absurd (let z : _≡_ {A = ℕ} 0 1 = cc in omega arith)
+next-at s (returning v fs) (right p) q = absurd (let z : _≡_ {A = ℕ} 0 1 = cc in omega arith)
+next-at s failed here q = absurd (let z : _≡_ {A = ℕ} 0 1 = cc in omega arith)
+next-at s failed (left p) q = absurd (let z : _≡_ {A = ℕ} 0 1 = cc in omega arith)
+next-at s failed (right p) q = absurd (let z : _≡_ {A = ℕ} 0 1 = cc in omega arith)
+next-at s (join fs a e l r) here q = absurd (let z : _≡_ {A = ℕ} 0 1 = cc in omega arith)
+next-at s (join fs a e l r) (left p) q = let x = next-at s l p q in (join fs a e (x .0) r, changed-left (x .1))
+next-at s (join fs a e l r) (right p) q = let x = next-at s r p q in (join fs a e l (x .0), changed-right (x .1))
+
+-- It is made, and keeps the stores; or no place is left for the frame that it leaves.
+abbrev pub MadeOrFull : Places → Stores → Tree → Outcome → Type 0
+MadeOrFull room st u o = (o ≡ moved st u) ⊎ ((o ≡ full Frames) × (room .frames ≡ 0))
 
 module _ (s : Code) (room : Places) (st : Stores) where
-  silent-now : (above fs : List Frame) (e : ℕ) (a : Point) (n : Node) {su : Stores} {u : Tree} → s .view a ≡ n → quiet n ≡ true → runNode s room st above fs e a n ≡ moved su u
-      → SilentMove s (running a e fs) u
-  silent-now above fs e a n-null {u = u} i q m = let z : u ≡ returning nil fs = cc in rw z (null-value i)
-  silent-now above fs e a (n-var x) i q m = absurd (let z : _≡_ {A = ℕ} 0 1 = cc in omega arith)
-  silent-now above fs e a (n-select x f) i q m = absurd (let z : _≡_ {A = ℕ} 0 1 = cc in omega arith)
-  silent-now above fs e a (n-update x f b) i q m = rw (descended st fs e (awaits a e) b (room .frames) m) (into-write i)
-  silent-now above fs e a (n-call x g b) i q m = rw (descended st fs e (awaits a e) b (room .frames) m) (into-call i)
-  silent-now above fs e a (n-bind x b c) i q m = rw (descended st fs e (awaits a e) b (room .frames) m) (into-let i)
-  silent-now above fs e a (n-new c) i q m = absurd (let z : _≡_ {A = ℕ} 0 1 = cc in omega arith)
-  silent-now above fs e a (n-cast t b) i q m = rw (descended st fs e (casts a) b (room .frames) m) (into-cast i)
-  silent-now above fs e a (n-fork b c d) i q m = absurd (let z : _≡_ {A = ℕ} 0 1 = cc in omega arith)
-  silent-now above fs e a (n-lock x b) i q m = absurd (let z : _≡_ {A = ℕ} 0 1 = cc in omega arith)
-  silent-now above fs e a (n-constant k) {u = u} i q m = let z : u ≡ returning (int k) fs = cc in rw z (constant-value i)
-  silent-now above fs e a (n-add x y) i q m = absurd (let z : _≡_ {A = ℕ} 0 1 = cc in omega arith)
+  descends-or-full : (fs : List Frame) (e : ℕ) (f : Frame) (b : Point) (k : ℕ) → room .frames ≡ k → MadeOrFull room st (running b e (f ∷ fs)) (descend st fs e f b k)
+  descends-or-full fs e f b zero z = inr (refl, z)
+  descends-or-full fs e f b (suc k) z = inl refl
 
-  silent-root : (above : List Frame) (t : Tree) {su : Stores} {u : Tree} → quietIn s (some t) ≡ true → moveAt s room st above t here ≡ moved su u → SilentMove s t u
-  silent-root above (running a e fs) q m = silent-now above fs e a (s .view a) refl q m
-  silent-root above (returning v fs) q m = absurd (let z : _≡_ {A = ℕ} 0 1 = cc in omega arith)
-  silent-root above failed q m = absurd (let z : _≡_ {A = ℕ} 0 1 = cc in omega arith)
-  silent-root above (join fs a e l r) q m = absurd (let z : _≡_ {A = ℕ} 0 1 = cc in omega arith)
+  silent-made : {t u : Tree} (above : List Frame) → SilentMove s t u → MadeOrFull room st u (moveAt s room st above t here)
+  silent-made above (null-value i) = rw i (inl refl)
+  silent-made above (constant-value i) = rw i (inl refl)
+  silent-made above (into-write {a = a} {b = b} {e = e} {fs = fs} i) = rw i (descends-or-full fs e (awaits a e) b (room .frames) refl)
+  silent-made above (into-call {a = a} {b = b} {e = e} {fs = fs} i) = rw i (descends-or-full fs e (awaits a e) b (room .frames) refl)
+  silent-made above (into-let {a = a} {b = b} {e = e} {fs = fs} i) = rw i (descends-or-full fs e (awaits a e) b (room .frames) refl)
+  silent-made above (into-cast {a = a} {b = b} {e = e} {fs = fs} i) = rw i (descends-or-full fs e (casts a) b (room .frames) refl)
 
-  changed-silent : {su : Stores} {p : Path} {t u : Tree} → ChangedAt (λ x y. (above : List Frame) × (moveAt s room st above x here ≡ moved su y)) p t u → quietIn s (part t p) ≡ true → SilentAt s p t u
-  changed-silent (changed-here {t = t} x) q = changed-here (silent-root (x .0) t q (x .1))
-  changed-silent (changed-left x) q = changed-left (changed-silent x q)
-  changed-silent (changed-right x) q = changed-right (changed-silent x q)
-
-  made-silent : {su : Stores} {p : Path} {t u : Tree} → Made s room st t p (moved su u) → quietIn s (part t p) ≡ true → SilentAt s p t u
-  made-silent (made-move x) q = changed-silent x q
+  pub made-at : {p : Path} {t u : Tree} (above : List Frame) → SilentAt s p t u → MadeOrFull room st u (moveAt s room st above t p)
+  made-at above (changed-here x) = silent-made above x
+  made-at above (changed-left {fs = fs} {a = a} {e = e} {r = r} x) =
+      ⊎-elim (λ m. inl (ap (inLeft fs a e r) m)) (λ m. inr (ap (inLeft fs a e r) (m .0), m .1)) (made-at (fs ++ above) x)
+  made-at above (changed-right {fs = fs} {a = a} {e = e} {l = l} x) =
+      ⊎-elim (λ m. inl (ap (inRight fs a e l) m)) (λ m. inr (ap (inRight fs a e l) (m .0), m .1)) (made-at [] x)
 
   pub silent-at : (above : List Frame) (t : Tree) (p : Path) (su : Stores) (u : Tree) → quietIn s (part t p) ≡ true → moveAt s room st above t p ≡ moved su u → SilentAt s p t u
-  silent-at above t p su u q m = made-silent (rw m at (made s room st above t p)) q
+  silent-at above t p su u q m =
+      let x = next-at s t p q in
+      ⊎-elim
+      (λ (k : moveAt s room st above t p ≡ moved st (x .0)). let y : u ≡ x .0 = cc in rw y (x .1))
+      (λ (k : (moveAt s room st above t p ≡ full Frames) × (room .frames ≡ 0)). let n = k .0 in absurd (let z : _≡_ {A = ℕ} 0 1 = cc in omega arith))
+      (made-at above (x .1))
 
 -- It makes the chain before the thread shorter by one,
 module _ {s : Code} {start : ℕ} (acc : AcceptedCode s start) where
@@ -99,14 +125,25 @@ module _ {s : Code} {start : ℕ} (acc : AcceptedCode s start) where
       → moveAt s room st above t p ≡ moved su u → OnNode s (part u p) × (suc (due s (part u p)) ≡ due s (part t p))
   move-counts room st above t p su u h q m = place-counts (silent-at s room st above t p su u q m) h
 
--- while every other place stays as it was.
+-- while every other place stays as it was: a thread stays a thread,
+threads : {s : Code} {t u : Tree} → SilentMove s t u → Thread t × Thread u
+threads (null-value i) = (thread-running, thread-returning)
+threads (constant-value i) = (thread-running, thread-returning)
+threads (into-write i) = (thread-running, thread-running)
+threads (into-call i) = (thread-running, thread-running)
+threads (into-let i) = (thread-running, thread-running)
+threads (into-cast i) = (thread-running, thread-running)
+
+none-below : {t : Tree} → Thread t → (q : Path) → (part t (left q) ≡ none) × (part t (right q) ≡ none)
+none-below thread-running q = (refl, refl)
+none-below thread-returning q = (refl, refl)
+none-below thread-failed q = (refl, refl)
+
 leaf-below : {s : Code} {t u : Tree} → SilentMove s t u → (q : Path) → (part u (left q) ≡ part t (left q)) × (part u (right q) ≡ part t (right q))
-leaf-below (null-value i) q = (refl, refl)
-leaf-below (constant-value i) q = (refl, refl)
-leaf-below (into-write i) q = (refl, refl)
-leaf-below (into-call i) q = (refl, refl)
-leaf-below (into-let i) q = (refl, refl)
-leaf-below (into-cast i) q = (refl, refl)
+leaf-below x q =
+    let k = none-below (threads x .0) q in
+    let l = none-below (threads x .1) q in
+    (l .0 ∙ sym (k .0), l .1 ∙ sym (k .1))
 
 pub others-stay : {s : Code} {p : Path} {t u : Tree} → SilentAt s p t u → (q : Path) → samePlace q p ≡ false
     → (OnNode s (part t q) → OnNode s (part u q)) × (due s (part u q) ≡ due s (part t q))
@@ -119,6 +156,77 @@ others-stay (changed-left x) (right q) k = (λ h. h, refl)
 others-stay (changed-right x) here k = (λ h a e fs i. absurd (let z : _≡_ {A = ℕ} 0 1 = cc in omega arith), refl)
 others-stay (changed-right x) (left q) k = (λ h. h, refl)
 others-stay (changed-right x) (right q) k = others-stay x q k
+
+-- So every position stays.
+abbrev rootAt : ℕ → Option Path
+rootAt zero = some here
+rootAt (suc n) = none
+
+one-position : {t : Tree} → Thread t → size t ≡ 1
+one-position thread-running = refl
+one-position thread-returning = refl
+one-position thread-failed = refl
+
+only-root : {t : Tree} → Thread t → (n : ℕ) → locate t n ≡ rootAt n
+only-root thread-running zero = refl
+only-root thread-running (suc n) = refl
+only-root thread-returning zero = refl
+only-root thread-returning (suc n) = refl
+only-root thread-failed zero = refl
+only-root thread-failed (suc n) = refl
+
+module _ (fs : List Frame) (a : Point) (e : ℕ) (l r k : Tree) where
+  left-positions : size k ≡ size l → ((n : ℕ) → locate k n ≡ locate l n) → (n : ℕ) → locate (join fs a e k r) n ≡ locate (join fs a e l r) n
+  left-positions h g zero = refl
+  left-positions h g (suc n) = rw (h, g n) refl
+
+  right-positions : ((n : ℕ) → locate k n ≡ locate r n) → (n : ℕ) → locate (join fs a e l k) n ≡ locate (join fs a e l r) n
+  right-positions g zero = refl
+  right-positions g (suc n) = rw (g (n - size l)) refl
+
+pub positions-stay : {s : Code} {p : Path} {t u : Tree} → SilentAt s p t u → (size u ≡ size t) × ((n : ℕ) → locate u n ≡ locate t n)
+positions-stay (changed-here x) =
+    let k = threads x in
+    (one-position (k .1) ∙ sym (one-position (k .0)), λ n. only-root (k .1) n ∙ sym (only-root (k .0) n))
+positions-stay (changed-left {fs = fs} {a = a} {e = e} {l = l} {k = k} {r = r} x) = let y = positions-stay x in (omega (arith, y .0), left-positions fs a e l r k (y .0) (y .1))
+positions-stay (changed-right {fs = fs} {a = a} {e = e} {l = l} {r = r} {k = k} x) = let y = positions-stay x in (omega (arith, y .0), right-positions fs a e l r k (y .1))
+
+-- A silent move is made where the move due is silent, and leaves a thread that has not failed.
+pub data Alive : Tree → Type 0 where
+  alive-running : {a : Point} {e : ℕ} {fs : List Frame} → Alive (running a e fs)
+  alive-returning : {v : Value} {fs : List Frame} → Alive (returning v fs)
+
+quiet-alive : {s : Code} {t u : Tree} → SilentMove s t u → (quietIn s (some t) ≡ true) × Alive u
+quiet-alive (null-value i) = (ap quiet i, alive-returning)
+quiet-alive (constant-value i) = (ap quiet i, alive-returning)
+quiet-alive (into-write i) = (ap quiet i, alive-running)
+quiet-alive (into-call i) = (ap quiet i, alive-running)
+quiet-alive (into-let i) = (ap quiet i, alive-running)
+quiet-alive (into-cast i) = (ap quiet i, alive-running)
+
+pub silent-is-due : {s : Code} {p : Path} {t u : Tree} → SilentAt s p t u → quietIn s (part t p) ≡ true
+silent-is-due (changed-here x) = quiet-alive x .0
+silent-is-due (changed-left x) = silent-is-due x
+silent-is-due (changed-right x) = silent-is-due x
+
+pub silent-leaves : {s : Code} {p : Path} {t u : Tree} → SilentAt s p t u → (v : Tree) × (part u p ≡ some v) × Alive v
+silent-leaves (changed-here {u = u} x) = (u, refl, quiet-alive x .1)
+silent-leaves (changed-left x) = silent-leaves x
+silent-leaves (changed-right x) = silent-leaves x
+
+-- It adds at most one frame.
+one-frame : {s : Code} {t u : Tree} → SilentMove s t u → frameCount u ≤ suc (frameCount t)
+one-frame (null-value i) = omega arith
+one-frame (constant-value i) = omega arith
+one-frame (into-write i) = omega arith
+one-frame (into-call i) = omega arith
+one-frame (into-let i) = omega arith
+one-frame (into-cast i) = omega arith
+
+pub frames-more : {s : Code} {p : Path} {t u : Tree} → SilentAt s p t u → frameCount u ≤ suc (frameCount t)
+frames-more (changed-here x) = one-frame x
+frames-more (changed-left x) = omega (arith, frames-more x)
+frames-more (changed-right x) = omega (arith, frames-more x)
 
 pub same-place : (p q : Path) → samePlace p q ≡ true → p ≡ q
 same-place here here h = refl
@@ -194,3 +302,7 @@ module _ {s : Code} {start : ℕ} (acc : AcceptedCode s start) (lim : Places) (p
     -- At most 1,024 silent moves of a thread in a row.
     pub row-bound : n ≤ SILENT
     row-bound = omega (arith, row-counts, due-told acc (part (c .tree) p) (on-node (h .tree) p) .0, acc .most)
+
+-- The thread at a place has the count of its node before it.
+pub node-due : {s : Code} {w : Want} {c : Config} {a : Point} {e : ℕ} {fs : List Frame} → WfConfig s w c → (p : Path) → part (c .tree) p ≡ some (running a e fs) → due s (part (c .tree) p) ≡ silentFrom s a
+node-due {s} {a = a} {e = e} {fs = fs} h p i = ap (due s) i ∙ sym (node-count s a (on-node (h .tree) p a e fs i))

@@ -30,7 +30,7 @@ pub fn start(script: &[u8], block: &mut [u8]) -> StartReply
     ensures place { λ r. ⌜ r .place ≡ startOf (now (script .entry)) (now (block .entry)) .place ⌝ }
     ensures block { λ r. ⌜ now (block .exit) ≡ startOf (now (script .entry)) (now (block .entry)) .block ⌝ }
 {
-    let checked = check_call::check(script);
+    let checked = check_call::ask_script(script);
     if checked.number != 0 {
         return start_refusal(checked.number, checked.place);
     }

@@ -10,7 +10,7 @@ pub struct ReadReply {
 }
 
 extern "C" {
-    #[link_name = "oolong_read_3"]
+    #[link_name = "oolong_read_4"]
     fn oolong_read(text: *const u8, text_len: usize, file: *mut u8, file_len: usize) -> ReadReply;
 }
 

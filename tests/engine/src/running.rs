@@ -14,7 +14,7 @@ pub struct RunReply {
 }
 
 extern "C" {
-    #[link_name = "oolong_offer_3"]
+    #[link_name = "oolong_offer_4"]
     fn oolong_offer(
         script: *const u8,
         script_len: usize,
@@ -23,7 +23,7 @@ extern "C" {
         flags: *mut u8,
         flags_len: usize,
     ) -> Answer;
-    #[link_name = "oolong_run_3"]
+    #[link_name = "oolong_run_4"]
     fn oolong_run(
         script: *const u8,
         script_len: usize,

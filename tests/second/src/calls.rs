@@ -1,8 +1,9 @@
-//! The four calls on lent buffers. A refusal leaves every buffer as it was.
+//! The four calls on lent buffers, and request 6's. A refusal leaves every buffer as it was.
 
 use crate::block;
 use crate::machine::Machine;
 use crate::program::Program;
+use crate::silent::{most_moves, moves_from};
 use crate::state::State;
 use crate::wellformed::state_of;
 use crate::{Question, Refusal};
@@ -11,12 +12,22 @@ use crate::{Question, Refusal};
 pub const MOST_CHOICES: usize = 4_096;
 pub const FLAGS: usize = block::MOST_POSITIONS;
 
-/// What Check answers: number 0, place 0 and the start's type, or a refusal's number and place.
+/// What Check answers: number 0, place 0, the start's type and the most silent moves in a row, or a refusal's number and
+/// place.
 #[derive(Clone, Copy, Debug, PartialEq, Eq)]
 pub struct Reply {
     pub number: u16,
     pub place: u16,
     pub ty: u16,
+    pub silent: u16,
+}
+
+/// What is answered about the silent moves from a node.
+#[derive(Clone, Copy, Debug, PartialEq, Eq)]
+pub struct SilentReply {
+    pub number: u16,
+    pub place: u16,
+    pub count: u16,
 }
 
 /// What Start and Offer answer.
@@ -39,8 +50,16 @@ pub struct RunReply {
 /// Judges any bytes whatever; never panics.
 pub fn check(script: &[u8]) -> Reply {
     match Program::read(script) {
-        Ok(program) => Reply { number: 0, place: 0, ty: program.start_type },
-        Err(Refusal { question, place }) => Reply { number: question as u16, place, ty: 0 },
+        Ok(program) => Reply { number: 0, place: 0, ty: program.start_type, silent: most_moves(&program.expressions) },
+        Err(Refusal { question, place }) => Reply { number: question as u16, place, ty: 0, silent: 0 },
+    }
+}
+
+/// "For a thread at a node, given by number": the silent moves that come before anything else it does.
+pub fn silent(script: &[u8], node: u32) -> SilentReply {
+    match Program::read(script) {
+        Ok(program) => SilentReply { number: 0, place: 0, count: moves_from(&program.expressions, node) },
+        Err(Refusal { question, place }) => SilentReply { number: question as u16, place, count: 0 },
     }
 }
 

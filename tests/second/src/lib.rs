@@ -1,5 +1,5 @@
-//! A second, independent implementation of document 01's four calls and of request 4's reader, written
-//! for differential testing, with generators of scripts, blocks and texts to test with.
+//! A second, independent implementation of document 01's four calls, of request 4's reader and of request 6's count,
+//! written for differential testing, with generators of scripts, blocks and texts to test with.
 
 pub mod block;
 pub mod block_damage;
@@ -18,6 +18,7 @@ pub mod print;
 pub mod program;
 pub mod script;
 mod shape;
+pub mod silent;
 pub mod spelling;
 pub mod state;
 pub mod sweep;
@@ -30,7 +31,7 @@ pub mod typing;
 pub mod walk;
 pub mod wellformed;
 
-pub use calls::{check, offer, run, start, Answer, Reply, RunReply, FLAGS, MOST_CHOICES};
+pub use calls::{check, offer, run, silent, start, Answer, Reply, RunReply, SilentReply, FLAGS, MOST_CHOICES};
 
 /// The questions to a call, with the numbers that document 01 and request 5 give to a no.
 #[derive(Clone, Copy, Debug, PartialEq, Eq)]

@@ -53,7 +53,7 @@ fn directed_faults_get_their_number_and_place() {
         for _ in 0..400 {
             let faulty = directed(number, &mut rng);
             let reply = check(&faulty.script);
-            assert_eq!((reply.number, reply.ty), (number, 0));
+            assert_eq!((reply.number, reply.ty, reply.silent), (number, 0, 0));
             assert_eq!(reply.place, faulty.place.unwrap_or(reply.place));
             let has_place = ![1, 2, 3, 5].contains(&number);
             assert_eq!(reply.place > 0, has_place);
@@ -75,14 +75,14 @@ fn any_bytes_get_an_answer() {
     let mut rng = Rng::new(3);
     for _ in 0..20_000 {
         let script = well_typed(&mut rng);
-        let reply = check(&damage(&script, &mut rng));
-        assert!(reply.number <= 15 && (reply.number == 0 || reply.ty == 0) && (reply.number != 0 || reply.place == 0));
+        let Reply { number, place, ty, silent } = check(&damage(&script, &mut rng));
+        assert!(number <= 15 && (number == 0 || (ty, silent) == (0, 0)) && (number != 0 || place == 0));
     }
     for length in [0, 1, 23, 24, 25, 40, 13_592, 13_593, 70_000] {
         let noise: Vec<u8> = (0..length).map(|_| rng.bits() as u8).collect();
         assert!((1..=3).contains(&check(&noise).number));
     }
-    assert_eq!(check(&[]), Reply { number: 1, place: 0, ty: 0 });
+    assert_eq!(check(&[]), Reply { number: 1, place: 0, ty: 0, silent: 0 });
 }
 
 #[test]

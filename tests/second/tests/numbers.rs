@@ -40,13 +40,14 @@ fn script(start: &[[u16; 4]]) -> Script {
 }
 
 fn accepts(start: &[[u16; 4]], ty: u16) {
-    assert_eq!(check(&script(start).encode()), Reply { number: 0, place: 0, ty }, "{start:?}");
+    let reply = check(&script(start).encode());
+    assert_eq!((reply.number, reply.place, reply.ty), (0, 0, ty), "{start:?}");
 }
 
 fn refuses(start: &[[u16; 4]], number: u16, node: usize) {
     let script = script(start);
     let place = script.place(Section::Nodes, node);
-    assert_eq!(check(&script.encode()), Reply { number, place, ty: 0 }, "{start:?}");
+    assert_eq!(check(&script.encode()), Reply { number, place, ty: 0, silent: 0 }, "{start:?}");
 }
 
 fn program(script: &Script) -> Program {
@@ -70,7 +71,7 @@ fn sum(one: i32, other: i32) -> [[u16; 4]; 5] {
 #[test]
 fn constants_alone() {
     let minus_one = Script { nodes: vec![[10, 65_535, 65_535, 0]], ..Script::default() };
-    assert_eq!(check(&minus_one.encode()), Reply { number: 0, place: 0, ty: 1 });
+    assert_eq!(check(&minus_one.encode()), Reply { number: 0, place: 0, ty: 1, silent: 1 });
     let program = program(&minus_one);
     let mut machine = Machine { program: &program, state: State::initial() };
     assert_eq!(machine.run(&[0, 0]), Outcome { stop: Stop::Finished, read: 1, moves: 1 });
@@ -164,7 +165,8 @@ fn null_does_not_fit_int() {
     refuses(&[[5, X, 1, 2], constant(1), null], 12, 2);
     let mut body = script(&[constant(1)]);
     body.nodes[1] = null;
-    assert_eq!(check(&body.encode()), Reply { number: 14, place: body.place(Section::Nodes, 1), ty: 0 });
+    let place = body.place(Section::Nodes, 1);
+    assert_eq!(check(&body.encode()), Reply { number: 14, place, ty: 0, silent: 0 });
 }
 
 #[test]

@@ -1,4 +1,5 @@
-//! The samples of document 01: what Check says of them, and how those that are accepted run.
+//! The samples of document 01: what Check says of them, with the most silent moves in a row counted by hand, and how those
+//! that are accepted run.
 
 use second::block;
 use second::program::Program;
@@ -17,14 +18,14 @@ fn of_nodes(nodes: &[[u16; 4]]) -> Script {
     Script { interfaces: vec![[0, 0, 0]], classes: vec![[I, 0, 0]], nodes: nodes.to_vec(), ..Script::default() }
 }
 
-fn accepts(nodes: &[[u16; 4]], ty: u16) {
-    assert_eq!(check(&of_nodes(nodes).encode()), Reply { number: 0, place: 0, ty });
+fn accepts(nodes: &[[u16; 4]], ty: u16, silent: u16) {
+    assert_eq!(check(&of_nodes(nodes).encode()), Reply { number: 0, place: 0, ty, silent });
 }
 
 fn refuses(nodes: &[[u16; 4]], number: u16, node: usize) {
     let script = of_nodes(nodes);
     let place = script.place(Section::Nodes, node);
-    assert_eq!(check(&script.encode()), Reply { number, place, ty: 0 });
+    assert_eq!(check(&script.encode()), Reply { number, place, ty: 0, silent: 0 });
 }
 
 /// What a Run from the start gives, and the state that it leaves.
@@ -57,7 +58,7 @@ fn forty_bytes() {
         file.extend(word.to_le_bytes());
     }
     assert_eq!(file.len(), 40);
-    assert_eq!(check(&file), Reply { number: 0, place: 0, ty: 0 });
+    assert_eq!(check(&file), Reply { number: 0, place: 0, ty: 0, silent: 2 });
     let script = Script { nodes: vec![[7, 0, 1, 0], [0; 4]], ..Script::default() };
     assert_eq!(file, script.encode());
     assert_eq!(runs(&script, &[0; 3]).0, ran(FINISHED, 3, 3));
@@ -71,14 +72,14 @@ fn forty_bytes() {
 #[test]
 fn start_null() {
     let script = Script { nodes: vec![[0; 4]], ..Script::default() };
-    assert_eq!(check(&script.encode()), Reply { number: 12, place: 24, ty: 0 });
+    assert_eq!(check(&script.encode()), Reply { number: 12, place: 24, ty: 0, silent: 0 });
 }
 
 #[test]
 fn new_of_an_interface() {
     refuses(&[[6, I, 0, 0]], 6, 0);
     let script = Script { nodes: vec![[6, 1, 0, 0]], ..Script::default() };
-    assert_eq!(check(&script.encode()), Reply { number: 6, place: 24, ty: 0 });
+    assert_eq!(check(&script.encode()), Reply { number: 6, place: 24, ty: 0, silent: 0 });
 }
 
 #[test]
@@ -99,7 +100,7 @@ fn shared_fork() {
 fn nested_locks() {
     // let x = new C in lock x in lock x in x
     let nodes = [[5, X, 1, 2], [6, C, 0, 0], [9, X, 3, 0], [9, X, 4, 0], [1, X, 0, 0]];
-    accepts(&nodes, C);
+    accepts(&nodes, C, 1);
     let shut_after = |moves: usize| runs(&of_nodes(&nodes), &vec![0; moves]).1.objects[0].shut;
     assert_eq!([3, 4, 5, 6, 7].map(shut_after), [false, true, true, true, false]);
     let (reply, state) = runs(&of_nodes(&nodes), &[0; 7]);
@@ -111,7 +112,7 @@ fn nested_locks() {
 fn null_lock() {
     // let x = (C)null in lock x in x
     let nodes = [[5, X, 1, 3], [7, C, 2, 0], [0; 4], [9, X, 4, 0], [1, X, 0, 0]];
-    accepts(&nodes, C);
+    accepts(&nodes, C, 3);
     assert_eq!(runs(&of_nodes(&nodes), &[0; 5]).0, ran(0, 5, 5));
     let (reply, state) = runs(&of_nodes(&nodes), &[0; 10]);
     assert_eq!(reply, ran(FAILED, 6, 6));
@@ -132,7 +133,7 @@ fn locked_fork() {
         [1, X, 0, 0],
         [1, X, 0, 0],
     ];
-    accepts(&nodes, C);
+    accepts(&nodes, C, 2);
     assert_eq!(runs(&of_nodes(&nodes), &[0, 0, 0, 0, 0, 1, 1, 1]).0, ran(STUCK, 8, 8));
     // The right async has none of its parent's locks: it never moves.
     assert_eq!(runs(&of_nodes(&nodes), &[0, 0, 0, 0, 0, 2, 2, 1, 2, 1, 1, 2]).0, ran(STUCK, 11, 8));
@@ -146,7 +147,7 @@ fn alias() {
     let [lock_y, y] = lock(Y, 8);
     let nodes =
         [[5, X, 1, 2], [6, C, 0, 0], [5, Y, 3, 4], [1, X, 0, 0], [8, 5, 7, 9], lock_x, x, lock_y, y, [1, X, 0, 0]];
-    accepts(&nodes, C);
+    accepts(&nodes, C, 1);
     let script = of_nodes(&nodes);
     let flags_after = |choices: &[u8]| {
         let (file, mut flags) = (script.encode(), [7; FLAGS]);
@@ -177,7 +178,7 @@ fn write_to_null() {
         fields: vec![[7, I]],
         ..of_nodes(&[[5, X, 1, 3], [7, C, 2, 0], [0; 4], [3, X, 7, 4], [6, C, 0, 0]])
     };
-    assert_eq!(check(&script.encode()), Reply { number: 0, place: 0, ty: 0 });
+    assert_eq!(check(&script.encode()), Reply { number: 0, place: 0, ty: 0, silent: 3 });
     let (reply, state) = runs(&script, &[0; 20]);
     assert_eq!(reply, ran(FAILED, 8, 8));
     assert_eq!(state.objects.len(), 1);
@@ -204,8 +205,8 @@ fn sixty_three_joins() {
     let mut script = of_nodes(&[[7, 1, 1, 0], [6, 65, 0, 0]]);
     script.interfaces.extend((1..64).map(|predecessor| [1, predecessor, predecessor]));
     script.classes[0][0] = 64;
-    assert_eq!(check(&script.encode()), Reply { number: 0, place: 0, ty: 1 });
+    assert_eq!(check(&script.encode()), Reply { number: 0, place: 0, ty: 1, silent: 1 });
     // Not below Unit, which no chain meets: every chain has been walked.
     script.nodes[0][1] = 0;
-    assert_eq!(check(&script.encode()), Reply { number: 14, place: 422, ty: 0 });
+    assert_eq!(check(&script.encode()), Reply { number: 14, place: 422, ty: 0, silent: 0 });
 }

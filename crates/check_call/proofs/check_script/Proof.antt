@@ -5,7 +5,7 @@ use Rattle.check_call.proofs.check_script.Tie as tie
 
 returns : tie.Need-returns
 returns c =
-    let said = told (c .before .before .before .before .before .verdict-of .ensures .0) (c .check-reply .ensures) in
+    let said = told (c .before .before .before .before .before .verdict-of .ensures .0) (c .script-answer .ensures) in
     (said .0, (said .1 .0, (said .1 .1, filled _ _ _ (c .before .before .before .before .before .verdict-of .ensures .0) (c .before .before .before .before .before .verdict-of .ensures .1))))
 
 pub check-script-spec : {M : Type 1} → statement M
