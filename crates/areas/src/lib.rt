@@ -1,4 +1,6 @@
 // The state block in code: its words by area, and the changes that a Run makes to it, where it stands.
+#![tactic(auto)]
+
 mod areas;
 mod frames;
 mod objects;

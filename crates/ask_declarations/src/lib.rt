@@ -1,4 +1,6 @@
 // The pass that asks for 35, before those behind it.
+#![tactic(auto)]
+
 ghost use Rattle.std.specs.Prelude.{◌≡◌};
 ghost use Rattle.grammar.specs.Read.{read_of};
 ghost use Rattle.tokens.specs.Kinds.{byte_kinds};

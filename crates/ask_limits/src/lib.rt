@@ -1,4 +1,6 @@
 // The passes over a text in which no name of a type is at fault: 36, then the numbers of names, then the file.
+#![tactic(auto)]
+
 mod numbers;
 
 ghost use Rattle.std.specs.Prelude.{◌≡◌, ◌<◌, ◌≤◌, length, get_or};
@@ -18,7 +20,7 @@ use section_rows::Counts;
 use writer::write_file;
 
 // What Read answers: the number of the error and its place, or 0 and 0; and how many bytes the file has.
-#[derive(Drop)]
+#[derive(Clone, Copy)]
 pub struct Read {
     pub number: u16,
     pub length: u16,

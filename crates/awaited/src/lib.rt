@@ -1,4 +1,6 @@
 // What a waiting node waits for and gives: a write, a call or a let.
+#![tactic(auto)]
+
 ghost use Rattle.std.specs.Prelude.{◌≡◌};
 ghost use Rattle.script.specs.Section.{node_word};
 ghost use Rattle.script.specs.Statements.{WithinLayout};
@@ -16,14 +18,14 @@ use typing::Answer;
 use values::{meets, null_meets};
 
 // What is expected of the value that goes on above some frames, where they are typed.
-#[derive(Drop)]
+#[derive(Clone, Copy)]
 pub enum Expects {
     No,
     Wants(Want),
 }
 
 // The type of the value that a frame waits for, and of the one that it then gives, where it is typed; or the first alone, where what it gives ends in null.
-#[derive(Drop)]
+#[derive(Clone, Copy)]
 pub enum Waits {
     Never,
     For(u16, u16),

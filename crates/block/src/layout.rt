@@ -7,7 +7,7 @@ ghost use Rattle.block.specs.Values.{NULL, REF, INT};
 use crate::Area;
 use limits::Limits;
 
-#[derive(Drop)]
+#[derive(Clone, Copy)]
 pub struct Layout {}
 
 impl Layout {
@@ -84,32 +84,32 @@ impl Layout {
 
 // The constants and the definitions are the same numbers.
 pub fn agreed()
-    ensures* do_value { do ⌜ (← (⟦Layout::VALUE⟧).entry) ≡ VALUE ⌝ }
-    ensures* do_value_2 { do ⌜ (← (⟦Layout::CLASS⟧).entry) ≡ CLASS ⌝ }
-    ensures* do_value_3 { do ⌜ (← (⟦Layout::SHUT⟧).entry) ≡ SHUT ⌝ }
-    ensures* do_value_4 { do ⌜ (← (⟦Layout::FIRST_FIELD⟧).entry) ≡ FIRST_FIELD ⌝ }
-    ensures* do_value_5 { do ⌜ (← (⟦Layout::NAME⟧).entry) ≡ NAME ⌝ }
-    ensures* do_value_6 { do ⌜ (← (⟦Layout::TYPE⟧).entry) ≡ TYPE ⌝ }
-    ensures* do_value_7 { do ⌜ (← (⟦Layout::BOUND⟧).entry) ≡ BOUND ⌝ }
-    ensures* do_value_8 { do ⌜ (← (⟦Layout::LINK⟧).entry) ≡ LINK ⌝ }
-    ensures* do_value_9 { do ⌜ (← (⟦Layout::KIND⟧).entry) ≡ KIND ⌝ }
-    ensures* do_value_10 { do ⌜ (← (⟦Layout::NODE⟧).entry) ≡ NODE ⌝ }
-    ensures* do_value_11 { do ⌜ (← (⟦Layout::OBJECT⟧).entry) ≡ OBJECT ⌝ }
-    ensures* do_value_12 { do ⌜ (← (⟦Layout::ENV⟧).entry) ≡ ENV ⌝ }
-    ensures* do_value_13 { do ⌜ (← (⟦Layout::RESULT⟧).entry) ≡ RESULT ⌝ }
-    ensures* do_value_14 { do ⌜ (← (⟦Layout::WAITING⟧).entry) ≡ WAITING ⌝ }
-    ensures* do_value_15 { do ⌜ (← (⟦Layout::RUNNING⟧).entry) ≡ RUNNING ⌝ }
-    ensures* do_value_16 { do ⌜ (← (⟦Layout::RETURNING⟧).entry) ≡ RETURNING ⌝ }
-    ensures* do_value_17 { do ⌜ (← (⟦Layout::FAILED⟧).entry) ≡ FAILED ⌝ }
-    ensures* do_value_18 { do ⌜ (← (⟦Layout::JOIN⟧).entry) ≡ JOIN ⌝ }
-    ensures* do_value_19 { do ⌜ (← (⟦Layout::AWAITS⟧).entry) ≡ AWAITS ⌝ }
-    ensures* do_value_20 { do ⌜ (← (⟦Layout::CASTS⟧).entry) ≡ CASTS ⌝ }
-    ensures* do_value_21 { do ⌜ (← (⟦Layout::LOCKS⟧).entry) ≡ LOCKS ⌝ }
-    ensures* do_value_22 { do ⌜ (← (⟦Layout::NULL⟧).entry) ≡ NULL ⌝ }
-    ensures* do_value_23 { do ⌜ (← (⟦Layout::REF⟧).entry) ≡ REF ⌝ }
-    ensures* do_value_24 { do ⌜ (← (⟦Layout::INT⟧).entry) ≡ INT ⌝ }
-    ensures* do_value_25 { do ⌜ (← (⟦Layout::END⟧).entry) ≡ END ⌝ }
-    ensures* do_value_26 { do ⌜ (← (⟦Layout::WORDS⟧).entry) ≡ WORDS ⌝ }
+    ensures value { Layout.VALUE ≡ VALUE }
+    ensures class { Layout.CLASS ≡ CLASS }
+    ensures shut { Layout.SHUT ≡ SHUT }
+    ensures first_field { Layout.FIRST_FIELD ≡ FIRST_FIELD }
+    ensures name { Layout.NAME ≡ NAME }
+    ensures the_type { Layout.TYPE ≡ TYPE }
+    ensures bound { Layout.BOUND ≡ BOUND }
+    ensures link { Layout.LINK ≡ LINK }
+    ensures kind { Layout.KIND ≡ KIND }
+    ensures node { Layout.NODE ≡ NODE }
+    ensures object { Layout.OBJECT ≡ OBJECT }
+    ensures env { Layout.ENV ≡ ENV }
+    ensures result { Layout.RESULT ≡ RESULT }
+    ensures waiting { Layout.WAITING ≡ WAITING }
+    ensures running { Layout.RUNNING ≡ RUNNING }
+    ensures returning { Layout.RETURNING ≡ RETURNING }
+    ensures failed { Layout.FAILED ≡ FAILED }
+    ensures join { Layout.JOIN ≡ JOIN }
+    ensures awaits { Layout.AWAITS ≡ AWAITS }
+    ensures casts { Layout.CASTS ≡ CASTS }
+    ensures locks { Layout.LOCKS ≡ LOCKS }
+    ensures null { Layout.NULL ≡ NULL }
+    ensures the_ref { Layout.REF ≡ REF }
+    ensures int { Layout.INT ≡ INT }
+    ensures end { Layout.END ≡ END }
+    ensures words { Layout.WORDS ≡ WORDS }
 {}
 
 // The word of the header that has an area's count.

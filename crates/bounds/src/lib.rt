@@ -1,4 +1,6 @@
 // 36, asked after 35: "a table limit or the range of Int is passed". One pass over the tokens of a text, by the role and the offset of each.
+#![tactic(auto)]
+
 ghost use Rattle.std.specs.Prelude.{◌≡◌, false, List, ◌+◌, ◌<◌, ◌≤◌, eqb, length, get_or, set, take, drop};
 ghost use Rattle.words.specs.Word.{WORD};
 ghost use Rattle.limits.specs.Limits.{NODES};
@@ -41,7 +43,7 @@ const HALF: u32 = 2147483648;
 const SECTIONS: usize = 6;
 
 // An index of records: for each section, from its place here on, the tokens at which its records begin.
-#[derive(Drop)]
+#[derive(Clone, Copy)]
 pub struct Index {}
 
 impl Index {
@@ -62,17 +64,17 @@ impl Index {
 
 // The constants and the definitions are the same numbers.
 pub fn agreed()
-    ensures* do_value { do ⌜ (← (⟦Index::INTERFACES⟧).entry) ≡ index_of interfaces ⌝ }
-    ensures* do_value_2 { do ⌜ (← (⟦Index::SIGNATURES⟧).entry) ≡ index_of signatures ⌝ }
-    ensures* do_value_3 { do ⌜ (← (⟦Index::CLASSES⟧).entry) ≡ index_of classes ⌝ }
-    ensures* do_value_4 { do ⌜ (← (⟦Index::FIELDS⟧).entry) ≡ index_of fields ⌝ }
-    ensures* do_value_5 { do ⌜ (← (⟦Index::METHODS⟧).entry) ≡ index_of methods ⌝ }
-    ensures* do_value_6 { do ⌜ (← (⟦Index::NODES⟧).entry) ≡ index_of nodes ⌝ }
-    ensures* do_value_7 { do ⌜ (← (⟦Index::RECORDS⟧).entry) ≡ RECORDS ⌝ }
+    ensures interfaces { Index.INTERFACES ≡ index_of interfaces }
+    ensures signatures { Index.SIGNATURES ≡ index_of signatures }
+    ensures classes { Index.CLASSES ≡ index_of classes }
+    ensures fields { Index.FIELDS ≡ index_of fields }
+    ensures methods { Index.METHODS ≡ index_of methods }
+    ensures nodes { Index.NODES ≡ index_of nodes }
+    ensures records { Index.RECORDS ≡ RECORDS }
 {}
 
 // How many records of each section begin in a text; or the token at fault, which is otherwise the number of tokens.
-#[derive(Drop)]
+#[derive(Clone, Copy)]
 pub struct Counted {
     pub fault: usize,
     pub interfaces: usize,

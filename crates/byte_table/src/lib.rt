@@ -1,4 +1,6 @@
 // The kinds of the tokens that bytes begin, in one table.
+#![tactic(auto)]
+
 ghost use Rattle.std.specs.Prelude.{◌≡◌, ◌+◌, ◌-◌, replicate};
 ghost use Rattle.std.proofs.lemmas.List.Edits.{sets};
 ghost use Rattle.tokens.specs.Kinds.{byte_kinds};

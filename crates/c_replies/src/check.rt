@@ -6,7 +6,7 @@ use numbers::number_of;
 use typing::Verdict;
 
 // What a verdict says: the number of the question that gets a no and its place, or 0, 0 and the start's type.
-#[derive(Drop)]
+#[derive(Clone, Copy)]
 pub struct ScriptAnswer {
     pub number: u16,
     pub place: u16,
@@ -37,7 +37,7 @@ pub fn script_answer(v: Verdict) -> ScriptAnswer
 
 // Check's reply: the number of the question that gets a no and its place, or 0 and 0 with the start's type and the most silent moves in a row.
 #[repr(C)]
-#[derive(Drop)]
+#[derive(Clone, Copy)]
 pub struct CheckReply {
     pub number: u16,
     pub place: u16,

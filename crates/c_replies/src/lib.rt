@@ -1,4 +1,6 @@
 // The replies as C gets them.
+#![tactic(auto)]
+
 mod check;
 mod offer;
 mod read;

@@ -3,7 +3,7 @@ ghost use Rattle.std.specs.Prelude.{◌≡◌};
 
 // Read's reply: the number of the error and its place, or 0 and 0; and how many bytes the file has. A place may be 65,536, which takes 32 bits.
 #[repr(C)]
-#[derive(Drop)]
+#[derive(Clone, Copy)]
 pub struct ReadReply {
     pub number: u16,
     pub length: u16,

@@ -3,7 +3,7 @@ ghost use Rattle.std.specs.Prelude.{◌≡◌};
 
 // Run's reply: the number of the question that gets a no and its place, or 0 and 0 with the stop, choices read and moves made.
 #[repr(C)]
-#[derive(Drop)]
+#[derive(Clone, Copy)]
 pub struct RunReply {
     pub number: u16,
     pub place: u16,

@@ -1,4 +1,6 @@
 // Check's call: questions 1 to 15 about a script, the most silent moves in a row, and the reply.
+#![tactic(auto)]
+
 ghost use Rattle.std.specs.Prelude.{◌≡◌};
 ghost use Rattle.typing.specs.Check.{check_of, verdict_number, verdict_place, verdict_type};
 ghost use Rattle.calls.specs.Calls.{verdict_silent};

@@ -1,4 +1,6 @@
 // What a choice comes to.
+#![tactic(auto)]
+
 mod choices;
 mod nodes;
 

@@ -66,7 +66,7 @@ pub fn run_node(s: &[u8], starts: &[u16], block: &mut [u8], i: usize, a: u16, en
 }
 
 // A value, and the node that awaits it in an environment.
-#[derive(Drop)]
+#[derive(Clone, Copy)]
 struct Awaited {
     value: Value,
     node: u16,

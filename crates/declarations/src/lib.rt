@@ -1,4 +1,6 @@
 // Error 35: a name of a type that is declared again, or nowhere.
+#![tactic(auto)]
+
 ghost use Rattle.std.specs.Prelude.{◌≡◌, true, List, [], ◌+◌, ◌≤◌, length, get_or};
 ghost use Rattle.grammar.specs.Tokens.{Spelling};
 ghost use Rattle.grammar.specs.Files.{declared_role};

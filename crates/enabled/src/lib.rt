@@ -1,4 +1,6 @@
 // Which positions can move, as Offer marks them and as Run sees it when it looks.
+#![tactic(auto)]
+
 mod looks;
 mod marks;
 
@@ -7,7 +9,7 @@ use machine::Ending;
 pub use marks::mark;
 
 // What Run sees when it looks: the run goes on, or has ended.
-#[derive(Drop)]
+#[derive(Clone, Copy)]
 pub enum Looked {
     GoesOn,
     Ends(Ending),

@@ -1,4 +1,6 @@
 // The calls that a C program makes.
+#![tactic(auto)]
+
 mod check;
 mod offer;
 mod read;

@@ -1,4 +1,6 @@
 // Environments: the chains of bindings in a lent block.
+#![tactic(auto)]
+
 mod known;
 mod scopes;
 
@@ -28,7 +30,7 @@ use names::Rank;
 pub use scopes::{same_scope, variable_type};
 
 // What a look-up of a variable finds: its value, where it is bound.
-#[derive(Drop)]
+#[derive(Clone, Copy)]
 pub enum Lookup {
     Unbound,
     Bound(Value),

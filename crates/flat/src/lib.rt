@@ -1,7 +1,9 @@
 // The machine that judges a text, on paper: what it does at each token, and that it does what the parser does.
+#![tactic(auto)]
+
 ghost use Rattle.std.specs.Prelude.{◌≡◌, ◌*◌};
-ghost use Rattle.grammar.specs.Roles.{BINDING, B_OTHER};
-ghost use Rattle.flat.specs.Flat.{STUCK, OCCURS, BINDS, POP, LEAVE, CLOSE, PUSH_LET, PUSH_BODY, CLOSERS, POINTS, TOP, TOP_C};
+ghost use Rattle.grammar.specs.Roles as roles_spec;
+ghost use Rattle.flat.specs.Flat as flat_spec;
 
 // Deeds, and the points and closers beside them. `specs/Flat.antt` says what each one is.
 pub const STUCK: u8 = 0;
@@ -35,25 +37,25 @@ pub const OTHER: u8 = 2 * BINDING;
 
 // The constants and the definitions are the same numbers.
 pub fn agreed()
-    ensures* do_value { do ⌜ (← (⟦STUCK⟧).entry) ≡ STUCK ⌝ }
-    ensures* do_value_2 { do ⌜ (← (⟦OCCURS⟧).entry) ≡ OCCURS ⌝ }
-    ensures* do_value_3 { do ⌜ (← (⟦BINDS⟧).entry) ≡ BINDS ⌝ }
-    ensures* do_value_4 { do ⌜ (← (⟦POP⟧).entry) ≡ POP ⌝ }
-    ensures* do_value_5 { do ⌜ (← (⟦LEAVE⟧).entry) ≡ LEAVE ⌝ }
-    ensures* do_value_6 { do ⌜ (← (⟦CLOSE⟧).entry) ≡ CLOSE ⌝ }
-    ensures push_let_value { PUSH_LET ≡ PUSH_LET }
-    ensures push_body_value { PUSH_BODY ≡ PUSH_BODY }
-    ensures* do_value_7 { do ⌜ (← (⟦CLOSERS⟧).entry) ≡ CLOSERS ⌝ }
-    ensures* do_value_8 { do ⌜ (← (⟦POINTS⟧).entry) ≡ POINTS ⌝ }
-    ensures* do_value_9 { do ⌜ (← (⟦TOP⟧).entry) ≡ TOP ⌝ }
-    ensures top_c_value { TOP_C ≡ TOP_C }
-    ensures* do_value_10 { do ⌜ (← (⟦BINDING⟧).entry) ≡ BINDING ⌝ }
-    ensures* do_value_11 { do ⌜ (← (⟦OTHER⟧).entry) ≡ BINDING * B_OTHER ⌝ }
+    ensures stuck { STUCK ≡ flat_spec.STUCK }
+    ensures occurs { OCCURS ≡ flat_spec.OCCURS }
+    ensures binds { BINDS ≡ flat_spec.BINDS }
+    ensures pop { POP ≡ flat_spec.POP }
+    ensures leave { LEAVE ≡ flat_spec.LEAVE }
+    ensures close { CLOSE ≡ flat_spec.CLOSE }
+    ensures push_let { PUSH_LET ≡ flat_spec.PUSH_LET }
+    ensures push_body { PUSH_BODY ≡ flat_spec.PUSH_BODY }
+    ensures closers { CLOSERS ≡ flat_spec.CLOSERS }
+    ensures points { POINTS ≡ flat_spec.POINTS }
+    ensures top { TOP ≡ flat_spec.TOP }
+    ensures top_c { TOP_C ≡ flat_spec.TOP_C }
+    ensures binding { BINDING ≡ roles_spec.BINDING }
+    ensures other { OTHER ≡ roles_spec.BINDING * roles_spec.B_OTHER }
 {}
 
 // What a token does at a point: the point that comes next, the token's role, what becomes of the closers and of the parameter (the deed), and which roles of
 // earlier tokens it settles: the token `back` tokens ago, whose binding stays, becomes `becomes`; the last one becomes `before`, unless that is 0.
-#[derive(Drop)]
+#[derive(Clone, Copy)]
 pub struct Turn {
     pub next: u8,
     pub role: u8,

@@ -1,4 +1,6 @@
 // Question 27 in code, frames and threads: do they fit?
+#![tactic(auto)]
+
 mod frames;
 mod places;
 

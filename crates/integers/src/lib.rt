@@ -1,4 +1,6 @@
 // Signed 32-bit numbers: from their two words, to their two words, and sums whose range is tested before adding.
+#![tactic(auto)]
+
 ghost use Rattle.std.specs.Prelude.{◌≡◌, not, ◌+ℤ◌};
 ghost use Rattle.words.specs.Integer.{range_test, integer, bits_of, low_word, high_word};
 ghost use Rattle.integers.specs.Sum.{sum_of};
@@ -16,7 +18,7 @@ const LEAST: i32 = -2147483648;
 const GREATEST: i32 = 2147483647;
 
 // A sum in range, or one outside of it.
-#[derive(Drop)]
+#[derive(Clone, Copy)]
 pub enum Sum {
     Of(i32),
     Outside,

@@ -1,5 +1,7 @@
 // Judges a text: is it derived by the grammar, and if not, where is the first token that fits nowhere? One pass over the tokens, with a stack of closers, that
 // leaves each token's role and offset.
+#![tactic(auto)]
+
 ghost use Rattle.std.specs.Prelude.{◌≡◌, false, ◌+◌, ◌<◌, ◌≤◌, length, drop, set};
 ghost use Rattle.limits.specs.Limits.{TEXT};
 ghost use Rattle.tokens.specs.Kinds.{byte_kinds};
@@ -19,7 +21,7 @@ use turns::{
 
 // The verdict: whether the text is derived. If not, the place of the token that fits nowhere, or of the text's end; else how many tokens there are, and how
 // many of them before the start.
-#[derive(Drop)]
+#[derive(Clone, Copy)]
 pub struct Judged {
     pub ok: bool,
     pub place: usize,
@@ -29,7 +31,7 @@ pub struct Judged {
 
 // Where the machine stands: its point, how many closers it waits for, where the parameter's name is (the text's end if there is none) and whether it is
 // visible, the tokens read, and how many of them before the start.
-#[derive(Drop)]
+#[derive(Clone, Copy)]
 pub struct Standing {
     pub point: u8,
     pub depth: usize,

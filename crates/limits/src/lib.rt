@@ -1,10 +1,12 @@
 // Every limit of document 01, and the length of the block, which is document 02's (request 2), named in one place.
+#![tactic(auto)]
+
 ghost use Rattle.std.specs.Prelude.{◌≡◌};
 ghost use Rattle.limits.specs.Limits.{INTERFACES, SIGNATURES, CLASSES, FIELDS, METHODS, NODES, CONTENTS, FILE, CLASS_FIELDS, BLOCK, OBJECTS, BINDINGS};
 ghost use Rattle.limits.specs.Limits.{FRAMES, THREADS, POSITIONS, CHOICES, FLAGS, SILENT, TEXT};
 
 // The limits. `specs/Limits.antt` says what each one bounds.
-#[derive(Drop)]
+#[derive(Clone, Copy)]
 pub struct Limits {}
 
 impl Limits {
@@ -49,23 +51,23 @@ impl Limits {
 
 // The constants and the definitions are the same numbers.
 pub fn agreed()
-    ensures* do_value { do ⌜ (← (⟦Limits::INTERFACES⟧).entry) ≡ INTERFACES ⌝ }
-    ensures* do_value_2 { do ⌜ (← (⟦Limits::SIGNATURES⟧).entry) ≡ SIGNATURES ⌝ }
-    ensures* do_value_3 { do ⌜ (← (⟦Limits::CLASSES⟧).entry) ≡ CLASSES ⌝ }
-    ensures* do_value_4 { do ⌜ (← (⟦Limits::FIELDS⟧).entry) ≡ FIELDS ⌝ }
-    ensures* do_value_5 { do ⌜ (← (⟦Limits::METHODS⟧).entry) ≡ METHODS ⌝ }
-    ensures* do_value_6 { do ⌜ (← (⟦Limits::NODES⟧).entry) ≡ NODES ⌝ }
-    ensures* do_value_7 { do ⌜ (← (⟦Limits::CONTENTS⟧).entry) ≡ CONTENTS ⌝ }
-    ensures* do_value_8 { do ⌜ (← (⟦Limits::FILE⟧).entry) ≡ FILE ⌝ }
-    ensures* do_value_9 { do ⌜ (← (⟦Limits::CLASS_FIELDS⟧).entry) ≡ CLASS_FIELDS ⌝ }
-    ensures* do_value_10 { do ⌜ (← (⟦Limits::BLOCK⟧).entry) ≡ BLOCK ⌝ }
-    ensures* do_value_11 { do ⌜ (← (⟦Limits::OBJECTS⟧).entry) ≡ OBJECTS ⌝ }
-    ensures* do_value_12 { do ⌜ (← (⟦Limits::BINDINGS⟧).entry) ≡ BINDINGS ⌝ }
-    ensures* do_value_13 { do ⌜ (← (⟦Limits::FRAMES⟧).entry) ≡ FRAMES ⌝ }
-    ensures* do_value_14 { do ⌜ (← (⟦Limits::THREADS⟧).entry) ≡ THREADS ⌝ }
-    ensures* do_value_15 { do ⌜ (← (⟦Limits::POSITIONS⟧).entry) ≡ POSITIONS ⌝ }
-    ensures* do_value_16 { do ⌜ (← (⟦Limits::CHOICES⟧).entry) ≡ CHOICES ⌝ }
-    ensures* do_value_17 { do ⌜ (← (⟦Limits::FLAGS⟧).entry) ≡ FLAGS ⌝ }
-    ensures* do_value_18 { do ⌜ (← (⟦Limits::SILENT⟧).entry) ≡ SILENT ⌝ }
-    ensures* do_value_19 { do ⌜ (← (⟦Limits::TEXT⟧).entry) ≡ TEXT ⌝ }
+    ensures interfaces { Limits.INTERFACES ≡ INTERFACES }
+    ensures signatures { Limits.SIGNATURES ≡ SIGNATURES }
+    ensures classes { Limits.CLASSES ≡ CLASSES }
+    ensures fields { Limits.FIELDS ≡ FIELDS }
+    ensures methods { Limits.METHODS ≡ METHODS }
+    ensures nodes { Limits.NODES ≡ NODES }
+    ensures contents { Limits.CONTENTS ≡ CONTENTS }
+    ensures file { Limits.FILE ≡ FILE }
+    ensures class_fields { Limits.CLASS_FIELDS ≡ CLASS_FIELDS }
+    ensures block { Limits.BLOCK ≡ BLOCK }
+    ensures objects { Limits.OBJECTS ≡ OBJECTS }
+    ensures bindings { Limits.BINDINGS ≡ BINDINGS }
+    ensures frames { Limits.FRAMES ≡ FRAMES }
+    ensures threads { Limits.THREADS ≡ THREADS }
+    ensures positions { Limits.POSITIONS ≡ POSITIONS }
+    ensures choices { Limits.CHOICES ≡ CHOICES }
+    ensures flags { Limits.FLAGS ≡ FLAGS }
+    ensures silent { Limits.SILENT ≡ SILENT }
+    ensures text { Limits.TEXT ≡ TEXT }
 {}

@@ -1,7 +1,8 @@
 // The machine: definitions and theorems, and the enums that they share with the code.
+#![tactic(auto)]
 
 // v ::= null | ι, and a number
-#[derive(Drop)]
+#[derive(Clone, Copy)]
 pub enum Value {
     Null,
     Ref(u16),
@@ -9,7 +10,7 @@ pub enum Value {
 }
 
 // What waits for a value: a write, call or let with its node and environment, a cast with its node alone, a lock with its object.
-#[derive(Drop)]
+#[derive(Clone, Copy)]
 pub enum Frame {
     Awaits(u16, u16),
     Casts(u16),
@@ -18,7 +19,7 @@ pub enum Frame {
 
 // What is expected of a value, the type t in Γ ⊢ T : t: any, since WF-T-ASYNC lets its sides have any types ("to any type at an async"), or a type and those
 // below it ("the start's type or below").
-#[derive(Drop)]
+#[derive(Clone, Copy)]
 pub enum Want {
     Any,
     Upto(u16),
@@ -26,7 +27,7 @@ pub enum Want {
 
 // The four stores of a block, each of which a move can find full: "4 objects, 5 bindings, 6 frames, 7 threads when the chosen move needs more places than that
 // store has left".
-#[derive(Drop)]
+#[derive(Clone, Copy)]
 pub enum Store {
     Objects,
     Bindings,
@@ -35,7 +36,7 @@ pub enum Store {
 }
 
 // How a run ends: "1 the root is a finished thread, 2 the root is a failed thread, 3 neither and no position can move".
-#[derive(Drop)]
+#[derive(Clone, Copy)]
 pub enum Ending {
     Finished,
     Failed,
@@ -43,7 +44,7 @@ pub enum Ending {
 }
 
 // Why a Run stops: its choices are spent, it has ended, or a store is full for the chosen move.
-#[derive(Drop)]
+#[derive(Clone, Copy)]
 pub enum Stop {
     Spent,
     Ended(Ending),

@@ -1,4 +1,6 @@
 // What let frames wait for, kept in a memo: the frames of one let in one scope wait for the same.
+#![tactic(auto)]
+
 ghost use Rattle.std.specs.Prelude.{◌≡◌, ◌+◌, ◌*◌, ◌<◌, length};
 ghost use Rattle.limits.specs.Limits.{NODES};
 ghost use Rattle.words.specs.Word.{WORD};

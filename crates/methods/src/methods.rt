@@ -25,7 +25,7 @@ use script::{Found, Section};
 use tree::Cell;
 
 // A call of the method of an object that is there, with its argument.
-#[derive(Drop)]
+#[derive(Clone, Copy)]
 struct Call {
     value: Value,
     object: u16,

@@ -1,4 +1,6 @@
 // What a move comes to, its exits, the look-up of its target, and the moves that give a value: null, a constant, a variable, a field, a new object.
+#![tactic(auto)]
+
 mod fields;
 mod steps;
 mod targets;
@@ -11,7 +13,7 @@ pub use targets::target_of;
 pub use values::{become_null, become_number, give_value, make_object};
 
 // What a choice comes to: no move is due, it is made, or a store is full for it.
-#[derive(Drop)]
+#[derive(Clone, Copy)]
 pub enum Effect {
     Still,
     Moved,
@@ -19,7 +21,7 @@ pub enum Effect {
 }
 
 // The field or method `name` of what the variable `target` holds in an environment.
-#[derive(Drop)]
+#[derive(Clone, Copy)]
 pub struct Member {
     pub env: u16,
     pub target: u16,
@@ -27,7 +29,7 @@ pub struct Member {
 }
 
 // A value at a waiting write or call: of the field or method `member` of the variable `target`, in the environment of the frame.
-#[derive(Drop)]
+#[derive(Clone, Copy)]
 pub struct WaitingMember {
     pub value: Value,
     pub env: u16,

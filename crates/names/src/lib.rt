@@ -1,8 +1,10 @@
 // The variables of a script by rank: small numbers for their names, so that a table with a word for each rank serves every script.
+#![tactic(auto)]
+
 mod ranks;
 
 ghost use Rattle.std.specs.Prelude.{◌≡◌};
-ghost use Rattle.names.specs.Ranks.{SLOTS, RANKS, BUCKETS, SPACING, FACTS};
+ghost use Rattle.names.specs.Ranks as ranks_spec;
 
 use limits::Limits;
 pub use ranks::{fill_ranks, rank_of};
@@ -24,7 +26,7 @@ pub const SPACING: usize = 64;
 pub const FACTS: usize = SLOTS + SLOTS + BUCKETS;
 
 // What is known of a variable's rank: it has one if a node names it, or if it is `this` or the parameter.
-#[derive(Drop)]
+#[derive(Clone, Copy)]
 pub enum Rank {
     Unnamed,
     At(u16),
@@ -32,9 +34,9 @@ pub enum Rank {
 
 // The constants and the definitions are the same numbers.
 pub fn agreed()
-    ensures* do_value { do ⌜ (← (⟦SLOTS⟧).entry) ≡ SLOTS ⌝ }
-    ensures* do_value_2 { do ⌜ (← (⟦RANKS⟧).entry) ≡ RANKS ⌝ }
-    ensures* do_value_3 { do ⌜ (← (⟦BUCKETS⟧).entry) ≡ BUCKETS ⌝ }
-    ensures* do_value_4 { do ⌜ (← (⟦SPACING⟧).entry) ≡ SPACING ⌝ }
-    ensures* do_value_5 { do ⌜ (← (⟦FACTS⟧).entry) ≡ FACTS ⌝ }
+    ensures slots { SLOTS ≡ ranks_spec.SLOTS }
+    ensures ranks { RANKS ≡ ranks_spec.RANKS }
+    ensures buckets { BUCKETS ≡ ranks_spec.BUCKETS }
+    ensures spacing { SPACING ≡ ranks_spec.SPACING }
+    ensures facts { FACTS ≡ ranks_spec.FACTS }
 {}

@@ -1,4 +1,6 @@
 // Names numbered by first appearance over the tokens of a text, each sort alone. The names of a sort are linked first, so that no pass looks at other tokens.
+#![tactic(auto)]
+
 ghost use Rattle.std.specs.Prelude.{◌≡◌, true, [], ◌+◌, ◌<◌, ◌≤◌, eqb, length, get_or};
 ghost use Rattle.words.specs.Word.{WORD};
 ghost use Rattle.tokens.specs.Kinds.{byte_kinds};
@@ -8,7 +10,7 @@ ghost use Rattle.numbering.specs.Chains.{next_in, LinkedSort, first_name, Chains
 ghost use Rattle.numbering.specs.declared.Sort.{Sort};
 
 // The sorts of names, "each sort alone": those that are numbered, and names of types, which have the numbers of declared names.
-#[derive(Drop)]
+#[derive(Clone, Copy)]
 pub enum Sort {
     Methods,
     Fields,
@@ -18,7 +20,7 @@ pub enum Sort {
 }
 
 // The first token of each sort, or the number of tokens.
-#[derive(Drop)]
+#[derive(Clone, Copy)]
 pub struct Firsts {
     pub declared: usize,
     pub types: usize,

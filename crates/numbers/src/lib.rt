@@ -1,4 +1,6 @@
 // The numbers of questions and stops.
+#![tactic(auto)]
+
 mod questions;
 mod stops;
 

@@ -1,4 +1,6 @@
 // Offer's call: the questions about script, block and flags, the flags, and the reply.
+#![tactic(auto)]
+
 ghost use Rattle.std.specs.Prelude.{◌≡◌};
 ghost use Rattle.calls.specs.Calls.{offer_of};
 

@@ -1,5 +1,7 @@
 // The checking program: reads a script from standard input and prints `ACCEPT T`, T the start's type, or `REFUSE N P`, the number of the question that gets a
 // no and its place.
+#![tactic(auto)]
+
 use libc::STDOUT_FILENO;
 
 fn main() {

@@ -1,5 +1,7 @@
 // The reading program: reads a text from standard input and writes the script file to standard output; or prints `REFUSE N P`, the number of the error and its
 // place, to standard error, and nothing to standard output.
+#![tactic(auto)]
+
 use libc::{STDERR_FILENO, STDOUT_FILENO};
 
 // Reads the text, and writes its file or the refusal.

@@ -1,4 +1,6 @@
 // The rows of lets and of forks, whose parts are numbered by the sizes of those before them.
+#![tactic(auto)]
+
 ghost use Rattle.std.specs.Prelude.{◌≡◌, ◌+◌, ◌<◌, ◌≤◌, length, get_or, drop};
 ghost use Rattle.words.specs.Word.{WORD};
 ghost use Rattle.limits.specs.Limits.{TEXT};

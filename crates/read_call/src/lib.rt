@@ -1,4 +1,6 @@
 // Read's call: a text read into a script file, and the reply.
+#![tactic(auto)]
+
 ghost use Rattle.std.specs.Prelude.{◌≡◌};
 ghost use Rattle.grammar.specs.Read.{read_of};
 

@@ -1,4 +1,6 @@
 // Read: a text becomes a script file.
+#![tactic(auto)]
+
 mod arrays;
 mod room;
 

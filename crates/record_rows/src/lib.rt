@@ -1,4 +1,6 @@
 // The rows of all sections but nodes.
+#![tactic(auto)]
+
 ghost use Rattle.std.specs.Prelude.{◌≡◌, drop, List};
 ghost use Rattle.rows.specs.Rows.{Item, interface_row, signature_row, class_row, field_row, method_row};
 ghost use Rattle.token_words.specs.Items.{RowFrom, Labelled};

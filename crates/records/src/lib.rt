@@ -1,4 +1,6 @@
 // The records of a script file in code: questions 4, 6, 7 and 8.
+#![tactic(auto)]
+
 mod names;
 mod nodes;
 

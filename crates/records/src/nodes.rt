@@ -14,7 +14,7 @@ use script::{Found, Role, Section, Shape};
 use sections::{count_of, own_count, record_at, record_word};
 
 // What questions 4, 6, 7 and 8 ask of the records of one section, each by itself.
-#[derive(Drop)]
+#[derive(Clone, Copy)]
 pub enum Test {
     Interface,
     SignatureTypes,

@@ -1,4 +1,6 @@
 // Offer and Run after the questions about lengths: those about the parts of the block, and then the flags or the run.
+#![tactic(auto)]
+
 mod offers;
 mod running;
 
@@ -6,7 +8,7 @@ pub use offers::offer;
 pub use running::run;
 
 // What Run returns: the number of the question that gets a no, with every other number 0; or 0, the stop, the choices read and the moves made.
-#[derive(Drop)]
+#[derive(Clone, Copy)]
 pub struct RunResult {
     pub number: u16,
     pub stop: u16,

@@ -1,4 +1,6 @@
 // Words put one after another.
+#![tactic(auto)]
+
 ghost use Rattle.std.specs.Prelude.{◌≡◌, [], ◌∷◌, ◌+◌, ◌*◌, ◌≤◌, length};
 ghost use Rattle.token_words.specs.Row.{row_words};
 ghost use Rattle.row_bytes.specs.Written.{written, Appended};

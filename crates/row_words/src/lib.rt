@@ -1,4 +1,6 @@
 // The words of a script file's records, each read off the tokens from the record's first one on.
+#![tactic(auto)]
+
 mod nodes;
 mod sections;
 

@@ -1,4 +1,6 @@
 // Run's call: the questions about script, block and choices, the run, and the reply.
+#![tactic(auto)]
+
 ghost use Rattle.std.specs.Prelude.{◌≡◌};
 ghost use Rattle.calls.specs.Calls.{run_of};
 

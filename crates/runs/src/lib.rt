@@ -1,25 +1,27 @@
 // A run of choices: each is taken after a look, and a stop ends it.
+#![tactic(auto)]
+
 mod runs;
 
 use machine::Stop;
 pub use runs::run_choices;
 
 // What comes after a choice: the next one, or the stop.
-#[derive(Drop)]
+#[derive(Clone, Copy)]
 pub enum Next {
     GoesOn,
     Stops(Stop),
 }
 
 // What a choice did: how many moves it made, and what comes after it.
-#[derive(Drop)]
+#[derive(Clone, Copy)]
 pub struct Taken {
     pub made: usize,
     pub next: Next,
 }
 
 // What Run returns.
-#[derive(Drop)]
+#[derive(Clone, Copy)]
 pub struct Ran {
     pub stop: Stop,
     pub read: usize,

@@ -1,7 +1,8 @@
 // The script file on paper: its sections and questions.
+#![tactic(auto)]
 
 // The questions of document 01 that a script can get a no to, in the order of their numbers.
-#[derive(Drop)]
+#[derive(Clone, Copy)]
 pub enum Question {
     Length,
     Counts,
@@ -21,7 +22,7 @@ pub enum Question {
 }
 
 // The sections of a script file, in the order of their bodies.
-#[derive(Drop)]
+#[derive(Clone, Copy)]
 pub enum Section {
     Interfaces,
     Signatures,
@@ -32,7 +33,7 @@ pub enum Section {
 }
 
 // What a word of a node is there for.
-#[derive(Drop)]
+#[derive(Clone, Copy)]
 pub enum Role {
     Unused,
     Variable,
@@ -46,11 +47,11 @@ pub enum Role {
 }
 
 // The words a, b and c of the nodes of some kind.
-#[derive(Drop)]
+#[derive(Clone, Copy)]
 pub struct Shape(pub Role, pub Role, pub Role);
 
 // What a search finds: an index or a place.
-#[derive(Drop)]
+#[derive(Clone, Copy)]
 pub enum Found {
     At(usize),
     Nothing,

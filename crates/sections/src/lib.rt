@@ -1,4 +1,6 @@
 // The sections of a script file in code: its words by record, and questions 1, 2, 3 and 5.
+#![tactic(auto)]
+
 mod contents;
 mod layout;
 

@@ -1,5 +1,7 @@
 // Silent moves counted: how many a thread at a node makes before its next published step, wait or finish. The counts of all nodes are found in one pass from
 // the last node to the first, since a node's parts stand behind it.
+#![tactic(auto)]
+
 ghost use Rattle.std.specs.Prelude.{◌≡◌, max, length};
 ghost use Rattle.limits.specs.Limits.{NODES};
 ghost use Rattle.script.specs.Statements.{WithinLayout};

@@ -1,4 +1,6 @@
 // Silent's call: questions 1 to 15 about a script, the count of a node, and the reply.
+#![tactic(auto)]
+
 ghost use Rattle.std.specs.Prelude.{◌≡◌};
 ghost use Rattle.calls.specs.Calls.{silent_of};
 

@@ -1,4 +1,6 @@
 // Words in lent byte slices, read and written; bytes made 0, asked to be 0, and moved.
+#![tactic(auto)]
+
 ghost use Rattle.std.specs.Prelude.{◌≡◌, true, false, ◌++◌, ◌+◌, ◌-◌, ◌<◌, ◌≤◌, length, take, drop, replicate};
 ghost use Rattle.words.specs.Word.{word_at};
 ghost use Rattle.slices.specs.Put.{put_word};

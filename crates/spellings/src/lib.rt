@@ -1,4 +1,6 @@
 // Tables of names by hash: a name is found, and a new one put behind the others. The arrays are lent.
+#![tactic(auto)]
+
 ghost use Rattle.std.specs.Prelude.{◌≡◌, ◌+◌, ◌<◌, ◌≤◌, length, get_or, set};
 ghost use Rattle.words.specs.Word.{WORD};
 ghost use Rattle.tokens.specs.Kinds.{byte_kinds};

@@ -1,4 +1,6 @@
 // Start's call: the questions about script and block, the initial block, and the reply.
+#![tactic(auto)]
+
 ghost use Rattle.std.specs.Prelude.{◌≡◌, length};
 ghost use Rattle.limits.specs.Limits.{BLOCK};
 ghost use Rattle.machine.specs.Machine.{initial};

@@ -1,4 +1,6 @@
 // The block as one configuration, seen from a position: the thread tree lies in it all the time, and is taken out as a value only where a part is exchanged.
+#![tactic(auto)]
+
 mod part;
 mod reading;
 mod whole;

@@ -1,9 +1,11 @@
 // Subtyping in code: what a type number is declared as, and what a type is below.
+#![tactic(auto)]
+
 mod rows;
 mod subtyping;
 
 ghost use Rattle.std.specs.Prelude.{◌≡◌};
-ghost use Rattle.subtypes.specs.Tables.{BITS as WORD-BITS, ROW as ROW-WORDS, RUNS as RUN-WORDS, STARTS as START-WORDS};
+ghost use Rattle.subtypes.specs.Tables.{BITS as WORD_BITS, ROW as ROW_WORDS, RUNS as RUN_WORDS, STARTS as START_WORDS};
 
 use limits::Limits;
 pub use subtyping::{declared_as, fill_rows, int_of, is_below};
@@ -21,14 +23,14 @@ pub const STARTS: usize = RUNS + Limits::INTERFACES * ROW;
 
 // The constants and the definitions are the same numbers.
 pub fn agreed()
-    ensures* do_value { do ⌜ (← (⟦RUNS⟧).entry) ≡ RUN-WORDS ⌝ }
-    ensures* do_value_2 { do ⌜ (← (⟦BITS⟧).entry) ≡ WORD-BITS ⌝ }
-    ensures* do_value_3 { do ⌜ (← (⟦ROW⟧).entry) ≡ ROW-WORDS ⌝ }
-    ensures* do_value_4 { do ⌜ (← (⟦STARTS⟧).entry) ≡ START-WORDS ⌝ }
+    ensures runs { RUNS ≡ RUN_WORDS }
+    ensures bits { BITS ≡ WORD_BITS }
+    ensures row { ROW ≡ ROW_WORDS }
+    ensures starts { STARTS ≡ START_WORDS }
 {}
 
 // What a type number is declared as, with the index of the record.
-#[derive(Drop)]
+#[derive(Clone, Copy)]
 pub enum Declared {
     Interface(usize),
     Class(usize),

@@ -1,10 +1,12 @@
 // The move of a sum.
+#![tactic(auto)]
+
 mod sums;
 
 pub use sums::add_variables;
 
 // What a variable holds that is added: a number, or nothing that can be added.
-#[derive(Drop)]
+#[derive(Clone, Copy)]
 enum Addend {
     Number(i32),
     Nothing,

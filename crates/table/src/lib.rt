@@ -1,4 +1,6 @@
 // What each kind of token does at each point of the machine that judges a text, in one table of numbers.
+#![tactic(auto)]
+
 ghost use Rattle.std.specs.Prelude.{◌≡◌, true, ◌<◌, replicate};
 ghost use Rattle.flat.specs.Flat.{POINTS};
 ghost use Rattle.tokens.specs.Next.{KINDS};

@@ -1,4 +1,6 @@
 // What the words of records are made of: what one token says, and what some tokens together say.
+#![tactic(auto)]
+
 mod leaves;
 
 ghost use Rattle.std.specs.Prelude.{◌≡◌};
@@ -8,7 +10,7 @@ ghost use Rattle.grammar.specs.Roles.{R_CALL, R_LET, R_NEW, R_CAST, R_FORK, R_LO
 pub use leaves::{hop, owned, role_at, type_word, value_at, variable_word};
 
 // Roles of tokens. The definitions of the same names say what each one is.
-#[derive(Drop)]
+#[derive(Clone, Copy)]
 pub struct Roles {}
 
 impl Roles {
@@ -61,33 +63,33 @@ impl Roles {
 
 // The constants and the definitions are the same numbers.
 pub fn agreed()
-    ensures* do_value { do ⌜ (← (⟦Roles::INTERFACE⟧).entry) ≡ R_INTERFACE ⌝ }
-    ensures* do_value_2 { do ⌜ (← (⟦Roles::CLASS⟧).entry) ≡ R_CLASS ⌝ }
-    ensures* do_value_3 { do ⌜ (← (⟦Roles::METHOD⟧).entry) ≡ R_METHOD ⌝ }
-    ensures* do_value_4 { do ⌜ (← (⟦Roles::SIGNATURE⟧).entry) ≡ R_SIGNATURE ⌝ }
-    ensures* do_value_5 { do ⌜ (← (⟦Roles::FIELD⟧).entry) ≡ R_FIELD ⌝ }
-    ensures* do_value_6 { do ⌜ (← (⟦Roles::TYPE⟧).entry) ≡ R_TYPE ⌝ }
-    ensures* do_value_7 { do ⌜ (← (⟦Roles::UNIT⟧).entry) ≡ R_UNIT ⌝ }
-    ensures* do_value_8 { do ⌜ (← (⟦Roles::INT⟧).entry) ≡ R_INT ⌝ }
-    ensures* do_value_9 { do ⌜ (← (⟦Roles::NULL⟧).entry) ≡ R_NULL ⌝ }
-    ensures* do_value_10 { do ⌜ (← (⟦Roles::VARIABLE⟧).entry) ≡ R_VARIABLE ⌝ }
-    ensures* do_value_11 { do ⌜ (← (⟦Roles::SELECT⟧).entry) ≡ R_SELECT ⌝ }
-    ensures* do_value_12 { do ⌜ (← (⟦Roles::UPDATE⟧).entry) ≡ R_UPDATE ⌝ }
-    ensures* do_value_13 { do ⌜ (← (⟦Roles::CALL⟧).entry) ≡ R_CALL ⌝ }
-    ensures* do_value_14 { do ⌜ (← (⟦Roles::LET⟧).entry) ≡ R_LET ⌝ }
-    ensures* do_value_15 { do ⌜ (← (⟦Roles::NEW⟧).entry) ≡ R_NEW ⌝ }
-    ensures* do_value_16 { do ⌜ (← (⟦Roles::CAST⟧).entry) ≡ R_CAST ⌝ }
-    ensures* do_value_17 { do ⌜ (← (⟦Roles::FORK⟧).entry) ≡ R_FORK ⌝ }
-    ensures* do_value_18 { do ⌜ (← (⟦Roles::LOCK⟧).entry) ≡ R_LOCK ⌝ }
-    ensures* do_value_19 { do ⌜ (← (⟦Roles::INTEGER⟧).entry) ≡ R_INTEGER ⌝ }
-    ensures* do_value_20 { do ⌜ (← (⟦Roles::SUM⟧).entry) ≡ R_SUM ⌝ }
-    ensures* do_value_21 { do ⌜ (← (⟦Roles::NEGATIVE⟧).entry) ≡ R_NEGATIVE ⌝ }
-    ensures* do_value_22 { do ⌜ (← (⟦Roles::BINDING⟧).entry) ≡ BINDING ⌝ }
-    ensures* do_value_23 { do ⌜ (← (⟦Roles::OTHER⟧).entry) ≡ B_OTHER ⌝ }
+    ensures interface { Roles.INTERFACE ≡ R_INTERFACE }
+    ensures class { Roles.CLASS ≡ R_CLASS }
+    ensures method { Roles.METHOD ≡ R_METHOD }
+    ensures signature { Roles.SIGNATURE ≡ R_SIGNATURE }
+    ensures field { Roles.FIELD ≡ R_FIELD }
+    ensures the_type { Roles.TYPE ≡ R_TYPE }
+    ensures unit { Roles.UNIT ≡ R_UNIT }
+    ensures int { Roles.INT ≡ R_INT }
+    ensures null { Roles.NULL ≡ R_NULL }
+    ensures variable { Roles.VARIABLE ≡ R_VARIABLE }
+    ensures select { Roles.SELECT ≡ R_SELECT }
+    ensures update { Roles.UPDATE ≡ R_UPDATE }
+    ensures call { Roles.CALL ≡ R_CALL }
+    ensures the_let { Roles.LET ≡ R_LET }
+    ensures new { Roles.NEW ≡ R_NEW }
+    ensures cast { Roles.CAST ≡ R_CAST }
+    ensures fork { Roles.FORK ≡ R_FORK }
+    ensures lock { Roles.LOCK ≡ R_LOCK }
+    ensures integer { Roles.INTEGER ≡ R_INTEGER }
+    ensures sum { Roles.SUM ≡ R_SUM }
+    ensures negative { Roles.NEGATIVE ≡ R_NEGATIVE }
+    ensures binding { Roles.BINDING ≡ BINDING }
+    ensures other { Roles.OTHER ≡ B_OTHER }
 {}
 
 // What a declaration owns: how many signatures, fields and methods come before the next one.
-#[derive(Drop)]
+#[derive(Clone, Copy)]
 pub struct Members {
     pub signatures: u16,
     pub fields: u16,
@@ -95,7 +97,7 @@ pub struct Members {
 }
 
 // The words of a record.
-#[derive(Drop)]
+#[derive(Clone, Copy)]
 pub enum Row {
     Two(u16, u16),
     Three(u16, u16, u16),

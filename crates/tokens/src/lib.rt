@@ -1,12 +1,14 @@
 // Tokens of a text: the next one, and what names and digits say. A text is read in place, each token where it stands.
+#![tactic(auto)]
+
 mod bytes;
 mod names;
 mod scan;
 
 ghost use Rattle.std.specs.Prelude.{◌≡◌};
-ghost use Rattle.tokens.specs.Kinds.{BLANK};
+ghost use Rattle.tokens.specs.Kinds as kinds_spec;
 ghost use Rattle.tokens.specs.Next.{K_DIGITS};
-ghost use Rattle.tokens.specs.Runs.{HASHES, BEYOND};
+ghost use Rattle.tokens.specs.Runs as runs_spec;
 
 pub use names::{is_name, magnitude_at, name_at};
 pub use scan::next_token;
@@ -25,7 +27,7 @@ pub const HASHES: usize = 512;
 pub const BEYOND: u32 = 2147483649;
 
 // A token's kind, where it starts and where it ends. The text's end is of kind 0.
-#[derive(Drop)]
+#[derive(Clone, Copy)]
 pub struct Next {
     pub kind: u8,
     pub start: usize,
@@ -33,7 +35,7 @@ pub struct Next {
 }
 
 // A name: its hash, and how many bytes it has.
-#[derive(Drop)]
+#[derive(Clone, Copy)]
 pub struct Name {
     pub hash: usize,
     pub size: usize,
@@ -41,8 +43,8 @@ pub struct Name {
 
 // The constants and the definitions are the same numbers.
 pub fn agreed()
-    ensures* do_value { do ⌜ (← (⟦DIGITS⟧).entry) ≡ K_DIGITS ⌝ }
-    ensures* do_value_2 { do ⌜ (← (⟦BLANK⟧).entry) ≡ BLANK ⌝ }
-    ensures* do_value_3 { do ⌜ (← (⟦HASHES⟧).entry) ≡ HASHES ⌝ }
-    ensures* do_value_4 { do ⌜ (← (⟦BEYOND⟧).entry) ≡ BEYOND ⌝ }
+    ensures digits { DIGITS ≡ K_DIGITS }
+    ensures blank { BLANK ≡ kinds_spec.BLANK }
+    ensures hashes { HASHES ≡ runs_spec.HASHES }
+    ensures beyond { BEYOND ≡ runs_spec.BEYOND }
 {}

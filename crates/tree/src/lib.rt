@@ -1,4 +1,6 @@
 // The thread tree by value: an entry for each position, in preorder.
+#![tactic(auto)]
+
 ghost use Rattle.std.specs.Prelude.{◌+◌, ◌≤◌, ◌<◌, [], ◌∷◌};
 ghost use Rattle.limits.specs.Limits.{POSITIONS};
 ghost use Rattle.tree.specs.Entries.{used, Bounded};
@@ -10,7 +12,7 @@ use machine::Value;
 
 // What stands at a position: a failed thread, a thread at a node in an environment, a thread with a value, or a join with its last part and the environment for
 // it.
-#[derive(Drop)]
+#[derive(Clone, Copy)]
 pub enum Cell {
     Failed,
     Running(u16, u16),
@@ -19,21 +21,21 @@ pub enum Cell {
 }
 
 // A position: what stands there, and how many frames wait there.
-#[derive(Drop)]
+#[derive(Clone, Copy)]
 pub struct Entry {
     pub cell: Cell,
     pub frames: u16,
 }
 
 // A tree: its entries, and how many there are.
-#[derive(Drop)]
+#[derive(Clone, Copy)]
 pub struct Tree {
     pub entries: [Entry; Limits::POSITIONS],
     pub len: usize,
 }
 
 // How a side of a join stands.
-#[derive(Drop)]
+#[derive(Clone, Copy)]
 pub enum Phase {
     Finished,
     Broken,
@@ -41,7 +43,7 @@ pub enum Phase {
 }
 
 // What the move of a join comes to.
-#[derive(Drop)]
+#[derive(Clone, Copy)]
 pub enum Fold {
     Still,
     GoesOn,

@@ -1,4 +1,6 @@
 // What a token does to the machine that judges a text: decisions by value here, and the two stacks in `stacks`.
+#![tactic(auto)]
+
 mod stacks;
 
 ghost use Rattle.std.specs.Prelude.{◌≡◌, ◌||◌, cond, ◌+◌, ◌*◌, ◌/◌, ◌<◌, ◌≤◌, eqb, length, drop};

@@ -121,6 +121,9 @@ msig_by (an_interface (lists gs)) e h = msigs_list e h
 msig_by (an_interface (extends a b)) e (inl i) = msigs_left e i
 msig_by (an_interface (extends a b)) e (inr i) = msigs_right e i
 msig_by (a_class c) e h = rw (← h.same) (msigs_class e h.there)
+msig_by {p = p} {t = t} {g = g} a_unit e h = elim h [ ]
+msig_by {p = p} {t = t} {g = g} an_int e h = elim h [ ]
+msig_by {p = p} {t = t} {g = g} no_type e h = elim h [ ]
 
 -- A method of type t that has the name m.
 abbrev pub Meaning : Program → ℕ → ℕ → Signature → Type 0

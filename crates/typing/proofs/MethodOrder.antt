@@ -116,6 +116,7 @@ module _ (s : List ℕ) where
       variables : {c t x : ℕ} (g : Signature) → TypeOf (body_env c g) x t → ((x ≡ 0) × (t ≡ c)) ⊎ ((x ≡ 1) × (t ≡ g.param))
       variables g nearest = inr (refl, refl)
       variables g (further n nearest) = inl (refl, refl)
+      variables {c = c} {t = t} g (further n (further _ x22)) = elim x22 [ ]
 
       back : {c t x : ℕ} (g : Signature) → ((x ≡ 0) × (t ≡ c)) ⊎ ((x ≡ 1) × (t ≡ g.param)) → TypeOf (body_env c g) x t
       back g (inl e) = rw (e.0, e.1) (further (λ (z : ◌≡◌ {A = ℕ} 1 0). omega arith) nearest)

@@ -28,11 +28,19 @@ above_more : {p : Program} {u v : ℕ} → Sub p u v → (d : Declaration) → A
 above_more s (an_interface (extends a b)) (inl x) = inl (T-SUB-TRANS x s)
 above_more s (an_interface (extends a b)) (inr x) = inr (T-SUB-TRANS x s)
 above_more s (a_class c) x = T-SUB-TRANS x s
+above_more {p = p} {u = u} {v = v} s a_unit x = elim x [ ]
+above_more {p = p} {u = u} {v = v} s (an_interface (lists _)) x = elim x [ ]
+above_more {p = p} {u = u} {v = v} s an_int x = elim x [ ]
+above_more {p = p} {u = u} {v = v} s no_type x = elim x [ ]
 
 above_sub : {p : Program} {t u : ℕ} (d : Declaration) → declaration_at p t ≡ d → Above p u d → Sub p t u
 above_sub (an_interface (extends a b)) e (inl x) = T-SUB-TRANS (T-SUB-INTERFACE-LEFT e) x
 above_sub (an_interface (extends a b)) e (inr x) = T-SUB-TRANS (T-SUB-INTERFACE-RIGHT e) x
 above_sub (a_class c) e x = T-SUB-TRANS (T-SUB-CLASS e) x
+above_sub {p = p} {t = t} {u = u} a_unit e x = elim x [ ]
+above_sub {p = p} {t = t} {u = u} (an_interface (lists _)) e x = elim x [ ]
+above_sub {p = p} {t = t} {u = u} an_int e x = elim x [ ]
+above_sub {p = p} {t = t} {u = u} no_type e x = elim x [ ]
 
 module _ (p : Program) (ok : Regular p) where
   -- Both sides of a subtyping are types.

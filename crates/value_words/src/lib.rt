@@ -1,4 +1,6 @@
 // The words of a value.
+#![tactic(auto)]
+
 ghost use Rattle.std.specs.Prelude.{◌≡◌};
 ghost use Rattle.block.specs.Values.{value_words};
 

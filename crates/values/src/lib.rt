@@ -1,4 +1,6 @@
 // Questions 21 and 26 in code, the values: do those of objects and bindings fit?
+#![tactic(auto)]
+
 mod stores;
 mod wants;
 

@@ -1,10 +1,13 @@
 // What a word is: one that the grammar spells out, or a name.
+#![tactic(auto)]
+
 ghost use Rattle.std.specs.Prelude.{◌≡◌, ◌+◌, ◌*◌, ◌%◌, ◌≤◌, ◌<◌, length, drop};
 ghost use Rattle.std.proofs.Math.Seq.{slice};
 ghost use Rattle.grammar.specs.Tokens.{fixed_words};
 ghost use Rattle.word_kinds.specs.Kind.{K_NAME, token_kind};
 ghost use Rattle.word_kinds.specs.Runs.{word_from};
-ghost use Rattle.word_kinds.specs.Words.{word_lexeme, WordAt, LONGEST, WORD_SLOTS, RADIX, word_code, fixed_at, SpelledIs};
+ghost use Rattle.word_kinds.specs.Words.{word_lexeme, WordAt, WORD_SLOTS, word_code, fixed_at, SpelledIs};
+ghost use Rattle.word_kinds.specs.Words as words_spec;
 
 // The kind of a name: a word or sign that the grammar spells out has its number, below it.
 pub const NAME: u8 = 28;
@@ -18,14 +21,14 @@ const RADIX: u64 = 128;
 
 // The constants and the definitions are the same numbers.
 pub fn agreed()
-    ensures* do_value { do ⌜ (← (⟦NAME⟧).entry) ≡ K_NAME ⌝ }
-    ensures* do_value_2 { do ⌜ (← (⟦LONGEST⟧).entry) ≡ LONGEST ⌝ }
-    ensures* do_value_3 { do ⌜ (← (⟦SLOTS⟧).entry) ≡ WORD_SLOTS ⌝ }
-    ensures* do_value_4 { do ⌜ (← (⟦RADIX⟧).entry) ≡ RADIX ⌝ }
+    ensures name { NAME ≡ K_NAME }
+    ensures longest { LONGEST ≡ words_spec.LONGEST }
+    ensures slots { SLOTS ≡ WORD_SLOTS }
+    ensures radix { RADIX ≡ words_spec.RADIX }
 {}
 
 // A word that the grammar spells out: its number, its key, and the code of the bytes behind its first one.
-#[derive(Drop)]
+#[derive(Clone, Copy)]
 struct Spelled(u8, usize, u64);
 
 // The code of the bytes from `start` to `end`, which are few enough that it fits.

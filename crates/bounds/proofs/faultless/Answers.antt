@@ -1,0 +1,7 @@
+use mathlib.Core.Path.{refl}
+use Rattle.bounds.proofs.Counters.{by_name}
+use Rattle.bounds.proofs.faultless.Goals as goal
+
+pub returns : goal.returns
+returns c =
+    (refl, by_name _ c.args.counts.now)

@@ -1,0 +1,10 @@
+use Rattle.check_call.proofs.CheckReplies.{lent}
+use Rattle.check_call.proofs.ask_script.Goals as goal
+
+pub check_script-requires : goal.check_script-requires
+check_script-requires c =
+    lent
+
+pub returns : goal.returns
+returns c =
+    let told = c.check_script.ensures in record { number = told.0; place = told.1.0; start_type = told.1.1.0 }

@@ -1,0 +1,21 @@
+use mathlib.Core.Path.{refl}
+use native.Mathlib.Omega.{arith}
+use Rattle.awaited.proofs.ReadyLaws as ready
+use Rattle.frames.proofs.StepLaws as laws
+use Rattle.frames.proofs.frames.node_fits.Goals as goal
+
+pub returns-then-count_of-n : goal.returns-then-count_of-n
+returns-then-count_of-n c =
+    record { value = laws.node_outside _ _ _ _ c.args.want (omega arith); table_unchanged = refl }
+
+pub returns-then-count-e : goal.returns-then-count-e
+returns-then-count-e c =
+    record { value = laws.node_unbound _ _ _ _ c.args.want (omega arith); table_unchanged = refl }
+
+pub infer_under-g-requires : goal.infer_under-g-requires
+infer_under-g-requires c =
+    record { empty_env = (c.requires.blank, omega arith); chain = (ready.chain c.requires _ (omega arith), ready.typed c.requires, ready.well c.requires _) }
+
+pub returns : goal.returns
+returns c =
+    record { value = laws.node_gives _ _ _ _ c.args.want (omega arith) (omega arith) _ c.infer_under-g.ensures.given_in _ c.given_meets.ensures; table_unchanged = c.infer_under-g.ensures.table_unchanged }

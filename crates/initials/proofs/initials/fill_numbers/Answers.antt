@@ -1,0 +1,48 @@
+use mathlib.Core.Path.{sym, ◌∙◌}
+use mathlib.Core.Logic.{⊎_elim}
+use native.Mathlib.Omega.{arith}
+use Rattle.script.specs.declared.Section.TheVariants.{Fields as fields}
+use Rattle.subtypes.proofs.SubtypeLaws.{laid}
+use Rattle.initials.proofs.InitialLaws as laws
+use Rattle.initials.proofs.initials.fill_numbers.Goals as goal
+
+pub loop-k-init : goal.loop-k-init
+loop-k-init c =
+    (omega arith, laws.started)
+
+pub overflow_add-from : goal.overflow_add-from
+overflow_add-from c =
+    omega (arith, c.requires.0.counts_are.within fields)
+
+pub record_word-requires : goal.record_word-requires
+record_word-requires c =
+    (laid c.requires.0, omega arith, omega arith)
+
+pub put_field-requires : goal.put_field-requires
+put_field-requires c =
+    (laws.started_long c.loop-k.invariant.1 c.requires.3, c.requires.3.room, omega arith)
+
+pub overflow_add-k : goal.overflow_add-k
+overflow_add-k c =
+    omega arith
+
+pub loop-k-smaller : goal.loop-k-smaller
+loop-k-smaller c =
+    omega arith
+
+pub loop-k-preserved : goal.loop-k-preserved
+loop-k-preserved c = (
+  omega arith,
+  ⊎_elim
+      (λ w. rw w.5 (laws.starts_zero c.loop-k.invariant.1 _ _ (omega arith) c.record_word.ensures.0 c.int_of-int.ensures.0 w.0.taken w.2.ensures))
+      (λ w. rw w.1 (laws.stays_null c.loop-k.invariant.1 _ _ (omega arith) c.record_word.ensures.0 c.int_of-int.ensures.0 w.0.left))
+      c.if-record_word-int.branch,
+)
+
+pub shape_of-block : goal.shape_of-block
+shape_of-block c =
+    laws.started_long c.loop-k.invariant.1 c.requires.3 ∙ sym (laws.new_long c.requires.3)
+
+pub returns : goal.returns
+returns c =
+    laws.all_started c.loop-k.invariant.1 (omega arith)

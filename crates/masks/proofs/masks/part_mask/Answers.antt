@@ -1,0 +1,5 @@
+use Rattle.masks.proofs.masks.part_mask.Goals as goal
+
+pub returns : goal.returns
+returns c =
+    rw c.node_index-p.ensures.0

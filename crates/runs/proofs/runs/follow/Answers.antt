@@ -1,0 +1,49 @@
+use native.Mathlib.Omega.{arith}
+use mathlib.Core.Path.{refl, ap, ◌∙◌}
+use lib.ListN.{length}
+use Rattle.runs.proofs.RunLaws as laws
+use Rattle.runs.proofs.runs.follow.Goals as goal
+
+pub loop-read-init : goal.loop-read-init
+loop-read-init c =
+    (refl, refl, laws.loop_begun c.requires.choices_len_bound.1)
+
+pub take_choice-taken-requires : goal.take_choice-taken-requires
+take_choice-taken-requires c =
+    (rw c.loop-read.invariant.0 c.requires.empty_env.0, laws.loop_standing c.loop-read.invariant.2 c.requires.empty_env.1)
+
+pub overflow_add-read : goal.overflow_add-read
+overflow_add-read c =
+    omega (arith, c.loop-read.invariant.2.few, c.requires.choices_len_bound.0)
+
+pub overflow_add-moves : goal.overflow_add-moves
+overflow_add-moves c =
+    omega (arith, c.loop-read.invariant.2.fewer, c.loop-read.invariant.2.few, c.take_choice-taken.ensures.table_unchanged.1, c.requires.choices_len_bound.0)
+
+pub shape_of-table-in-Stops : goal.shape_of-table-in-Stops
+shape_of-table-in-Stops c =
+    ap length (c.take_choice-taken.ensures.table_unchanged.0 ∙ c.loop-read.invariant.0)
+
+pub shape_of-block-in-Stops : goal.shape_of-block-in-Stops
+shape_of-block-in-Stops c =
+    omega (arith, c.loop-read.invariant.1)
+
+pub returns-in-Stops : goal.returns-in-Stops
+returns-in-Stops c =
+    let told = rw c.ran.ensures ((λ x. laws.loop_stops c.loop-read.invariant.2 (omega arith) c.take_choice-taken.ensures.table_unchanged.1 _ c.wide-n.ensures c.take_choice-taken.ensures.taken_as _ c.in-Stops.is x, (omega arith, omega (arith, c.loop-read.invariant.2.fewer, c.take_choice-taken.ensures.table_unchanged.1)))) in record { ran_as = told.0; read_in_bounds = told.1 }
+
+pub loop-read-preserved : goal.loop-read-preserved
+loop-read-preserved c =
+    (c.take_choice-taken.ensures.table_unchanged.0 ∙ c.loop-read.invariant.0, omega (arith, c.loop-read.invariant.1), laws.loop_more c.loop-read.invariant.2 (omega arith) c.take_choice-taken.ensures.table_unchanged.1 _ c.wide-n.ensures c.take_choice-taken.ensures.taken_as c.in_default.is)
+
+pub shape_of-table : goal.shape_of-table
+shape_of-table c =
+    ap length c.loop-read.invariant.0
+
+pub shape_of-block : goal.shape_of-block
+shape_of-block c =
+    c.loop-read.invariant.1
+
+pub returns : goal.returns
+returns c =
+    let told = rw c.ran-2.ensures ((λ x. laws.loop_spent c.loop-read.invariant.2 (omega arith) x, (c.loop-read.invariant.2.few, c.loop-read.invariant.2.fewer))) in record { ran_as = told.0; read_in_bounds = told.1 }

@@ -1,0 +1,11 @@
+use native.Mathlib.Omega.{arith}
+use Rattle.runs.proofs.RunLaws as laws
+use Rattle.runs.proofs.runs.run_choices.Goals as goal
+
+pub returns-in-Ends : goal.returns-in-Ends
+returns-in-Ends c =
+    let told = rw c.ran.ensures (λ x. laws.ended_first x _ _ _ (c.look-how.ensures x) c.in-Ends.is, (omega arith, omega arith)) in record { ran_as = told.0; read_in_bounds = told.1 }
+
+pub follow-requires : goal.follow-requires
+follow-requires c =
+    let pre = c.requires in record { empty_env = pre.0; choices_len_bound = pre.1; config_value = λ x. laws.look_on _ _ (c.look-how.ensures x) c.in_default.is }

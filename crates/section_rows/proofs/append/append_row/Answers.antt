@@ -1,0 +1,13 @@
+use mathlib.Core.Path.{ap}
+use native.Mathlib.Omega.{arith}
+use lib.ListN.{length}
+use Rattle.section_rows.proofs.AppendLaws.{shown, appended_as}
+use Rattle.section_rows.proofs.append.append_row.Goals as goal
+
+pub put_row-requires : goal.put_row-requires
+put_row-requires c =
+    let q = c.requires in omega (arith, q.1.1.1, ap length (c.row_at-row.ensures _ (shown q.0.0) q.1.1.0))
+
+pub returns : goal.returns
+returns c =
+    let q = c.requires in appended_as (c.row_at-row.ensures _ (shown q.0.0) q.1.1.0) c.put_row.ensures

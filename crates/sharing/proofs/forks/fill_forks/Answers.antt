@@ -1,0 +1,16 @@
+use mathlib.Core.Path.{refl}
+use borrow.Author.Tests.{not-true}
+use Rattle.sharing.proofs.SpanLaws.{marks_none, no_forks}
+use Rattle.sharing.proofs.forks.fill_forks.Goals as goal
+
+pub returns-then-not-has_fork : goal.returns-then-not-has_fork
+returns-then-not-has_fork c =
+    no_forks _ _ _ c.requires.1 c.requires.2 (c.has_fork.ensures (not-true _ c.if-not-has_fork.true))
+
+pub fill_spans-requires : goal.fill_spans-requires
+fill_spans-requires c =
+    (c.requires.0, refl, c.requires.1, c.requires.2, marks_none _ c.requires.0 _ c.requires.3)
+
+pub returns : goal.returns
+returns c =
+    c.fill_spans.ensures

@@ -1,0 +1,10 @@
+use native.Mathlib.Omega.{arith}
+use Rattle.silent.proofs.larger.Goals as goal
+
+pub returns-then-a-b : goal.returns-then-a-b
+returns-then-a-b c =
+    omega arith
+
+pub returns : goal.returns
+returns c =
+    omega arith

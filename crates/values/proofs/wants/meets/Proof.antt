@@ -1,9 +1,0 @@
-use borrow.Author.Rules.{rules}
-use Rattle.values.proofs.wants.meets.Statement.{statement}
-use Rattle.values.proofs.wants.meets.Tie as tie
-
-returns-2 : tie.Need-returns-2
-returns-2 c = rw c.before.before.want.given.1 c.is_below.ensures
-
-pub meets-spec : {M : Type 1} → statement M
-meets-spec = tie.close (tie.spec (λ c. search rules) (λ c. search rules) (λ c κs. search rules) (λ c. search rules) returns-2)
