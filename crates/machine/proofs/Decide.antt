@@ -297,6 +297,15 @@ module _ {s : Code} {start : ℕ} (acc : AcceptedCode s start) where
       rw (type_in_lem h, (field_in_lem s.program acc.regular c f t).1 d, yes_said (decides_meets 0 v (omega arith)) m)
   awaited_complete {v = v} i (n_call x o a) env wt y (a_call {c = c} {u = u} h d m) =
       rw (type_in_lem h, method_only s.program acc.regular (rules_function acc.typed) c _ d, yes_said (decides_meets u v (signature_types s.program acc.regular d).result) m)
+  awaited_complete {Γ = Γ} {t = t} {v = v} i n_null env wt y x4 = elim x4 [ ]
+  awaited_complete {Γ = Γ} {t = t} {v = v} i (n_var _) env wt y x6 = elim x6 [ ]
+  awaited_complete {Γ = Γ} {t = t} {v = v} i (n_select _ _) env wt y x8 = elim x8 [ ]
+  awaited_complete {Γ = Γ} {t = t} {v = v} i (n_new _) env wt y x8 = elim x8 [ ]
+  awaited_complete {Γ = Γ} {t = t} {v = v} i (n_cast _ _) env wt y x10 = elim x10 [ ]
+  awaited_complete {Γ = Γ} {t = t} {v = v} i (n_fork _ _ _) env wt y x12 = elim x12 [ ]
+  awaited_complete {Γ = Γ} {t = t} {v = v} i (n_lock _ _) env wt y x12 = elim x12 [ ]
+  awaited_complete {Γ = Γ} {t = t} {v = v} i (n_constant _) env wt y x12 = elim x12 [ ]
+  awaited_complete {Γ = Γ} {t = t} {v = v} i (n_add _ _) env wt y x14 = elim x14 [ ]
 
   -- frames
   cast_type_lem : (n a : Point) (t : ℕ) → n < s.size → s.view n ≡ n_cast t a → IsType s.program t
@@ -306,6 +315,15 @@ module _ {s : Code} {start : ℕ} (acc : AcceptedCode s start) where
   awaits_type (n_bind x a b) (a_let h g) = infer_type s.program acc.regular h
   awaits_type (n_update x f a) (a_write h d m) = field_type s.program acc.regular d
   awaits_type (n_call x o a) (a_call h d m) = (signature_types s.program acc.regular d).param
+  awaits_type {Γ = Γ} {t = t} {v = v} n_null x' = elim x' [ ]
+  awaits_type {Γ = Γ} {t = t} {v = v} (n_var _) x3 = elim x3 [ ]
+  awaits_type {Γ = Γ} {t = t} {v = v} (n_select _ _) x5 = elim x5 [ ]
+  awaits_type {Γ = Γ} {t = t} {v = v} (n_new _) x5 = elim x5 [ ]
+  awaits_type {Γ = Γ} {t = t} {v = v} (n_cast _ _) x7 = elim x7 [ ]
+  awaits_type {Γ = Γ} {t = t} {v = v} (n_fork _ _ _) x9 = elim x9 [ ]
+  awaits_type {Γ = Γ} {t = t} {v = v} (n_lock _ _) x9 = elim x9 [ ]
+  awaits_type {Γ = Γ} {t = t} {v = v} (n_constant _) x9 = elim x9 [ ]
+  awaits_type {Γ = Γ} {t = t} {v = v} (n_add _ _) x11 = elim x11 [ ]
 
   module _ (bs : List Binding) (env : (e : ℕ) → WfEnv s.program (context bs e)) where
     frames_type : {w u : Want} {fs : List Frame} → WantType w → FramesOk s bs w fs u → WantType u

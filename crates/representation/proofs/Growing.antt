@@ -188,3 +188,5 @@ grown (r ∷ rs) fs (suc n) (one_join k t) wide ok said enough =
     grown rs fs (suc (suc n)) t (λ i h. wide (suc i) (omega arith)) (λ i h. ok (suc i) (omega arith)) (λ i h. said (suc i) (omega arith)) (omega arith)
     in
     with_join r rs fs (wide 0 (omega arith)) (ok 0 (omega arith)) (omega (arith, g.frames_left)) n (forest rs fs).trees refl g k
+grown [] fs (suc n) x10 wide ok said enough = elim x10 [ ]
+grown (r ∷ rs) fs zero x7 wide ok said enough = elim x7 [ ]

@@ -47,7 +47,18 @@ module _ {s : Code} {start : ℕ} {st : Stores} (acc : AcceptedCode s start) (ok
   pub field_there : {w : Want} {t : Tree} (f : ℕ) (y : Object) → TreeOk s st w t → AsksField s st f y t → (u : ℕ) × FieldIn s.program y.class f u
   field_there f y (running_ok {v = v} le k r) (reads {a = a} {x = x} {e = e} i g) = select_there f y x e v g (rw (acc.built a k.node, i) at k.gives)
   field_there f y (returning_ok k (a_node z le h r)) (writes {x = x} {e = e} i g) = update_there f y x e g (rw i at h)
+  field_there {w = w} f y (returning_ok k Rattle.machine.specs.WellFormed.no_frames) x12 = elim x12 [ ]
+  field_there {w = w} f y (returning_ok k (Rattle.machine.specs.WellFormed.a_cast {n = n} {a = a} {t = t} {fs = fs} {v = v} _ _ _ _)) x25 = elim x25 [ ]
+  field_there {w = w} f y (returning_ok {v = v} k (Rattle.machine.specs.WellFormed.a_lock {o = o} {fs = fs} _)) x17 = elim x17 [ ]
+  field_there {w = w} f y Rattle.machine.specs.WellFormed.failed_ok x5 = elim x5 [ ]
+  field_there {w = w} f y (Rattle.machine.specs.WellFormed.join_ok {v = v} {a = a} {e = e} {fs = fs} {l = l} {r = r} _ _ _ _ _) x21 = elim x21 [ ]
 
   -- Every waiting call due on an object names a method that its class has.
   pub method_there : {w : Want} {t : Tree} (m : ℕ) (y : Object) → TreeOk s st w t → AsksMethod s st m y t → (t u : ℕ) × MsigIn s.program y.class (record { name = m; param = t; result = u })
   method_there m y (returning_ok k (a_node z le h r)) (invokes {x = x} {e = e} i q) = call_there m y x e q (rw i at h)
+  method_there {w = w} m y (running_ok {v = v} {a = a} {e = e} {fs = fs} _ _ _) x13 = elim x13 [ ]
+  method_there {w = w} m y (returning_ok k Rattle.machine.specs.WellFormed.no_frames) x13 = elim x13 [ ]
+  method_there {w = w} m y (returning_ok k (Rattle.machine.specs.WellFormed.a_cast {n = n} {a = a} {t = t} {fs = fs} {v = v} _ _ _ _)) x26 = elim x26 [ ]
+  method_there {w = w} m y (returning_ok {v = v} k (Rattle.machine.specs.WellFormed.a_lock {o = o} {fs = fs} _)) x18 = elim x18 [ ]
+  method_there {w = w} m y Rattle.machine.specs.WellFormed.failed_ok x6 = elim x6 [ ]
+  method_there {w = w} m y (Rattle.machine.specs.WellFormed.join_ok {v = v} {a = a} {e = e} {fs = fs} {l = l} {r = r} _ _ _ _ _) x22 = elim x22 [ ]

@@ -300,6 +300,15 @@ module _ {s : Code} {w : Want} {st : Stores} (ok : StoresOk s st) where
         target_good acc e y c (update_object s st fs f x) (field_no_int d) (type_in_lem h) (λ o z g i b. update_there f e c t fs v d m r l o z i b)
     wake_good e t fs v le (n_call y n a) j k (a_call {c = c} {u = u} h d m) r l =
         target_good acc e y c (call_object s st fs n x room.bindings) (method_no_int d) (type_in_lem h) (λ o z g i b. call_there n e c t u fs v d m r l o z i b)
+    wake_good {Q = Q} e t fs v le n_null j k x6 r f = elim x6 [ ]
+    wake_good {Q = Q} e t fs v le (n_var _) j k x8 r f = elim x8 [ ]
+    wake_good {Q = Q} e t fs v le (n_select _ _) j k x10 r f = elim x10 [ ]
+    wake_good {Q = Q} e t fs v le (n_new _) j k x10 r f = elim x10 [ ]
+    wake_good {Q = Q} e t fs v le (n_cast _ _) j k x12 r f = elim x12 [ ]
+    wake_good {Q = Q} e t fs v le (n_fork _ _ _) j k x14 r f = elim x14 [ ]
+    wake_good {Q = Q} e t fs v le (n_lock _ _) j k x14 r f = elim x14 [ ]
+    wake_good {Q = Q} e t fs v le (n_constant _) j k x14 r f = elim x14 [ ]
+    wake_good {Q = Q} e t fs v le (n_add _ _) j k x16 r f = elim x16 [ ]
 
   module _ {start : ℕ} (acc : AcceptedCode s start) (room : Places) (x : Value) where
     pub resume_good : (fs : List Frame) (v : Want) → FramesOk s st.bindings w fs v → ValueFits s st.objects x v

@@ -36,5 +36,5 @@ returns-in-3 c =
 
 pub returns-in_default : goal.returns-in_default
 returns-in_default c =
-    let r = c.in_default.rest in
+    let r = c.in_default.in_default-own.rest in
     (other_role_lem _ c.if-role-ge-NULL.false r.0.0.0.0.1 r.0.0.0.1 r.0.0.1 r.0.1 r.1, omega arith)

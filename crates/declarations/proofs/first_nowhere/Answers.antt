@@ -5,6 +5,8 @@ use native.Mathlib.Omega.{arith}
 use Rattle.numbering.proofs.Chains.{follows}
 use Rattle.numbering.proofs.NumberLaws.{room_still}
 use Rattle.declarations.proofs.Asking.{asking_first, asking_end, asking_stop, asking_next}
+use mathlib.Core.Path.{ap}
+use mathlib.Core.Bool.{not}
 use Rattle.declarations.proofs.first_nowhere.Goals as goal
 
 pub loop-i-init : goal.loop-i-init
@@ -21,7 +23,7 @@ shape_of-values-then-not-type_token c =
 
 pub returns-then-not-type_token : goal.returns-then-not-type_token
 returns-then-not-type_token c =
-    asking_stop _ _ _ _ _ _ _ _ _ c.requires.token_arrays _ _ c.loop-i.invariant.0 c.loop-i-test.true _ _ c.type_token.ensures c.if-not-type_token.true
+    asking_stop _ _ _ _ _ _ _ _ _ c.requires.token_arrays _ _ c.loop-i.invariant.0 c.loop-i-test.true _ _ c.type_token.ensures (ap not c.if-not-type_token.true)
 
 pub next_in-i-requires : goal.next_in-i-requires
 next_in-i-requires c =
@@ -38,7 +40,7 @@ loop-i-preserved c =
     let loop = c.loop-i in
     let test = c.loop-i-test in
     let told = c.type_token in
-    asking_next _ _ _ _ _ _ _ _ _ pre.0 _ _ loop.invariant.0 test.true _ _ told.ensures c.if-not-type_token.false told.auto.1.1.1.1.1.0
+    asking_next _ _ _ _ _ _ _ _ _ pre.0 _ _ loop.invariant.0 test.true _ _ told.ensures (ap not c.if-not-type_token.false) told.auto.1.1.1.1.1.0
     (follows pre.1.1.0 test.true (loop.invariant.1 test.true) c.next_in-i.ensures)
 
 pub shape_of-values : goal.shape_of-values

@@ -37,4 +37,4 @@ returns-in-10 c =
 
 pub returns-in_default : goal.returns-in_default
 returns-in_default c =
-    let r = c.in_default.rest in count_rest c.requires _ c.record_word-kind.ensures.0 r.0.0.0.0.0.1 r.0.0.0.0.1 r.0.0.0.1 r.0.0.1 r.0.1 r.1
+    let r = c.in_default.in_default-own.rest in count_rest c.requires _ c.record_word-kind.ensures.0 r.0.0.0.0.0.1 r.0.0.0.0.1 r.0.0.0.1 r.0.0.1 r.0.1 r.1

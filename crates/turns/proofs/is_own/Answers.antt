@@ -6,6 +6,8 @@ use Rattle.tokens.specs.Runs.{word_from}
 use borrow.Author.Tests.{not-true, not-false}
 use Rattle.turns.proofs.TurnLaws.{own_not, own_hidden, own_same}
 use borrow.Author.Rules.{rules}
+use mathlib.Core.Path.{ap}
+use mathlib.Core.Bool.{not}
 use Rattle.turns.proofs.is_own.Goals as goal
 
 pub returns-then-t-ne-NAME : goal.returns-then-t-ne-NAME
@@ -14,7 +16,7 @@ returns-then-t-ne-NAME c =
 
 pub returns-then-not-visible : goal.returns-then-not-visible
 returns-then-not-visible c =
-    own_hidden _ _ _ _ c.if-t-ne-NAME.false (not-true _ c.if-not-visible.true)
+    own_hidden _ _ _ _ c.if-t-ne-NAME.false (not-true _ (ap not c.if-not-visible.true))
 
 pub overflow_sub-t : goal.overflow_sub-t
 overflow_sub-t c =
@@ -28,4 +30,4 @@ is_name-requires c =
 
 pub returns : goal.returns
 returns c =
-    own_same _ _ _ _ _ c.if-t-ne-NAME.false (not-false _ c.if-not-visible.false) c.is_name.ensures
+    own_same _ _ _ _ _ c.if-t-ne-NAME.false (not-false _ (ap not c.if-not-visible.false)) c.is_name.ensures

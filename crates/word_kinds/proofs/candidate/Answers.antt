@@ -83,5 +83,5 @@ pub returns-in_default : goal.returns-in_default
 unfolding fixed_at fixed_words word_code
 returns-in_default c =
     let x = c.args.slot in
-    let r = c.in_default.rest in
+    let r = c.in_default.in_default-own.rest in
     rw (ne_eqb x 19 r.0.0.0.0.0.0.0.0.0.0.0.0.0.0.1, ne_eqb x 11 r.0.0.0.0.0.0.0.0.0.0.0.0.0.1, ne_eqb x 9 r.0.0.0.0.0.0.0.0.0.0.0.0.1, ne_eqb x 15 r.0.0.0.0.0.0.0.0.0.0.0.1, ne_eqb x 16 r.0.0.0.0.0.0.0.0.0.0.1, ne_eqb x 20 r.0.0.0.0.0.0.0.0.0.1, ne_eqb x 5 r.0.0.0.0.0.0.0.0.1, ne_eqb x 28 r.0.0.0.0.0.0.0.1, ne_eqb x 22 r.0.0.0.0.0.0.1, ne_eqb x 7 r.0.0.0.0.0.1, ne_eqb x 2 r.0.0.0.0.1, ne_eqb x 6 r.0.0.0.1, ne_eqb x 29 r.0.0.1, ne_eqb x 17 r.0.1, ne_eqb x 26 r.1) (record { kind_is = refl; key_is = refl; rest_is = refl })

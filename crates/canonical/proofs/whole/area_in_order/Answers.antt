@@ -1,6 +1,8 @@
 use native.Mathlib.Omega.{arith}
 use Rattle.machine.specs.Machine.{field_count}
 use Rattle.canonical.proofs.WholeLaws as laws
+use mathlib.Core.Path.{ap}
+use mathlib.Core.Bool.{not}
 use Rattle.canonical.proofs.whole.area_in_order.Goals as goal
 
 pub returns-then-all-n : goal.returns-then-all-n
@@ -13,7 +15,7 @@ records_in_order-requires c =
 
 pub returns-then-not-records_in_order : goal.returns-then-not-records_in_order
 returns-then-not-records_in_order c =
-    laws.bad_record (field_count c.args.s.now) _ _ _ _ c.count-n.ensures.0 c.most_of-all.ensures c.records_in_order.ensures c.if-not-records_in_order.true
+    laws.bad_record (field_count c.args.s.now) _ _ _ _ c.count-n.ensures.0 c.most_of-all.ensures c.records_in_order.ensures (ap not c.if-not-records_in_order.true)
 
 pub blank-requires : goal.blank-requires
 blank-requires c =
@@ -21,4 +23,4 @@ blank-requires c =
 
 pub returns : goal.returns
 returns c =
-    laws.area_asked (field_count c.args.s.now) _ _ _ _ c.count-n.ensures.0 c.most_of-all.ensures c.records_in_order.ensures (omega arith) c.if-not-records_in_order.false c.blank.ensures
+    laws.area_asked (field_count c.args.s.now) _ _ _ _ c.count-n.ensures.0 c.most_of-all.ensures c.records_in_order.ensures (omega arith) (ap not c.if-not-records_in_order.false) c.blank.ensures

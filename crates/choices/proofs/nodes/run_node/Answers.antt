@@ -51,4 +51,4 @@ returns-in-11 c =
 
 pub returns-in_default : goal.returns-in_default
 returns-in_default c =
-    λ c₀ p rest fs own h. laws.at_null _ c₀ p fs _ _ (record { kind_is = c.node_word-kind.ensures.0; first = c.node_word-x.ensures.0; second = c.node_word-y.ensures.0; third = c.node_word-z.ensures.0 }) c.in_default.rest.0.0.0.0.0.0.0.0.0.0.1 c.in_default.rest.0.0.0.0.0.0.0.0.0.1 c.in_default.rest.0.0.0.0.0.0.0.0.1 c.in_default.rest.0.0.0.0.0.0.0.1 c.in_default.rest.0.0.0.0.0.0.1 c.in_default.rest.0.0.0.0.0.1 c.in_default.rest.0.0.0.0.1 c.in_default.rest.0.0.0.1 c.in_default.rest.0.0.1 c.in_default.rest.0.1 c.in_default.rest.1 (c.become_null.ensures rest c₀.stores _ _ fs h.seen)
+    λ c₀ p rest fs own h. laws.at_null _ c₀ p fs _ _ (record { kind_is = c.node_word-kind.ensures.0; first = c.node_word-x.ensures.0; second = c.node_word-y.ensures.0; third = c.node_word-z.ensures.0 }) c.in_default.in_default-own.rest.0.0.0.0.0.0.0.0.0.0.1 c.in_default.in_default-own.rest.0.0.0.0.0.0.0.0.0.1 c.in_default.in_default-own.rest.0.0.0.0.0.0.0.0.1 c.in_default.in_default-own.rest.0.0.0.0.0.0.0.1 c.in_default.in_default-own.rest.0.0.0.0.0.0.1 c.in_default.in_default-own.rest.0.0.0.0.0.1 c.in_default.in_default-own.rest.0.0.0.0.1 c.in_default.in_default-own.rest.0.0.0.1 c.in_default.in_default-own.rest.0.0.1 c.in_default.in_default-own.rest.0.1 c.in_default.in_default-own.rest.1 (c.become_null.ensures rest c₀.stores _ _ fs h.seen)

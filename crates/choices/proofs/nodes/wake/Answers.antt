@@ -24,4 +24,4 @@ returns-in-5 c =
 
 pub returns-in_default : goal.returns-in_default
 returns-in_default c =
-    record { wakes = λ c₀ p rest g fs own h. performs_as (laws.wakes_none _ c₀ _ fs _ _ (record { kind_is = c.node_word-kind.ensures.0; first = c.node_word-x.ensures.0; second = c.node_word-y.ensures.0; third = c.node_word-z.ensures.0 }) c.in_default.rest.0.0.1 c.in_default.rest.0.1 c.in_default.rest.1) performs_still; table_unchanged = refl }
+    record { wakes = λ c₀ p rest g fs own h. performs_as (laws.wakes_none _ c₀ _ fs _ _ (record { kind_is = c.node_word-kind.ensures.0; first = c.node_word-x.ensures.0; second = c.node_word-y.ensures.0; third = c.node_word-z.ensures.0 }) c.in_default.in_default-own.rest.0.0.1 c.in_default.in_default-own.rest.0.1 c.in_default.in_default-own.rest.1) performs_still; table_unchanged = refl }

@@ -3,6 +3,8 @@ use native.Mathlib.Omega.{arith}
 use borrow.Author.Tests.{not-false}
 use Rattle.script.proofs.Tests.{true_false}
 use Rattle.environments.proofs.ScopeLaws as laws
+use mathlib.Core.Path.{ap}
+use mathlib.Core.Bool.{not}
 use Rattle.environments.proofs.scopes.same_scope.Goals as goal
 
 pub loop-i-init : goal.loop-i-init
@@ -39,7 +41,7 @@ loop-i-smaller c =
 
 pub loop-i-preserved : goal.loop-i-preserved
 loop-i-preserved c =
-    laws.step_both c.requires.0 _ _ c.loop-i.invariant c.if-i-eq0.false c.if-j-eq0.false (c.same_slot.ensures (not-false _ c.if-not-same_slot.false)) c.word-i.ensures.0 c.word-j.ensures.0
+    laws.step_both c.requires.0 _ _ c.loop-i.invariant c.if-i-eq0.false c.if-j-eq0.false (c.same_slot.ensures (not-false _ (ap not c.if-not-same_slot.false))) c.word-i.ensures.0 c.word-j.ensures.0
 
 pub returns : goal.returns
 returns c =

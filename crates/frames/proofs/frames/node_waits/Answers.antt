@@ -13,4 +13,4 @@ call_waits-requires c =
 
 pub returns-in_default : goal.returns-in_default
 returns-in_default c =
-    record { waits_as = laws.waits_never _ _ _ _ _ c.node_word-kind.ensures.0 c.in_default.rest.0.0.1 c.in_default.rest.0.1 c.in_default.rest.1; table_unchanged = refl; remembers = c.requires.memo_ready.remembers }
+    record { waits_as = laws.waits_never _ _ _ _ _ c.node_word-kind.ensures.0 c.in_default.in_default-own.rest.0.0.1 c.in_default.in_default-own.rest.0.1 c.in_default.in_default-own.rest.1; table_unchanged = refl; remembers = c.requires.memo_ready.remembers }

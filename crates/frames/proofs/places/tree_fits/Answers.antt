@@ -6,6 +6,7 @@ use Rattle.memo.proofs.MemoLaws.{remembers_nothing}
 use Rattle.frames.proofs.PositionLaws.{place_there}
 use Rattle.awaited.proofs.ReadyLaws.{still_ready}
 use Rattle.frames.proofs.TreeLaws as laws
+use mathlib.Core.Bool.{not}
 use Rattle.frames.proofs.places.tree_fits.Goals as goal
 
 pub count-count-requires : goal.count-count-requires
@@ -26,7 +27,7 @@ shape_of-table-then-not-position_fits c =
 
 pub returns-then-not-position_fits : goal.returns-then-not-position_fits
 returns-then-not-position_fits c =
-    record { value = laws.pass_misfit c.requires c.loop-i.invariant.1 (omega (arith, c.loop-i.invariant.0)) _ c.position_fits.ensures.value (not-true _ c.if-not-position_fits.true); table_unchanged = c.position_fits.ensures.table_unchanged.0 ∙ c.loop-i.invariant.1.same }
+    record { value = laws.pass_misfit c.requires c.loop-i.invariant.1 (omega (arith, c.loop-i.invariant.0)) _ c.position_fits.ensures.value (not-true _ (ap not c.if-not-position_fits.true)); table_unchanged = c.position_fits.ensures.table_unchanged.0 ∙ c.loop-i.invariant.1.same }
 
 pub word-requires : goal.word-requires
 word-requires c =
@@ -38,7 +39,7 @@ overflow_add-from c =
 
 pub loop-i-preserved : goal.loop-i-preserved
 loop-i-preserved c =
-    (c.loop-i.invariant.0, laws.pass_more c.requires c.loop-i.invariant.1 (omega (arith, c.loop-i.invariant.0)) _ c.position_fits.ensures.value c.position_fits.ensures.table_unchanged.0 _ c.word.ensures.0 (not-false _ c.if-not-position_fits.false), c.position_fits.ensures.table_unchanged.1)
+    (c.loop-i.invariant.0, laws.pass_more c.requires c.loop-i.invariant.1 (omega (arith, c.loop-i.invariant.0)) _ c.position_fits.ensures.value c.position_fits.ensures.table_unchanged.0 _ c.word.ensures.0 (not-false _ (ap not c.if-not-position_fits.false)), c.position_fits.ensures.table_unchanged.1)
 
 pub shape_of-table : goal.shape_of-table
 shape_of-table c =

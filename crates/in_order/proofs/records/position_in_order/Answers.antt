@@ -1,4 +1,6 @@
 use Rattle.in_order.proofs.KindLaws as laws
+use mathlib.Core.Path.{ap}
+use mathlib.Core.Bool.{not}
 use Rattle.in_order.proofs.records.position_in_order.Goals as goal
 
 pub returns-then-kind-eq-RUNNING : goal.returns-then-kind-eq-RUNNING
@@ -7,11 +9,11 @@ returns-then-kind-eq-RUNNING c =
 
 pub returns-then-not-value_in_order : goal.returns-then-not-value_in_order
 returns-then-not-value_in_order c =
-    laws.value_refused _ _ _ c.word-kind.ensures.0 c.if-kind-eq-RETURNING.true c.value_in_order.ensures c.if-not-value_in_order.true
+    laws.value_refused _ _ _ c.word-kind.ensures.0 c.if-kind-eq-RETURNING.true c.value_in_order.ensures (ap not c.if-not-value_in_order.true)
 
 pub returns-then-kind-eq-RETURNING : goal.returns-then-kind-eq-RETURNING
 returns-then-kind-eq-RETURNING c =
-    laws.returning_asked _ _ _ c.word-kind.ensures.0 c.if-kind-eq-RETURNING.true c.value_in_order.ensures c.if-not-value_in_order.false c.unused-then-kind-eq-RETURNING.ensures
+    laws.returning_asked _ _ _ c.word-kind.ensures.0 c.if-kind-eq-RETURNING.true c.value_in_order.ensures (ap not c.if-not-value_in_order.false) c.unused-then-kind-eq-RETURNING.ensures
 
 pub returns-then-kind-eq-FAILED : goal.returns-then-kind-eq-FAILED
 returns-then-kind-eq-FAILED c =

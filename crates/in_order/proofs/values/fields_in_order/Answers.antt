@@ -1,5 +1,7 @@
 use native.Mathlib.Omega.{arith}
 use Rattle.in_order.proofs.ValueLaws as laws
+use mathlib.Core.Path.{ap}
+use mathlib.Core.Bool.{not}
 use Rattle.in_order.proofs.values.fields_in_order.Goals as goal
 
 pub loop-k-init : goal.loop-k-init
@@ -12,11 +14,11 @@ value_in_order-requires c =
 
 pub returns-then-not-value_in_order : goal.returns-then-not-value_in_order
 returns-then-not-value_in_order c =
-    laws.field_not _ _ (omega arith) c.value_in_order.ensures c.if-not-value_in_order.true
+    laws.field_not _ _ (omega arith) c.value_in_order.ensures (ap not c.if-not-value_in_order.true)
 
 pub loop-k-preserved : goal.loop-k-preserved
 loop-k-preserved c =
-    laws.field_more c.loop-k.invariant c.value_in_order.ensures c.if-not-value_in_order.false
+    laws.field_more c.loop-k.invariant c.value_in_order.ensures (ap not c.if-not-value_in_order.false)
 
 pub returns : goal.returns
 returns c =

@@ -3,6 +3,8 @@ use Rattle.interfaces.proofs.AgreementLaws.{passed_more, fault_here, fault_nowhe
 use Rattle.members.specs.Lookup.{join_by}
 use native.Mathlib.Omega.{arith}
 use mathlib.Core.Bool.{true}
+use mathlib.Core.Path.{ap}
+use mathlib.Core.Bool.{not}
 use Rattle.interfaces.proofs.agreement.lowest_join.Goals as goal
 
 pub loop-i-init : goal.loop-i-init
@@ -15,11 +17,11 @@ join_agrees-requires c =
 
 pub returns-then-not-join_agrees : goal.returns-then-not-join_agrees
 returns-then-not-join_agrees c =
-    λ m h. fault_here (join_by _ m) _ _ (c.loop-i.invariant.1 m h) _ c.loop-i-test.true (c.join_agrees.ensures m h) (not-true _ c.if-not-join_agrees.true)
+    λ m h. fault_here (join_by _ m) _ _ (c.loop-i.invariant.1 m h) _ c.loop-i-test.true (c.join_agrees.ensures m h) (not-true _ (ap not c.if-not-join_agrees.true))
 
 pub loop-i-preserved : goal.loop-i-preserved
 loop-i-preserved c =
-    (omega arith, λ m h. passed_more (join_by _ m) 0 _ (c.loop-i.invariant.1 m h) _ (c.join_agrees.ensures m h) (not-false _ c.if-not-join_agrees.false))
+    (omega arith, λ m h. passed_more (join_by _ m) 0 _ (c.loop-i.invariant.1 m h) _ (c.join_agrees.ensures m h) (not-false _ (ap not c.if-not-join_agrees.false)))
 
 pub returns : goal.returns
 returns c =

@@ -3,6 +3,8 @@ use borrow.Author.Tests.{not-false}
 use native.Mathlib.Omega.{arith}
 use Rattle.script.proofs.Tests.{true_false}
 use Rattle.interfaces.proofs.ClashLaws.{unclashed}
+use mathlib.Core.Path.{ap}
+use mathlib.Core.Bool.{not}
 use Rattle.interfaces.proofs.clashes.clashes.Goals as goal
 
 pub loop-j-init : goal.loop-j-init
@@ -19,7 +21,7 @@ returns-then-not-agrees c =
 
 pub loop-j-preserved : goal.loop-j-preserved
 loop-j-preserved c =
-    (omega arith, below_more _ _ c.loop-j.invariant.1 (λ l. c.agrees.ensures (not-false _ c.if-not-agrees.false)))
+    (omega arith, below_more _ _ c.loop-j.invariant.1 (λ l. c.agrees.ensures (not-false _ (ap not c.if-not-agrees.false))))
 
 pub returns : goal.returns
 returns c =

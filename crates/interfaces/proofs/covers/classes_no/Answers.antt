@@ -8,6 +8,8 @@ use Rattle.sections.proofs.Search.{search_start, search_pass, found_end, found_f
 use Rattle.typing.specs.Check.{class_test, classes_test}
 use Rattle.subtypes.proofs.SubtypeLaws.{laid}
 use Rattle.interfaces.proofs.CoverLaws.{class_test_lem}
+use mathlib.Core.Path.{ap}
+use mathlib.Core.Bool.{not}
 use Rattle.interfaces.proofs.covers.classes_no.Goals as goal
 
 -- What question 10 asks of a class.
@@ -29,11 +31,11 @@ record_at-requires c =
 pub returns-then-not-implements : goal.returns-then-not-implements
 unfolding classes_test
 returns-then-not-implements c =
-    lowest_here _ _ _ _ _ (found_fail (coversTest c.args.s.now) _ _ _ c.loop-c.invariant (omega (arith, c.count_of-n.ensures.0, c.loop-c-test.true)) (class_test_lem c.requires.0 c.requires.2 _ _ _ (omega (arith, c.count_of-n.ensures.0, c.loop-c-test.true)) c.implements.ensures (not-true _ c.if-not-implements.true))) c.record_at.ensures.0
+    lowest_here _ _ _ _ _ (found_fail (coversTest c.args.s.now) _ _ _ c.loop-c.invariant (omega (arith, c.count_of-n.ensures.0, c.loop-c-test.true)) (class_test_lem c.requires.0 c.requires.2 _ _ _ (omega (arith, c.count_of-n.ensures.0, c.loop-c-test.true)) c.implements.ensures (not-true _ (ap not c.if-not-implements.true)))) c.record_at.ensures.0
 
 pub loop-c-preserved : goal.loop-c-preserved
 loop-c-preserved c =
-    search_pass (coversTest c.args.s.now) _ _ _ c.loop-c.invariant (omega (arith, c.count_of-n.ensures.0, c.loop-c-test.true)) (class_test_lem c.requires.0 c.requires.2 _ _ _ (omega (arith, c.count_of-n.ensures.0, c.loop-c-test.true)) c.implements.ensures (not-false _ c.if-not-implements.false))
+    search_pass (coversTest c.args.s.now) _ _ _ c.loop-c.invariant (omega (arith, c.count_of-n.ensures.0, c.loop-c-test.true)) (class_test_lem c.requires.0 c.requires.2 _ _ _ (omega (arith, c.count_of-n.ensures.0, c.loop-c-test.true)) c.implements.ensures (not-false _ (ap not c.if-not-implements.false)))
 
 pub returns : goal.returns
 unfolding classes_test

@@ -7,6 +7,8 @@ use Rattle.script.proofs.Tests.{says_yes}
 use Rattle.subtypes.proofs.SubtypeLaws.{laid}
 use Rattle.members.proofs.LookupLaws.{own_ends, own_small, signatures_run}
 use Rattle.interfaces.proofs.CoverLaws.{list_no, list_yes}
+use mathlib.Core.Path.{ap}
+use mathlib.Core.Bool.{not}
 use Rattle.interfaces.proofs.covers.covers_list.Goals as goal
 
 pub offset_bounds-starts-i : goal.offset_bounds-starts-i
@@ -40,7 +42,7 @@ defines-requires c =
 pub returns-then-not-defines : goal.returns-then-not-defines
 returns-then-not-defines c =
     let pre = c.requires in
-    list_no _ _ _ pre.3 pre.4 _ _ (pre.1.signatures _ pre.3) c.own_count.ensures.0 _ _ c.loop-j.invariant.0 c.loop-j-test.true c.defines.ensures (not-true _ c.if-not-defines.true)
+    list_no _ _ _ pre.3 pre.4 _ _ (pre.1.signatures _ pre.3) c.own_count.ensures.0 _ _ c.loop-j.invariant.0 c.loop-j-test.true c.defines.ensures (not-true _ (ap not c.if-not-defines.true))
 
 pub overflow_add-j : goal.overflow_add-j
 overflow_add-j c =
@@ -48,7 +50,7 @@ overflow_add-j c =
 
 pub loop-j-preserved : goal.loop-j-preserved
 loop-j-preserved c =
-    (omega arith, below_more _ _ c.loop-j.invariant.1 (λ l. says_yes c.defines.ensures (not-false _ c.if-not-defines.false)))
+    (omega arith, below_more _ _ c.loop-j.invariant.1 (λ l. says_yes c.defines.ensures (not-false _ (ap not c.if-not-defines.false))))
 
 pub returns : goal.returns
 returns c =

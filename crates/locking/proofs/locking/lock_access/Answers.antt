@@ -4,6 +4,7 @@ use Rattle.representation.specs.Preorder.{frames_above}
 use Rattle.state.proofs.Seeing.{seen_length}
 use Rattle.moves.proofs.TargetLaws as targets
 use Rattle.locking.proofs.LockLaws as laws
+use mathlib.Core.List.{[]}
 use Rattle.locking.proofs.locking.lock_access.Goals as goal
 
 pub returns-in_default : goal.returns-in_default

@@ -1,5 +1,7 @@
 use native.Mathlib.Omega.{arith}
 use Rattle.locks.proofs.MarkLaws.{marking_no, marking_yes, marking_done}
+use mathlib.Core.Path.{ap}
+use mathlib.Core.Bool.{not}
 use Rattle.locks.proofs.locks.mark_frames.Goals as goal
 
 pub count-count-requires : goal.count-count-requires
@@ -16,11 +18,11 @@ mark_frame-requires c =
 
 pub returns-then-not-mark_frame : goal.returns-then-not-mark_frame
 returns-then-not-mark_frame c =
-    marking_no c.mark_frame.ensures c.if-not-mark_frame.true _ (omega (arith, c.count-count.ensures.0))
+    marking_no c.mark_frame.ensures (ap not c.if-not-mark_frame.true) _ (omega (arith, c.count-count.ensures.0))
 
 pub loop-i-preserved : goal.loop-i-preserved
 loop-i-preserved c =
-    (omega arith, marking_yes c.mark_frame.ensures c.if-not-mark_frame.false)
+    (omega arith, marking_yes c.mark_frame.ensures (ap not c.if-not-mark_frame.false))
 
 pub returns : goal.returns
 returns c =

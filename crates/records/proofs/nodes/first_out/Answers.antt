@@ -1,5 +1,7 @@
 use native.Mathlib.Omega.{arith}
 use Rattle.records.proofs.RecordLaws.{place_start, place_end, place_pass, place_fail}
+use mathlib.Core.Path.{ap}
+use mathlib.Core.Bool.{not}
 use Rattle.records.proofs.nodes.first_out.Goals as goal
 
 pub loop-i-init : goal.loop-i-init
@@ -16,11 +18,11 @@ record_at-requires c =
 
 pub returns-then-not-record_fits : goal.returns-then-not-record_fits
 returns-then-not-record_fits c =
-    place_fail c.args.s.now c.args.q _ _ c.loop-i.invariant.1 c.loop-i-test.true _ c.record_fits.ensures _ _ c.section_of-k.ensures c.if-not-record_fits.true c.record_at.ensures.0
+    place_fail c.args.s.now c.args.q _ _ c.loop-i.invariant.1 c.loop-i-test.true _ c.record_fits.ensures _ _ c.section_of-k.ensures (ap not c.if-not-record_fits.true) c.record_at.ensures.0
 
 pub loop-i-preserved : goal.loop-i-preserved
 loop-i-preserved c =
-    (omega arith, place_pass c.args.s.now c.args.q _ _ c.loop-i.invariant.1 c.loop-i-test.true _ c.record_fits.ensures c.if-not-record_fits.false)
+    (omega arith, place_pass c.args.s.now c.args.q _ _ c.loop-i.invariant.1 c.loop-i-test.true _ c.record_fits.ensures (ap not c.if-not-record_fits.false))
 
 pub returns : goal.returns
 returns c =

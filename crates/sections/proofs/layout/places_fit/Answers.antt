@@ -3,6 +3,7 @@ use mathlib.Core.List.{◌∷◌}
 use Rattle.script.specs.declared.Section.TheVariants.{Interfaces as interfaces, Signatures as signatures, Classes as classes, Fields as fields, Methods as methods, Nodes as nodes}
 use Rattle.script.specs.Section.{end_of}
 use Rattle.sections.proofs.CodeLaws.{PlacesLeft, places_all, places_no, places_yes, places_last}
+use mathlib.Core.List.{[]}
 use Rattle.sections.proofs.layout.places_fit.Goals as goal
 
 pub returns-then-body_at-ne-CONTENTS : goal.returns-then-body_at-ne-CONTENTS

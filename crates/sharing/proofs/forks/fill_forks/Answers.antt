@@ -1,11 +1,13 @@
 use mathlib.Core.Path.{refl}
 use borrow.Author.Tests.{not-true}
 use Rattle.sharing.proofs.SpanLaws.{marks_none, no_forks}
+use mathlib.Core.Path.{ap}
+use mathlib.Core.Bool.{not}
 use Rattle.sharing.proofs.forks.fill_forks.Goals as goal
 
 pub returns-then-not-has_fork : goal.returns-then-not-has_fork
 returns-then-not-has_fork c =
-    no_forks _ _ _ c.requires.1 c.requires.2 (c.has_fork.ensures (not-true _ c.if-not-has_fork.true))
+    no_forks _ _ _ c.requires.1 c.requires.2 (c.has_fork.ensures (not-true _ (ap not c.if-not-has_fork.true)))
 
 pub fill_spans-requires : goal.fill_spans-requires
 fill_spans-requires c =

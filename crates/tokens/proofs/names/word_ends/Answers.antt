@@ -12,6 +12,7 @@ use Rattle.tokens.specs.Next.{K_NAME}
 use Rattle.tokens.specs.Runs.{word_from}
 use Rattle.word_kinds.proofs.RunLaws.{run_on, run_stops, run_ends}
 use Rattle.tokens.proofs.KindLaws.{word_in, word_out}
+use mathlib.Core.List.{[]}
 use Rattle.tokens.proofs.names.word_ends.Goals as goal
 
 ends_there : (kinds text : List ℕ) (at : ℕ) → kinds ≡ byte_kinds → get_or text at 0 < 256 → at < length text → ltb (get_or kinds (get_or text at 0) 0) K_NAME ≡ same_spelling (word_from (drop at text)) []

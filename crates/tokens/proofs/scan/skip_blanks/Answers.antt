@@ -4,6 +4,8 @@ use native.Mathlib.Omega.{arith}
 use borrow.Author.Rules.{rules}
 use borrow.Author.Tests.{not-true, not-false}
 use Rattle.tokens.proofs.TokenLaws.{Skips, skips_on, skips_done}
+use mathlib.Core.Path.{ap}
+use mathlib.Core.Bool.{not}
 use Rattle.tokens.proofs.scan.skip_blanks.Goals as goal
 
 pub loop-i-init : goal.loop-i-init
@@ -16,7 +18,7 @@ is_blank-requires c =
 
 pub returns-then-not-is_blank : goal.returns-then-not-is_blank
 returns-then-not-is_blank c =
-    skips_done _ _ _ c.loop-i.invariant (λ _. sym c.is_blank.ensures ∙ not-true _ c.if-not-is_blank.true)
+    skips_done _ _ _ c.loop-i.invariant (λ _. sym c.is_blank.ensures ∙ not-true _ (ap not c.if-not-is_blank.true))
 
 pub is_blank-requires-in-loop-i : goal.is_blank-requires-in-loop-i
 is_blank-requires-in-loop-i c =
@@ -24,8 +26,8 @@ is_blank-requires-in-loop-i c =
 
 pub returns-then-not-is_blank-2 : goal.returns-then-not-is_blank-2
 returns-then-not-is_blank-2 c =
-    let one : Skips c.args.text.now c.args.at (c.loop-i.i + 1) = skips_on _ _ _ _ c.loop-i.invariant (omega (arith, c.loop-i-test.true)) (sym c.is_blank.ensures ∙ not-false _ c.if-not-is_blank.false) refl in
-    skips_done _ _ _ (one) (λ _. sym c.is_blank-in-loop-i.ensures ∙ not-true _ c.if-not-is_blank-2.true)
+    let one : Skips c.args.text.now c.args.at (c.loop-i.i + 1) = skips_on _ _ _ _ c.loop-i.invariant (omega (arith, c.loop-i-test.true)) (sym c.is_blank.ensures ∙ not-false _ (ap not c.if-not-is_blank.false)) refl in
+    skips_done _ _ _ (one) (λ _. sym c.is_blank-in-loop-i.ensures ∙ not-true _ (ap not c.if-not-is_blank-2.true))
 
 pub is_blank-requires-in-loop-i-2 : goal.is_blank-requires-in-loop-i-2
 is_blank-requires-in-loop-i-2 c =
@@ -33,9 +35,9 @@ is_blank-requires-in-loop-i-2 c =
 
 pub returns-then-not-is_blank-3 : goal.returns-then-not-is_blank-3
 returns-then-not-is_blank-3 c =
-    let one : Skips c.args.text.now c.args.at (c.loop-i.i + 1) = skips_on _ _ _ _ c.loop-i.invariant (omega (arith, c.loop-i-test.true)) (sym c.is_blank.ensures ∙ not-false _ c.if-not-is_blank.false) refl in
-    let two : Skips c.args.text.now c.args.at (c.loop-i.i + 2) = skips_on _ _ _ _ (one) (omega (arith, c.loop-i-test.true)) (sym c.is_blank-in-loop-i.ensures ∙ not-false _ c.if-not-is_blank-2.false) (omega arith) in
-    skips_done _ _ _ (two) (λ _. sym c.is_blank-in-loop-i-2.ensures ∙ not-true _ c.if-not-is_blank-3.true)
+    let one : Skips c.args.text.now c.args.at (c.loop-i.i + 1) = skips_on _ _ _ _ c.loop-i.invariant (omega (arith, c.loop-i-test.true)) (sym c.is_blank.ensures ∙ not-false _ (ap not c.if-not-is_blank.false)) refl in
+    let two : Skips c.args.text.now c.args.at (c.loop-i.i + 2) = skips_on _ _ _ _ (one) (omega (arith, c.loop-i-test.true)) (sym c.is_blank-in-loop-i.ensures ∙ not-false _ (ap not c.if-not-is_blank-2.false)) (omega arith) in
+    skips_done _ _ _ (two) (λ _. sym c.is_blank-in-loop-i-2.ensures ∙ not-true _ (ap not c.if-not-is_blank-3.true))
 
 pub is_blank-requires-in-loop-i-3 : goal.is_blank-requires-in-loop-i-3
 is_blank-requires-in-loop-i-3 c =
@@ -43,17 +45,17 @@ is_blank-requires-in-loop-i-3 c =
 
 pub returns-then-not-is_blank-4 : goal.returns-then-not-is_blank-4
 returns-then-not-is_blank-4 c =
-    let one : Skips c.args.text.now c.args.at (c.loop-i.i + 1) = skips_on _ _ _ _ c.loop-i.invariant (omega (arith, c.loop-i-test.true)) (sym c.is_blank.ensures ∙ not-false _ c.if-not-is_blank.false) refl in
-    let two : Skips c.args.text.now c.args.at (c.loop-i.i + 2) = skips_on _ _ _ _ (one) (omega (arith, c.loop-i-test.true)) (sym c.is_blank-in-loop-i.ensures ∙ not-false _ c.if-not-is_blank-2.false) (omega arith) in
-    let three : Skips c.args.text.now c.args.at (c.loop-i.i + 3) = skips_on _ _ _ _ (two) (omega (arith, c.loop-i-test.true)) (sym c.is_blank-in-loop-i-2.ensures ∙ not-false _ c.if-not-is_blank-3.false) (omega arith) in
-    skips_done _ _ _ (three) (λ _. sym c.is_blank-in-loop-i-3.ensures ∙ not-true _ c.if-not-is_blank-4.true)
+    let one : Skips c.args.text.now c.args.at (c.loop-i.i + 1) = skips_on _ _ _ _ c.loop-i.invariant (omega (arith, c.loop-i-test.true)) (sym c.is_blank.ensures ∙ not-false _ (ap not c.if-not-is_blank.false)) refl in
+    let two : Skips c.args.text.now c.args.at (c.loop-i.i + 2) = skips_on _ _ _ _ (one) (omega (arith, c.loop-i-test.true)) (sym c.is_blank-in-loop-i.ensures ∙ not-false _ (ap not c.if-not-is_blank-2.false)) (omega arith) in
+    let three : Skips c.args.text.now c.args.at (c.loop-i.i + 3) = skips_on _ _ _ _ (two) (omega (arith, c.loop-i-test.true)) (sym c.is_blank-in-loop-i-2.ensures ∙ not-false _ (ap not c.if-not-is_blank-3.false)) (omega arith) in
+    skips_done _ _ _ (three) (λ _. sym c.is_blank-in-loop-i-3.ensures ∙ not-true _ (ap not c.if-not-is_blank-4.true))
 
 pub loop-i-preserved : goal.loop-i-preserved
 loop-i-preserved c =
-    let one : Skips c.args.text.now c.args.at (c.loop-i.i + 1) = skips_on _ _ _ _ c.loop-i.invariant (omega (arith, c.loop-i-test.true)) (sym c.is_blank.ensures ∙ not-false _ c.if-not-is_blank.false) refl in
-    let two : Skips c.args.text.now c.args.at (c.loop-i.i + 2) = skips_on _ _ _ _ (one) (omega (arith, c.loop-i-test.true)) (sym c.is_blank-in-loop-i.ensures ∙ not-false _ c.if-not-is_blank-2.false) (omega arith) in
-    let three : Skips c.args.text.now c.args.at (c.loop-i.i + 3) = skips_on _ _ _ _ (two) (omega (arith, c.loop-i-test.true)) (sym c.is_blank-in-loop-i-2.ensures ∙ not-false _ c.if-not-is_blank-3.false) (omega arith) in
-    skips_on _ _ _ _ (three) (omega (arith, c.loop-i-test.true)) (sym c.is_blank-in-loop-i-3.ensures ∙ not-false _ c.if-not-is_blank-4.false) (omega arith)
+    let one : Skips c.args.text.now c.args.at (c.loop-i.i + 1) = skips_on _ _ _ _ c.loop-i.invariant (omega (arith, c.loop-i-test.true)) (sym c.is_blank.ensures ∙ not-false _ (ap not c.if-not-is_blank.false)) refl in
+    let two : Skips c.args.text.now c.args.at (c.loop-i.i + 2) = skips_on _ _ _ _ (one) (omega (arith, c.loop-i-test.true)) (sym c.is_blank-in-loop-i.ensures ∙ not-false _ (ap not c.if-not-is_blank-2.false)) (omega arith) in
+    let three : Skips c.args.text.now c.args.at (c.loop-i.i + 3) = skips_on _ _ _ _ (two) (omega (arith, c.loop-i-test.true)) (sym c.is_blank-in-loop-i-2.ensures ∙ not-false _ (ap not c.if-not-is_blank-3.false)) (omega arith) in
+    skips_on _ _ _ _ (three) (omega (arith, c.loop-i-test.true)) (sym c.is_blank-in-loop-i-3.ensures ∙ not-false _ (ap not c.if-not-is_blank-4.false)) (omega arith)
 
 pub skip_last-requires : goal.skip_last-requires
 skip_last-requires c =

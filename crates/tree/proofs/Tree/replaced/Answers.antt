@@ -4,6 +4,7 @@ use native.Mathlib.Omega.{arith}
 use lib.ListN.{length-set}
 use Rattle.tree.proofs.Parts.{used_length}
 use Rattle.tree.proofs.Changes.{stored_first, replaced_all}
+use mathlib.Core.List.{[]}
 use Rattle.tree.proofs.Tree.replaced.Goals as goal
 
 pub offset_bounds-self-i : goal.offset_bounds-self-i

@@ -1,5 +1,7 @@
 use native.Mathlib.Omega.{arith}
 use Rattle.values.proofs.BindingLaws.{bindings_begun, bindings_no, bindings_more, bindings_done}
+use mathlib.Core.Path.{ap}
+use mathlib.Core.Bool.{not}
 use Rattle.values.proofs.stores.bindings_fit.Goals as goal
 
 pub count-n-requires : goal.count-n-requires
@@ -16,11 +18,11 @@ binding_fits-requires c =
 
 pub returns-then-not-binding_fits : goal.returns-then-not-binding_fits
 returns-then-not-binding_fits c =
-    bindings_no _ _ _ c.loop-n.invariant.1 _ (omega arith) c.binding_fits.ensures c.if-not-binding_fits.true
+    bindings_no _ _ _ c.loop-n.invariant.1 _ (omega arith) c.binding_fits.ensures (ap not c.if-not-binding_fits.true)
 
 pub loop-n-preserved : goal.loop-n-preserved
 loop-n-preserved c =
-    (omega arith, bindings_more _ _ _ c.loop-n.invariant.1 _ (omega arith) c.binding_fits.ensures c.if-not-binding_fits.false)
+    (omega arith, bindings_more _ _ _ c.loop-n.invariant.1 _ (omega arith) c.binding_fits.ensures (ap not c.if-not-binding_fits.false))
 
 pub returns : goal.returns
 returns c =

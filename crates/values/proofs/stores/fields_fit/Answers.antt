@@ -2,6 +2,8 @@ use native.Mathlib.Omega.{arith}
 use Rattle.script.specs.declared.Section.TheVariants.{Fields}
 use Rattle.subtypes.proofs.SubtypeLaws.{laid}
 use Rattle.values.proofs.StoreLaws.{fields_begun, fields_no, fields_more, fields_done}
+use mathlib.Core.Path.{ap}
+use mathlib.Core.Bool.{not}
 use Rattle.values.proofs.stores.fields_fit.Goals as goal
 
 pub loop-j-init : goal.loop-j-init
@@ -26,11 +28,11 @@ value_fits-requires c =
 
 pub returns-then-not-value_fits : goal.returns-then-not-value_fits
 returns-then-not-value_fits c =
-    fields_no _ _ _ _ _ _ c.loop-j.invariant.1 _ _ _ (omega arith) c.record_word-t.ensures.0 c.field-v.ensures.0 c.value_fits.ensures c.if-not-value_fits.true
+    fields_no _ _ _ _ _ _ c.loop-j.invariant.1 _ _ _ (omega arith) c.record_word-t.ensures.0 c.field-v.ensures.0 c.value_fits.ensures (ap not c.if-not-value_fits.true)
 
 pub loop-j-preserved : goal.loop-j-preserved
 loop-j-preserved c =
-    (omega arith, fields_more _ _ _ _ _ _ c.loop-j.invariant.1 _ _ _ (omega arith) c.record_word-t.ensures.0 c.field-v.ensures.0 c.value_fits.ensures c.if-not-value_fits.false)
+    (omega arith, fields_more _ _ _ _ _ _ c.loop-j.invariant.1 _ _ _ (omega arith) c.record_word-t.ensures.0 c.field-v.ensures.0 c.value_fits.ensures (ap not c.if-not-value_fits.false))
 
 pub returns : goal.returns
 returns c =

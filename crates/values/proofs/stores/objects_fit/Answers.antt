@@ -1,5 +1,7 @@
 use native.Mathlib.Omega.{arith}
 use Rattle.values.proofs.StoreLaws.{objects_begun, all_no, all_more, all_done}
+use mathlib.Core.Path.{ap}
+use mathlib.Core.Bool.{not}
 use Rattle.values.proofs.stores.objects_fit.Goals as goal
 
 pub count-count-requires : goal.count-count-requires
@@ -16,11 +18,11 @@ object_fits-requires c =
 
 pub returns-then-not-object_fits : goal.returns-then-not-object_fits
 returns-then-not-object_fits c =
-    all_no _ _ _ _ _ c.loop-i.invariant.1 _ (omega arith) c.object_fits.ensures c.if-not-object_fits.true
+    all_no _ _ _ _ _ c.loop-i.invariant.1 _ (omega arith) c.object_fits.ensures (ap not c.if-not-object_fits.true)
 
 pub loop-i-preserved : goal.loop-i-preserved
 loop-i-preserved c =
-    (omega arith, all_more _ _ _ _ _ c.loop-i.invariant.1 _ (omega arith) c.object_fits.ensures c.if-not-object_fits.false)
+    (omega arith, all_more _ _ _ _ _ c.loop-i.invariant.1 _ (omega arith) c.object_fits.ensures (ap not c.if-not-object_fits.false))
 
 pub returns : goal.returns
 returns c =
