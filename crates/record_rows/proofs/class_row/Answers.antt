@@ -5,6 +5,6 @@ use Rattle.record_rows.proofs.class_row.Goals as goal
 
 pub returns : goal.returns
 unfolding class_row
-returns c =
+returns c es m =
     let o = c.owned-members.ensures es m.roled c.args.i 1 refl in
     three_are (c.type_word-interface.ensures es m c.args.i 3 refl) o.fields_are o.methods_are

@@ -6,5 +6,5 @@ use Rattle.record_rows.proofs.field_row.Goals as goal
 
 pub returns : goal.returns
 unfolding field_row
-returns c =
+returns c es m =
     two_are (c.value_at-name.ensures.0 ∙ sym (value_in_lem m c.args.i 0 (add-zero _))) (c.type_word-holds.ensures es m c.args.i 2 refl)

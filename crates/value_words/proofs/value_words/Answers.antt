@@ -11,4 +11,4 @@ returns-in-Ref c =
 
 pub returns-in-Int : goal.returns-in-Int
 returns-in-Int c =
-    rw (c.in-Int.is, c.low_word-low.ensures, c.high_word-high.ensures, read_is (record { sfits = c.known_told-in-Int-1.given.0.1 }))
+    rw (c.in-Int.is, c.low_word-low.ensures, c.high_word-high.ensures, read_is (record { sfits = c.in-Int.known_told-in-Int-1-own.given.0.1 }))

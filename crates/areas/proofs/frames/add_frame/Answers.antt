@@ -3,7 +3,7 @@ use Rattle.areas.proofs.Laws.{frame_added}
 use Rattle.areas.proofs.frames.add_frame.Goals as goal
 
 pub returns : goal.returns
-returns c =
+returns c p is =
     let count = c.count-n in
     let put_frame = c.put_frame in
     let put_count = c.put_count in

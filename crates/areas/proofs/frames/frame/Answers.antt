@@ -3,7 +3,7 @@ use Rattle.areas.proofs.Laws.{frame_read}
 use Rattle.areas.proofs.frames.frame.Goals as goal
 
 pub returns : goal.returns
-returns c =
+returns c p is l =
     let word = c.word-kind in
     let word2 = c.word-x in
     c.frame_of.ensures

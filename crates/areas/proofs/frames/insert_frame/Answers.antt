@@ -3,7 +3,7 @@ use Rattle.areas.proofs.Laws.{frame_inserted}
 use Rattle.areas.proofs.frames.insert_frame.Goals as goal
 
 pub returns : goal.returns
-returns c =
+returns c p is =
     let count = c.count-n in
     let add-frame = c.add_frame in
     let shift-up = c.shift_up in

@@ -3,7 +3,7 @@ use Rattle.areas.proofs.Laws.{frames_removed}
 use Rattle.areas.proofs.frames.remove_frames.Goals as goal
 
 pub returns : goal.returns
-returns c =
+returns c p is =
     let count = c.count-n in
     let shift-down = c.shift_down in
     let cut-frames = c.cut_frames in

@@ -3,7 +3,7 @@ use Rattle.areas.proofs.Laws.{object_added}
 use Rattle.areas.proofs.objects.new_object.Goals as goal
 
 pub returns : goal.returns
-returns c =
+returns c p m is =
     let count = c.count-n in
     let put = c.put in
     let put_count = c.put_count in

@@ -29,9 +29,9 @@ bounds-env-rank c =
     laws.target_there c.requires
 
 pub returns-then-word-eq0 : goal.returns-then-word-eq0
-returns-then-word-eq0 c =
+returns-then-word-eq0 c Γ g =
     laws.unbound g _ _ _ (of_node c.requires.named) c.if-word-eq0.true
 
 pub returns : goal.returns
-returns c =
+returns c Γ g =
     laws.bound g _ _ _ (of_node c.requires.named) c.if-word-eq0.false

@@ -9,7 +9,7 @@ returns-in_default c =
 
 pub returns-in_default-value : goal.returns-in_default-value
 returns-in_default-value c =
-    λ rest st g fs s. performs_as (targets.null_target (targets.calls _ st fs _ _ _) (c.target_of-found.ensures _ rest st _ s) c.in-Bound.is c.in_default-value.keys2) (c.fails.ensures rest st _ s)
+    λ rest st g fs s. performs_as (targets.null_target (targets.calls _ st fs _ _ _) (c.target_of-found.ensures _ rest st _ s) c.in-Bound.is c.in_default-value.in_default-value-own.keys2) (c.fails.ensures rest st _ s)
 
 pub call_object-requires : goal.call_object-requires
 call_object-requires c =

@@ -18,7 +18,7 @@ append_nodes-requires c =
     record { sizes_known = c.requires.sizes_known; places_value = (c.requires.places_value.0.0, omega arith, omega arith); from_in_bounds = omega (arith, c.requires.places_value.1, c.requires.places_value.0.1, c.append_nodes-middle.ensures.value) }
 
 pub returns : goal.returns
-returns c =
+returns c start h o =
     let a = c.args in
     let q = c.requires.sizes_known.readable in
     let p = c.requires.places_value.0.0 in

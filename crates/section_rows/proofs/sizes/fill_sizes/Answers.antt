@@ -45,5 +45,5 @@ shape_of-sizes c =
     c.loop-k.invariant.0
 
 pub returns : goal.returns
-returns c =
+returns c es e =
     let z : c.loop-k.k ≡ 0 = omega arith in rw z at (c.loop-k.invariant.2 es e)

@@ -29,5 +29,5 @@ shape_of-rows c =
     c.loop-i.invariant.2.size ∙ sym c.requires.1.size
 
 pub returns : goal.returns
-returns c =
+returns c j l =
     c.loop-i.invariant.3 j (omega (arith, c.loop-i.invariant.0, c.loop-i.invariant.1, c.loop-i-test.false))

@@ -7,8 +7,8 @@ returns-in_default c =
 
 pub returns-in_default-value : goal.returns-in_default-value
 returns-in_default-value c =
-    laws.addend_other _ _ _ _ c.variable.ensures _ c.in-Bound.is c.in_default-value.keys2
+    laws.addend_other _ _ _ _ c.variable.ensures _ c.in-Bound.is c.in_default-value.in_default-value-own.keys2
 
 pub returns : goal.returns
 returns c =
-    laws.addend_number _ _ _ _ c.variable.ensures _ c.in-Bound.is (record { sfits = c.known_told-in-Int-1.given.0.1 }) c.in-Int.is
+    laws.addend_number _ _ _ _ c.variable.ensures _ c.in-Bound.is (record { sfits = c.in-Int.known_told-in-Int-1-own.given.0.1 }) c.in-Int.is

@@ -13,7 +13,7 @@ pub returns-then-text-a : goal.returns-then-text-a
 returns-then-text-a c =
     let a = c.args in
     let pre = c.requires in
-    sym (sizes_differ _ _ (λ e. omega (arith, c.if-text-a.true, pre.1, e, run_length word_byte_test a.text.now a.a pre.0.1)))
+    sym (sizes_differ _ _ (λ e. omega (arith, c.if-text-a.true, pre.size_value, e, run_length word_byte_test a.text.now a.a pre.kinds_value.1)))
 
 pub loop-i-init : goal.loop-i-init
 loop-i-init c =

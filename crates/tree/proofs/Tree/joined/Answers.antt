@@ -14,7 +14,7 @@ bounds-self-i c =
 
 pub returns-in_default : goal.returns-in_default
 returns-in_default c =
-    joins_none _ _ c.requires.0 c.in_default.keys2
+    joins_none _ _ c.requires.0 c.in_default.in_default-own.keys2
 
 pub returns : goal.returns
 returns c =

@@ -17,7 +17,7 @@ bounds-self-i c =
 
 pub removed-requires : goal.removed-requires
 removed-requires c = (
-  record { small = c.requires.0.small; whole = length-set c.args.t1.entries c.args.i c.args.x ∙ c.requires.0.whole },
+  record { small = c.requires.0.small; whole = length-set c.args.self.entries c.args.i c.args.x ∙ c.requires.0.whole },
   omega (arith, used_length _ c.requires.0, c.requires.1.some, c.requires.1.inside),
 )
 
@@ -26,5 +26,5 @@ returns c =
     let a = c.args in
     let pre = c.requires in
     let n : a.end - a.i - 1 + 1 ≡ a.end - a.i = omega (arith, pre.1.some) in
-    let s = stored_first a.t1 _ _ a.i _ a.x [] pre.0 (omega (arith, used_length _ pre.0, pre.1.some, pre.1.inside)) refl refl c.removed.ensures in
+    let s = stored_first a.self _ _ a.i _ a.x [] pre.0 (omega (arith, used_length _ pre.0, pre.1.some, pre.1.inside)) refl refl c.removed.ensures in
     replaced_all _ _ _ _ _ pre.1 (rw n at s)

@@ -11,4 +11,4 @@ returns-in-Ref c =
 
 pub returns-in-Int : goal.returns-in-Int
 returns-in-Int c =
-    laws.number_meets _ _ _ _ _ _ _ c.in-Int.is c.known_told-in-Int-1.given.0.1 c.int_of.ensures.0 c.meets.ensures
+    laws.number_meets _ _ _ _ _ _ _ c.in-Int.is c.in-Int.known_told-in-Int-1-own.given.0.1 c.int_of.ensures.0 c.meets.ensures

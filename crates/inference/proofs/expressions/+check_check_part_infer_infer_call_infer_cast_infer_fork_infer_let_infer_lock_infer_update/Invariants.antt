@@ -1,0 +1,39 @@
+use mathlib.Core.Path.{refl, sym, ap, ◌∙◌}
+use Prim.Native.Nat.{◌+◌, ◌*◌, ◌-◌}
+use native.Mathlib.Omega.{arith}
+use borrow.Author.Rules.{rules}
+use lib.ListN.{length}
+use Rattle.script.specs.declared.Section.TheVariants.{Nodes as nodes}
+use Rattle.script.specs.Section.{count_of}
+use Rattle.script.specs.Reading.{kind_of}
+use Rattle.script.proofs.Reading.{first, second, third}
+use Rattle.inference.proofs.InferLaws as laws
+use Prim.Native.Nat.{ℕ, ◌<◌}
+use Rattle.inference.proofs.expressions.+check_check_part_infer_infer_call_infer_cast_infer_fork_infer_let_infer_lock_infer_update.Given as goal
+
+abbrev pub decreases-check : goal.decreases-check
+decreases-check l = 4 * (count_of l.s.now nodes - l.n) + 2
+
+abbrev pub decreases-check_part : goal.decreases-check_part
+decreases-check_part l = 4 * (count_of l.s.now nodes - l.n) + 3
+
+abbrev pub decreases-infer : goal.decreases-infer
+decreases-infer l = 4 * (count_of l.s.now nodes - l.n) + 1
+
+abbrev pub decreases-infer_call : goal.decreases-infer_call
+decreases-infer_call l = 4 * (count_of l.s.now nodes - l.n)
+
+abbrev pub decreases-infer_cast : goal.decreases-infer_cast
+decreases-infer_cast l = 4 * (count_of l.s.now nodes - l.n)
+
+abbrev pub decreases-infer_fork : goal.decreases-infer_fork
+decreases-infer_fork l = 4 * (count_of l.s.now nodes - l.n)
+
+abbrev pub decreases-infer_let : goal.decreases-infer_let
+decreases-infer_let l = 4 * (count_of l.s.now nodes - l.n)
+
+abbrev pub decreases-infer_lock : goal.decreases-infer_lock
+decreases-infer_lock l = 4 * (count_of l.s.now nodes - l.n)
+
+abbrev pub decreases-infer_update : goal.decreases-infer_update
+decreases-infer_update l = 4 * (count_of l.s.now nodes - l.n)
