@@ -36,6 +36,7 @@ module _ (s : Code) (bs : List Binding) where
       let h = set_frames (fs ++ above) l x in
       record { frames = h.frames; set = h.set; counts = λ o. ap (λ (n : ℕ). held_by o n l p) (sym (frames_append o fs above)) ∙ h.counts o }
   set_frames above (join fs a e l r) (set_right x) = set_frames [] r x
+  set_frames above failed x = elim x [ ]
 
   -- a thread that holds an object has a set
   set_there : (above : List Frame) (o n : ℕ) (t : Tree) (p : Path) → 1 ≤ held_by o n t p → (L : List ℕ) × SetAt (read s bs above t) p L

@@ -127,6 +127,8 @@ module _ (s : Code) (bs : List Binding) where
   held_failed : (o : ℕ) (above : List Frame) (t : Tree) → LeftmostFailed (read s bs above t) → count_in o (held_locks (read s bs above t)) ≤ lock_count o t
   unfolding count_in
   held_failed o above failed f = omega arith
+  held_failed o above (running _ _ _) f = elim f [ ]
+  held_failed o above (returning _ _) f = elim f [ ]
   held_failed o above (join fs a e l r) (leftmost_left f) =
       omega (arith, count_append o (held_locks (read s bs (fs ++ above) l)) (held_locks (read s bs [] r)), held_failed o (fs ++ above) l f, held_most o [] r)
 

@@ -259,7 +259,7 @@ module _ (lim : Places) (st : Stores) (fs : List Frame) (a : Point) (e : ℕ) (l
 
 -- moves of a part of a join
 module _ {s : Code} {lim : Places} {st : Stores} (above fs : List Frame) (a : Point) (e : ℕ) where
-  silently_left : {on to : Path → Type 0} {l m : Tree} {n : ℕ} (r : Tree) → ((p : Path) → on p → to (left p))
+  silently_left : {on to : Path → Type 0} (r : Tree) {l m : Tree} {n : ℕ} → ((p : Path) → on p → to (left p))
       → Silently s (share lim (length fs + frame_count r) (thread_count r)) st (fs ++ above) on l m n → Silently s lim st above to (join fs a e l r) (join fs a e m r) n
   silently_left r f at_once = at_once
   silently_left r f (after {t = l} p o h k q) =
@@ -331,6 +331,16 @@ module _ {s : Code} {lim : Places} {st : Stores} {above : List Frame} {L : List 
   ready_running : (n : Node) → s.view a ≡ n → ValueNode n → Ready s lim st above (running a e fs) L
   ready_running n_null i is_null_lem = ready_value n_null nil i refl refl
   ready_running (n_constant z) i is_constant = ready_value (n_constant z) (int z) i refl refl
+  ready_running (n_var _) i h' = elim h' [ ]
+  ready_running (n_select _ _) i h' = elim h' [ ]
+  ready_running (n_update _ _ _) i h' = elim h' [ ]
+  ready_running (n_call _ _ _) i h' = elim h' [ ]
+  ready_running (n_bind _ _ _) i h' = elim h' [ ]
+  ready_running (n_new _) i h' = elim h' [ ]
+  ready_running (n_cast _ _) i h' = elim h' [ ]
+  ready_running (n_fork _ _ _) i h' = elim h' [ ]
+  ready_running (n_lock _ _) i h' = elim h' [ ]
+  ready_running (n_add _ _) i h' = elim h' [ ]
 
 ready : {s : Code} {start : ℕ} {lim : Places} {st : Stores} {w : Want} → AcceptedCode s start → (above : List Frame) (t : Tree) (L : List ℕ) (v : Value) → TreeOk s st w t
     → p_thread L (p_value v) ≡ read s st.bindings above t → Ready s lim st above t L

@@ -12,7 +12,7 @@ use Rattle.script.specs.Lists.{◌∈◌}
 use Rattle.machine.specs.declared.Store.{Store}
 use Rattle.machine.specs.declared.Stop.TheVariants.{Full}
 use Rattle.machine.specs.Config.{Code, Stores, Tree, Config}
-use Rattle.machine.specs.Machine.{Places, Outcome, still, full, moved, Path, spare, move, size, locate, chosen, choice, part}
+use Rattle.machine.specs.Machine.{Places, Outcome, still, full, moved, Path, spare, move, locate, chosen, choice, part}
 use Rattle.machine.specs.WellFormed.{WellFormed}
 use Rattle.machine.specs.Accepted.{AcceptedCode}
 use Rattle.published.specs.ReadAs.{Reading, reading, Steps}

@@ -47,16 +47,18 @@ use Rattle.published.proofs.Names.{variable, entry_new, entry_count, let_reading
 module _ (s : Code) (bs : List Binding) {W X : World} where
   plug_step : {L M : List ℕ} {a b : PExpr} (fs : List Frame) → Step s.program W (p_thread L a) X (p_thread M b) → Step s.program W (p_thread L (plug s bs fs a)) X (p_thread M (plug s bs fs b))
   plug_step [] h = h
-  plug_step (f ∷ fs) h = plug_step fs (DYN-EVAL-CONTEXT (hole s bs f) refl h)
+  plug_step {L = L} {M = M} {a = a} {b = b} (f ∷ fs) h =
+      plug_step {L = L} {M = M} {a = fill (hole s bs f) a} {b = fill (hole s bs f) b} fs (DYN-EVAL-CONTEXT (hole s bs f) refl h)
 
   plug_failed : {L : List ℕ} {a : PExpr} (fs : List Frame) → Step s.program W (p_thread L a) X p_failed → Step s.program W (p_thread L (plug s bs fs a)) X p_failed
   plug_failed [] h = h
-  plug_failed (f ∷ fs) h = plug_failed fs (DYN-EXCEPTION-CONTEXT (hole s bs f) refl h)
+  plug_failed {L = L} {a = a} (f ∷ fs) h = plug_failed {L = L} {a = fill (hole s bs f) a} fs (DYN-EXCEPTION-CONTEXT (hole s bs f) refl h)
 
 plug_spawn : (s : Code) (bs : List Binding) {W : World} {L : List ℕ} {a b c d : PExpr} (fs : List Frame) → Step s.program W (p_thread L a) W (p_join (p_thread L b) (p_thread [] c) d)
     → Step s.program W (p_thread L (plug s bs fs a)) W (p_join (p_thread L b) (p_thread [] c) (plug s bs fs d))
 plug_spawn s bs [] h = h
-plug_spawn s bs (f ∷ fs) h = plug_spawn s bs fs (DYN-EVAL-SPAWN-CONTEXT (hole s bs f) refl h)
+plug_spawn s bs {W = W} {L = L} {a = a} {b = b} {c = c} {d = d} (f ∷ fs) h =
+    plug_spawn s bs {W = W} {L = L} {a = fill (hole s bs f) a} {b = b} {c = c} {d = fill (hole s bs f) d} fs (DYN-EVAL-SPAWN-CONTEXT (hole s bs f) refl h)
 
 -- a step of a thread is made at its root
 pub thread_join : {L : List ℕ} {a c : PExpr} {P Q : PTree} → p_thread L a ≡ p_join P Q c → ⊥
@@ -291,6 +293,15 @@ module _ {s : Code} {w : Want} {st : Stores} (ok : StoresOk s st) {start : ℕ} 
     wake_step t (n_bind y a b) i (a_let h k) = rw (infer_computes acc h) (bind_step y t a b i room.bindings)
     wake_step t (n_update y f a) i (a_write {c = c} h d m) = update_step y f c t a i (type_in_lem h) d
     wake_step t (n_call y m a) i (a_call {c = c} {u = u} h d o) = call_step y m c t u a i (type_in_lem h) d room.bindings
+    wake_step t n_null i h = elim h [ ]
+    wake_step t (n_var _) i h = elim h [ ]
+    wake_step t (n_select _ _) i h = elim h [ ]
+    wake_step t (n_new _) i h = elim h [ ]
+    wake_step t (n_cast _ _) i h = elim h [ ]
+    wake_step t (n_fork _ _ _) i h = elim h [ ]
+    wake_step t (n_lock _ _) i h = elim h [ ]
+    wake_step t (n_constant _) i h = elim h [ ]
+    wake_step t (n_add _ _) i h = elim h [ ]
 
 -- a shut object is in the store
 record ShutObject (xs : List Object) (o : ℕ) : Type 0 where
