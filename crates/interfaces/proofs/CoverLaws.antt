@@ -135,6 +135,10 @@ pub class_covers : (s : List ℕ) (c t : ℕ) (r : Bool) → t ≡ record_word s
 unfolding class_at
 class_covers s c t r e d = rw e at d
 
+-- What question 10 asks of a class.
+abbrev pub covers_test : List ℕ → ℕ → Bool
+covers_test s c = class_test (program_of s) (class_at s c)
+
 -- The test of question 10 answers the same of a class.
 pub class_test_lem :
     {s : List ℕ} (w : WithinLayout s) → MsigsFunction (program_of s) → (c : ℕ) (r b : Bool) → c < count_of s classes → Decides (ClassIs (program_of s) (class_at s c)) r → r ≡ b

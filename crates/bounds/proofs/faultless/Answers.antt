@@ -4,4 +4,4 @@ use Rattle.bounds.proofs.faultless.Goals as goal
 
 pub returns : goal.returns
 returns c =
-    (refl, by_name _ c.args.counts.now)
+    (refl, by_name c.args.n c.args.counts.now)

@@ -7,15 +7,15 @@ use Rattle.declarations.proofs.declaration_fault.Goals as goal
 
 pub number_names-count-requires : goal.number_names-count-requires
 number_names-count-requires c =
-    let pre = c.requires in record { token_arrays = pre.0; table_holds = pre.1.0; linked_sort = (pre.1.1.0.each Declared, pre.1.1.1) }
+    let pre = c.requires in record { token_arrays = pre.token_arrays; table_holds = pre.table_holds.0; linked_sort = (pre.table_holds.1.0.each Declared, pre.table_holds.1.1) }
 
 pub first_again-again-requires : goal.first_again-again-requires
 first_again-again-requires c =
-    let pre = c.requires in record { n_in_bounds = (pre.0.in_roles, omega (arith, pre.0.in_values, c.number_names-count.auto.1.1.1.1.1.1.1.1.0)); linked_sort = pre.1.1.0.each Declared }
+    let pre = c.requires in record { n_in_bounds = (pre.token_arrays.in_roles, omega (arith, pre.token_arrays.in_values, c.number_names-count.auto.values)); linked_sort = pre.table_holds.1.0.each Declared }
 
 pub first_nowhere-nowhere-requires : goal.first_nowhere-nowhere-requires
 first_nowhere-nowhere-requires c =
-    let pre = c.requires in let number-names = c.number_names-count in record { token_arrays = room_still _ (le_refl _) number-names.auto.1.1.1.1.1.1.1.1.0 number-names.auto.1.1.1.1.1.1.1.1.1.0 number-names.auto.1.1.1.1.1.1.1.1.1.1.0 pre.0; table_filled = held_of number-names.ensures; linked_sort = (pre.1.1.0.each Types, pre.1.1.1) }
+    let pre = c.requires in let number-names = c.number_names-count in record { token_arrays = room_still _ (le_refl _) number-names.auto.values number-names.auto.firsts number-names.auto.links pre.token_arrays; table_filled = held_of number-names.ensures; linked_sort = (pre.table_holds.1.0.each Types, pre.table_holds.1.1) }
 
 pub returns-then-again-nowhere : goal.returns-then-again-nowhere
 returns-then-again-nowhere c =
@@ -23,7 +23,7 @@ returns-then-again-nowhere c =
     let number-names = c.number_names-count in
     let first-again = c.first_again-again in
     let first-nowhere = c.first_nowhere-nowhere in
-    declared_again _ _ _ _ pre.0.in_roles pre.0.in_offsets _ _ pre.0.in_values number-names.ensures.values_are _ _ _ first-again.ensures (first-nowhere.ensures _ number-names.ensures.holds number-names.ensures.counted) c.if-again-nowhere.true
+    declared_again _ _ _ _ pre.token_arrays.in_roles pre.token_arrays.in_offsets _ _ pre.token_arrays.in_values number-names.ensures.values_are _ _ _ first-again.ensures (first-nowhere.ensures _ number-names.ensures.holds number-names.ensures.counted) c.if-again-nowhere.true
 
 pub returns : goal.returns
 returns c =
@@ -31,4 +31,4 @@ returns c =
     let number-names = c.number_names-count in
     let first-again = c.first_again-again in
     let first-nowhere = c.first_nowhere-nowhere in
-    declared_nowhere _ _ _ _ pre.0.in_roles pre.0.in_offsets _ _ pre.0.in_values number-names.ensures.values_are _ _ _ first-again.ensures (first-nowhere.ensures _ number-names.ensures.holds number-names.ensures.counted) c.if-again-nowhere.false
+    declared_nowhere _ _ _ _ pre.token_arrays.in_roles pre.token_arrays.in_offsets _ _ pre.token_arrays.in_values number-names.ensures.values_are _ _ _ first-again.ensures (first-nowhere.ensures _ number-names.ensures.holds number-names.ensures.counted) c.if-again-nowhere.false

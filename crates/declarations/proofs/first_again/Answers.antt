@@ -45,7 +45,7 @@ loop-i-preserved c =
     let loop = c.loop-i in
     let test = c.loop-i-test in
     let d = loop.invariant.1 test.true in
-    counting_next _ _ _ pre.0.0 _ _ loop.invariant.0 test.true d c.if-values-i.false (follows pre.1 test.true d c.next_in-i.ensures)
+    counting_next _ _ _ pre.n_in_bounds.0 _ _ loop.invariant.0 test.true d c.if-values-i.false (follows pre.linked_sort test.true d c.next_in-i.ensures)
 
 pub returns : goal.returns
 returns c =

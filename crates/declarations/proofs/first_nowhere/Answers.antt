@@ -11,15 +11,15 @@ use Rattle.declarations.proofs.first_nowhere.Goals as goal
 
 pub loop-i-init : goal.loop-i-init
 loop-i-init c =
-    let pre = c.requires in asking_first _ _ _ _ _ _ _ _ _ pre.0 pre.1.1.0.begins
+    let pre = c.requires in asking_first _ _ _ _ _ _ _ _ _ pre.token_arrays pre.table_filled.1.0.begins
 
 pub type_token-requires : goal.type_token-requires
 type_token-requires c =
-    let pre = c.requires in let loop = c.loop-i in record { token_arrays = room_still (loop.i + 1) (omega arith) loop.invariant.0.values_long refl refl pre.0; table_filled = pre.1.0; i_value = (loop.invariant.1 c.loop-i-test.true, pre.1.1.1) }
+    let pre = c.requires in let loop = c.loop-i in record { token_arrays = room_still (loop.i + 1) (omega arith) loop.invariant.0.values_long refl refl pre.token_arrays; table_filled = pre.table_filled.0; i_value = (loop.invariant.1 c.loop-i-test.true, pre.table_filled.1.1) }
 
 pub shape_of-values-then-not-type_token : goal.shape_of-values-then-not-type_token
 shape_of-values-then-not-type_token c =
-    c.type_token.auto.1.1.1.1.1.0 ∙ c.loop-i.invariant.0.values_long
+    c.type_token.auto.values ∙ c.loop-i.invariant.0.values_long
 
 pub returns-then-not-type_token : goal.returns-then-not-type_token
 returns-then-not-type_token c =
@@ -40,8 +40,8 @@ loop-i-preserved c =
     let loop = c.loop-i in
     let test = c.loop-i-test in
     let told = c.type_token in
-    asking_next _ _ _ _ _ _ _ _ _ pre.0 _ _ loop.invariant.0 test.true _ _ told.ensures (ap not c.if-not-type_token.false) told.auto.1.1.1.1.1.0
-    (follows pre.1.1.0 test.true (loop.invariant.1 test.true) c.next_in-i.ensures)
+    asking_next _ _ _ _ _ _ _ _ _ pre.token_arrays _ _ loop.invariant.0 test.true _ _ told.ensures (ap not c.if-not-type_token.false) told.auto.values
+    (follows pre.table_filled.1.0 test.true (loop.invariant.1 test.true) c.next_in-i.ensures)
 
 pub shape_of-values : goal.shape_of-values
 shape_of-values c =

@@ -44,7 +44,7 @@ loop-t-smaller-then-is_plain c =
 
 pub loop-t-preserved-then-is_plain : goal.loop-t-preserved-then-is_plain
 loop-t-preserved-then-is_plain c =
-    goes_plainly c.loop-t.invariant c.next_token-t.ensures c.if-t-eq0.false c.entry_at-e.result c.go-s.result _ _ c.entry_at-e.ensures (c.is_plain.ensures c.if-is_plain.true) (room_here c.loop-t.invariant c.next_token-t.ensures c.if-t-eq0.false c.requires.2).offsets_room c.go-s.ensures.gone c.go-s.ensures.offsets_after c.go-s.auto.0 c.go-s.auto.1.0
+    goes_plainly c.loop-t.invariant c.next_token-t.ensures c.if-t-eq0.false c.entry_at-e.result c.go-s.result _ _ c.entry_at-e.ensures (c.is_plain.ensures c.if-is_plain.true) (room_here c.loop-t.invariant c.next_token-t.ensures c.if-t-eq0.false c.requires.2).offsets_room c.go-s.ensures.gone c.go-s.ensures.offsets_after c.go-s.auto.roles c.go-s.auto.offsets
 
 pub top_of-top-requires : goal.top_of-top-requires
 top_of-top-requires c =
@@ -80,4 +80,4 @@ loop-t-smaller c =
 
 pub loop-t-preserved : goal.loop-t-preserved
 loop-t-preserved c =
-    goes_on c.loop-t.invariant c.next_token-t.ensures c.if-t-eq0.false c.turn_under-m.result c.top_of-top.result c.advance-s.result _ _ _ c.turn_under-m.ensures (top_here c.loop-t.invariant c.next_token-t.ensures c.if-t-eq0.false c.top_of-top.ensures) c.if-m-eq-STUCK.false (room_here c.loop-t.invariant c.next_token-t.ensures c.if-t-eq0.false c.requires.2).offsets_room c.advance-s.ensures.advanced c.advance-s.ensures.offsets_after c.advance-s.auto.1.1.0 c.advance-s.auto.1.1.1.0 c.advance-s.auto.1.1.1.1.0
+    goes_on c.loop-t.invariant c.next_token-t.ensures c.if-t-eq0.false c.turn_under-m.result c.top_of-top.result c.advance-s.result _ _ _ c.turn_under-m.ensures (top_here c.loop-t.invariant c.next_token-t.ensures c.if-t-eq0.false c.top_of-top.ensures) c.if-m-eq-STUCK.false (room_here c.loop-t.invariant c.next_token-t.ensures c.if-t-eq0.false c.requires.2).offsets_room c.advance-s.ensures.advanced c.advance-s.ensures.offsets_after c.advance-s.auto.roles c.advance-s.auto.offsets c.advance-s.auto.closers

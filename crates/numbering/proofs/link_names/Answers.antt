@@ -17,7 +17,7 @@ pub loop-i-preserved : goal.loop-i-preserved
 loop-i-preserved c =
     let t = c.link in
     let l = c.loop-i.invariant in
-    (omega arith, t.auto.1.1.1.0 ∙ l.1, t.ensures)
+    (omega arith, t.auto.chain ∙ l.1, t.ensures)
 
 pub by_name-requires : goal.by_name-requires
 by_name-requires c =

@@ -9,8 +9,8 @@ returns-then-e-count c =
 
 pub add-requires : goal.add-requires
 add-requires c =
-    let pre = c.requires in let name = c.name_at-name in record { count_in_bounds = (pre.1.0, pre.1.1, pre.1.2); hash_in_bounds = (omega (arith, name.ensures.hash_low, pre.0.0.holds.hashes), omega (arith, pre.0.0.holds.begun name.result.hash, pre.0.0.counted, pre.1.2)) }
+    let pre = c.requires in let name = c.name_at-name in record { count_in_bounds = (pre.count_in_bounds.0, pre.count_in_bounds.1, pre.count_in_bounds.2); hash_in_bounds = (omega (arith, name.ensures.hash_low, pre.table_filled.0.holds.hashes), omega (arith, pre.table_filled.0.holds.begun name.result.hash, pre.table_filled.0.counted, pre.count_in_bounds.2)) }
 
 pub returns : goal.returns
 returns c =
-    let pre = c.requires in let name = c.name_at-name.ensures in let place = c.search-e.ensures in let kept = c.add.ensures in record { place_is = place; grows = enter_new _ _ _ _ _ _ _ place _ _ _ _ _ c.if-e-count.false refl pre.1.0 pre.1.1 pre.1.2 pre.0.1 name.hash_is name.hash_low kept.0 kept.1.0 kept.1.1 }
+    let pre = c.requires in let name = c.name_at-name.ensures in let place = c.search-e.ensures in let kept = c.add.ensures in record { place_is = place; grows = enter_new _ _ _ _ _ _ _ place _ _ _ _ _ c.if-e-count.false refl pre.count_in_bounds.0 pre.count_in_bounds.1 pre.count_in_bounds.2 pre.table_filled.1 name.hash_is name.hash_low kept.firsts_after kept.links_after.0 kept.links_after.1 }

@@ -8,4 +8,4 @@ returns c p is =
     let add-frame = c.add_frame in
     let shift-up = c.shift_up in
     let put_frame = c.put_frame in
-    frame_inserted p _ _ _ is count.result count.ensures.0 _ c.args.at c.args.f (omega (arith, count.ensures.0)) add-frame.ensures shift-up.ensures put_frame.ensures.1
+    frame_inserted p _ _ _ is count.result count.ensures.0 _ c.args.at c.args.f (omega (arith, count.ensures.0)) add-frame.ensures shift-up.ensures put_frame.ensures.block_after_2

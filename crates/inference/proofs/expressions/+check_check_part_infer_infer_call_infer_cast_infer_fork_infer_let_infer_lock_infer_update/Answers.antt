@@ -111,11 +111,11 @@ infer_call-check_part-r-requires t c =
 
 pub infer_call-returns-in_default-r : goal.infer_call-returns-in_default-r
 infer_call-returns-in_default-r t c =
-    let p = c.requires.1 in record { inferred = laws.call_argument p.0 p.1 _ c.infer_var-target.ensures _ _ _ c.in-Typed.is c.node_word-m.ensures.0 c.method_of.ensures _ _ _ _ c.in-Types.is c.node_word-argument.ensures.0 c.check_part-r.ensures.checked _ _ c.in_default-r.is; env_unchanged = c.check_part-r.ensures.env_unchanged }
+    let p = c.requires in record { inferred = laws.call_argument p.0 p.1 _ c.infer_var-target.ensures _ _ _ c.in-Typed.is c.node_word-m.ensures.0 c.method_of.ensures _ _ _ _ c.in-Types.is c.node_word-argument.ensures.0 c.check_part-r.ensures.checked _ _ c.in_default-r.is; env_unchanged = c.check_part-r.ensures.env_unchanged }
 
 pub infer_call-returns : goal.infer_call-returns
 infer_call-returns t c =
-    let p = c.requires.1 in record { inferred = laws.call_done p.0 p.1 _ c.infer_var-target.ensures _ _ _ c.in-Typed.is c.node_word-m.ensures.0 c.method_of.ensures _ _ _ _ c.in-Types.is c.node_word-argument.ensures.0 c.check_part-r.ensures.checked _ c.in-Typed-r.is; env_unchanged = c.check_part-r.ensures.env_unchanged }
+    let p = c.requires in record { inferred = laws.call_done p.0 p.1 _ c.infer_var-target.ensures _ _ _ c.in-Typed.is c.node_word-m.ensures.0 c.method_of.ensures _ _ _ _ c.in-Types.is c.node_word-argument.ensures.0 c.check_part-r.ensures.checked _ c.in-Typed-r.is; env_unchanged = c.check_part-r.ensures.env_unchanged }
 
 pub infer_cast-check_part-requires : goal.infer_cast-check_part-requires
 unfolding kind_of
@@ -141,7 +141,7 @@ infer_fork-infer-requires t c =
 
 pub infer_fork-returns-in_default : goal.infer_fork-returns-in_default
 infer_fork-returns-in_default t c =
-    record { given_as = laws.fork_left c.requires.0 c.requires.1 c.if-facts-n-eq1.false _ _ c.node_word-a.ensures.0 c.infer.ensures.given_as _ c.no_null-left.ensures c.in_default.keys2; env_unchanged = c.infer.ensures.env_unchanged }
+    record { given_as = laws.fork_left c.requires.0 c.requires.1 c.if-facts-n-eq1.false _ _ c.node_word-a.ensures.0 c.infer.ensures.given_as _ c.no_null-left.ensures c.in_default.in_default-own.keys2; env_unchanged = c.infer.ensures.env_unchanged }
 
 pub infer_fork-infer-requires-2 : goal.infer_fork-infer-requires-2
 unfolding kind_of
@@ -150,7 +150,7 @@ infer_fork-infer-requires-2 t c =
 
 pub infer_fork-returns-in_default-right : goal.infer_fork-returns-in_default-right
 infer_fork-returns-in_default-right t c =
-    record { given_as = laws.fork_right c.requires.0 c.requires.1 c.if-facts-n-eq1.false _ _ c.node_word-a.ensures.0 c.infer.ensures.given_as _ c.no_null-left.ensures _ _ c.in-Typed.is _ _ _ c.node_word-b.ensures.0 (laws.same_env _ _ _ c.infer.ensures.env_unchanged c.infer-2.ensures.given_as) c.no_null-right.ensures c.in_default-right.keys2; env_unchanged = c.infer-2.ensures.env_unchanged ∙ c.infer.ensures.env_unchanged }
+    record { given_as = laws.fork_right c.requires.0 c.requires.1 c.if-facts-n-eq1.false _ _ c.node_word-a.ensures.0 c.infer.ensures.given_as _ c.no_null-left.ensures _ _ c.in-Typed.is _ _ _ c.node_word-b.ensures.0 (laws.same_env _ _ _ c.infer.ensures.env_unchanged c.infer-2.ensures.given_as) c.no_null-right.ensures c.in_default-right.in_default-right-own.keys2; env_unchanged = c.infer-2.ensures.env_unchanged ∙ c.infer.ensures.env_unchanged }
 
 pub infer_fork-node_word-c-requires : goal.infer_fork-node_word-c-requires
 infer_fork-node_word-c-requires t c =
@@ -172,7 +172,7 @@ infer_let-infer-requires t c =
 
 pub infer_let-returns-in_default : goal.infer_let-returns-in_default
 infer_let-returns-in_default t c =
-    record { given_as = laws.let_first c.requires.0 _ _ _ c.requires.1 c.node_word-value.ensures.0 c.infer.ensures.given_as c.no_null-first.ensures c.in_default.keys2; env_unchanged = c.infer.ensures.env_unchanged }
+    record { given_as = laws.let_first c.requires.0 _ _ _ c.requires.1 c.node_word-value.ensures.0 c.infer.ensures.given_as c.no_null-first.ensures c.in_default.in_default-own.keys2; env_unchanged = c.infer.ensures.env_unchanged }
 
 pub infer_let-bounds-facts-n : goal.infer_let-bounds-facts-n
 infer_let-bounds-facts-n t c =
@@ -255,8 +255,8 @@ infer_update-check_part-r-requires t c =
 
 pub infer_update-returns-in_default-r : goal.infer_update-returns-in_default-r
 infer_update-returns-in_default-r t c =
-    let p = c.requires.1 in record { inferred = laws.update_value p.0 p.1 _ c.infer_select-field.ensures _ _ _ c.in-Typed.is c.node_word-value.ensures.0 c.check_part-r.ensures.checked _ _ c.in_default-r.is; env_unchanged = c.check_part-r.ensures.env_unchanged }
+    let p = c.requires in record { inferred = laws.update_value p.0 p.1 _ c.infer_select-field.ensures _ _ _ c.in-Typed.is c.node_word-value.ensures.0 c.check_part-r.ensures.checked _ _ c.in_default-r.is; env_unchanged = c.check_part-r.ensures.env_unchanged }
 
 pub infer_update-returns : goal.infer_update-returns
 infer_update-returns t c =
-    let p = c.requires.1 in record { inferred = laws.update_done p.0 p.1 _ c.infer_select-field.ensures _ _ _ c.in-Typed.is c.node_word-value.ensures.0 c.check_part-r.ensures.checked _ c.in-Typed-r.is; env_unchanged = c.check_part-r.ensures.env_unchanged }
+    let p = c.requires in record { inferred = laws.update_done p.0 p.1 _ c.infer_select-field.ensures _ _ _ c.in-Typed.is c.node_word-value.ensures.0 c.check_part-r.ensures.checked _ c.in-Typed-r.is; env_unchanged = c.check_part-r.ensures.env_unchanged }

@@ -56,7 +56,7 @@ covers-requires t c =
 
 pub returns-then-not-covers : goal.returns-then-not-covers
 returns-then-not-covers t c =
-    let p = c.requires.1 in (cover_left p.0 _ _ p.3 _ c.record_word-form.ensures.0 c.if-form-ne1.false _ _ c.record_word-left.ensures.0 c.covers.ensures.0 (not-true _ (ap not c.if-not-covers.true)), c.covers.ensures.1)
+    let p = c.requires in (cover_left p.0 _ _ p.3 _ c.record_word-form.ensures.0 c.if-form-ne1.false _ _ c.record_word-left.ensures.0 c.covers.ensures.0 (not-true _ (ap not c.if-not-covers.true)), c.covers.ensures.1)
 
 pub record_word-right-requires : goal.record_word-right-requires
 record_word-right-requires t c =
@@ -68,7 +68,7 @@ covers-requires-2 t c =
 
 pub returns-then-not-covers-2 : goal.returns-then-not-covers-2
 returns-then-not-covers-2 t c =
-    let p = c.requires.1 in (cover_right p.0 _ _ p.3 _ c.record_word-form.ensures.0 c.if-form-ne1.false _ _ c.record_word-left.ensures.0 c.covers.ensures.0 _ _ _ (not-false _ (ap not c.if-not-covers.false)) c.record_word-right.ensures.0 c.covers-2.ensures.0 (not-true _ (ap not c.if-not-covers-2.true)), c.covers-2.ensures.1)
+    let p = c.requires in (cover_right p.0 _ _ p.3 _ c.record_word-form.ensures.0 c.if-form-ne1.false _ _ c.record_word-left.ensures.0 c.covers.ensures.0 _ _ _ (not-false _ (ap not c.if-not-covers.false)) c.record_word-right.ensures.0 c.covers-2.ensures.0 (not-true _ (ap not c.if-not-covers-2.true)), c.covers-2.ensures.1)
 
 pub bounds-marks-i-2 : goal.bounds-marks-i-2
 bounds-marks-i-2 t c =
@@ -80,4 +80,4 @@ shape_of-marks t c =
 
 pub returns : goal.returns
 returns t c =
-    let p = c.requires.1 in let d = cover_right p.0 _ _ p.3 _ c.record_word-form.ensures.0 c.if-form-ne1.false _ _ c.record_word-left.ensures.0 c.covers.ensures.0 _ _ _ (not-false _ (ap not c.if-not-covers.false)) c.record_word-right.ensures.0 c.covers-2.ensures.0 (not-false _ (ap not c.if-not-covers-2.false)) in (d, cover_more p.0 _ _ p.3 _ c.covers-2.ensures.1 d)
+    let p = c.requires in let d = cover_right p.0 _ _ p.3 _ c.record_word-form.ensures.0 c.if-form-ne1.false _ _ c.record_word-left.ensures.0 c.covers.ensures.0 _ _ _ (not-false _ (ap not c.if-not-covers.false)) c.record_word-right.ensures.0 c.covers-2.ensures.0 (not-false _ (ap not c.if-not-covers-2.false)) in (d, cover_more p.0 _ _ p.3 _ c.covers-2.ensures.1 d)

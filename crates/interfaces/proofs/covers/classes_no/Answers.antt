@@ -7,18 +7,14 @@ use Rattle.script.specs.Reading.{class_at, program_of}
 use Rattle.sections.proofs.Search.{search_start, search_pass, found_end, found_fail, lowest_here, lowest_none}
 use Rattle.typing.specs.Check.{class_test, classes_test}
 use Rattle.subtypes.proofs.SubtypeLaws.{laid}
-use Rattle.interfaces.proofs.CoverLaws.{class_test_lem}
+use Rattle.interfaces.proofs.CoverLaws.{class_test_lem, covers_test}
 use mathlib.Core.Path.{ap}
 use mathlib.Core.Bool.{not}
 use Rattle.interfaces.proofs.covers.classes_no.Goals as goal
 
--- What question 10 asks of a class.
-abbrev coversTest : List ℕ → ℕ → Bool
-coversTest s c = class_test (program_of s) (class_at s c)
-
 pub loop-c-init : goal.loop-c-init
 loop-c-init c =
-    search_start (coversTest c.args.s.now) _
+    search_start (covers_test c.args.s.now) _
 
 pub implements-requires : goal.implements-requires
 implements-requires c =
@@ -31,13 +27,13 @@ record_at-requires c =
 pub returns-then-not-implements : goal.returns-then-not-implements
 unfolding classes_test
 returns-then-not-implements c =
-    lowest_here _ _ _ _ _ (found_fail (coversTest c.args.s.now) _ _ _ c.loop-c.invariant (omega (arith, c.count_of-n.ensures.0, c.loop-c-test.true)) (class_test_lem c.requires.0 c.requires.2 _ _ _ (omega (arith, c.count_of-n.ensures.0, c.loop-c-test.true)) c.implements.ensures (not-true _ (ap not c.if-not-implements.true)))) c.record_at.ensures.0
+    lowest_here _ _ _ _ _ (found_fail (covers_test c.args.s.now) _ _ _ c.loop-c.invariant (omega (arith, c.count_of-n.ensures.0, c.loop-c-test.true)) (class_test_lem c.requires.0 c.requires.2 _ _ _ (omega (arith, c.count_of-n.ensures.0, c.loop-c-test.true)) c.implements.ensures (not-true _ (ap not c.if-not-implements.true)))) c.record_at.ensures.0
 
 pub loop-c-preserved : goal.loop-c-preserved
 loop-c-preserved c =
-    search_pass (coversTest c.args.s.now) _ _ _ c.loop-c.invariant (omega (arith, c.count_of-n.ensures.0, c.loop-c-test.true)) (class_test_lem c.requires.0 c.requires.2 _ _ _ (omega (arith, c.count_of-n.ensures.0, c.loop-c-test.true)) c.implements.ensures (not-false _ (ap not c.if-not-implements.false)))
+    search_pass (covers_test c.args.s.now) _ _ _ c.loop-c.invariant (omega (arith, c.count_of-n.ensures.0, c.loop-c-test.true)) (class_test_lem c.requires.0 c.requires.2 _ _ _ (omega (arith, c.count_of-n.ensures.0, c.loop-c-test.true)) c.implements.ensures (not-false _ (ap not c.if-not-implements.false)))
 
 pub returns : goal.returns
 unfolding classes_test
 returns c =
-    lowest_none _ _ _ (found_end (coversTest c.args.s.now) _ _ _ c.loop-c.invariant (omega (arith, c.count_of-n.ensures.0, c.loop-c-test.false)))
+    lowest_none _ _ _ (found_end (covers_test c.args.s.now) _ _ _ c.loop-c.invariant (omega (arith, c.count_of-n.ensures.0, c.loop-c-test.false)))

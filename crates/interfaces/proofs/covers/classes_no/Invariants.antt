@@ -3,10 +3,11 @@ use Prim.Native.Nat.{◌-◌}
 use Rattle.script.specs.declared.Section.TheVariants.{Classes as classes}
 use Rattle.script.specs.Section.{count_of}
 use Rattle.script.specs.Asking.{first_out_of}
+use Rattle.interfaces.proofs.CoverLaws.{covers_test}
 use Rattle.interfaces.proofs.covers.classes_no.Given as goal
 
 abbrev pub invariant-loop-c : goal.invariant-loop-c
-invariant-loop-c l = first_out_of (coversTest l.s) 0 (count_of l.s classes) ≡ first_out_of (coversTest l.s) l.c (count_of l.s classes - l.c)
+invariant-loop-c l = first_out_of (covers_test l.s) 0 (count_of l.s classes) ≡ first_out_of (covers_test l.s) l.c (count_of l.s classes - l.c)
 
 abbrev pub decreases-loop-c : goal.decreases-loop-c
 decreases-loop-c l = l.n - l.c

@@ -25,4 +25,4 @@ returns-then-a-b-eq0 c =
 
 pub returns : goal.returns
 returns c =
-    record { by_index = mark_new _ c.args.masks.now _ _ c.requires.0 c.requires.1 _ _ _ c.if-node_index-ne8.false c.node_index.ensures.0 c.part_mask-a.ensures c.part_mask-b.ensures (omega (arith, c.part_mask-a.type-inv)) c.if-a-b-eq0.false; value = λ f. absurd (f (c.requires.1, sym c.node_index.ensures.0 ∙ c.if-node_index-ne8.false)) }
+    record { by_index = mark_new _ c.args.masks.now _ _ c.requires.0 c.requires.1 _ _ _ c.if-node_index-ne8.false c.node_index.ensures.0 c.part_mask-a.ensures c.part_mask-b.ensures (omega (arith, c.part_mask-a.type_inv)) c.if-a-b-eq0.false; value = λ f. absurd (f (c.requires.1, sym c.node_index.ensures.0 ∙ c.if-node_index-ne8.false)) }

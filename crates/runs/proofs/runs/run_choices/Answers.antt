@@ -8,4 +8,4 @@ returns-in-Ends c =
 
 pub follow-requires : goal.follow-requires
 follow-requires c =
-    let pre = c.requires in record { empty_env = pre.0; choices_len_bound = pre.1; config_value = λ x. laws.look_on _ _ (c.look-how.ensures x) c.in_default.is }
+    let pre = c.requires in record { empty_env = pre.empty_env; choices_len_bound = pre.choices_len_bound; config_value = λ x. laws.look_on _ _ (c.look-how.ensures x) c.in_default.is }

@@ -18,7 +18,7 @@ overflow_add-start c =
 
 pub loop-start-preserved : goal.loop-start-preserved
 loop-start-preserved c =
-    (c.fill_span.auto.1.1.0 ∙ c.loop-start.invariant.0, like_then c.loop-start.invariant.1 c.fill_span.ensures.0, c.fill_span.ensures.1)
+    (c.fill_span.auto.masks ∙ c.loop-start.invariant.0, like_then c.loop-start.invariant.1 c.fill_span.ensures.0, c.fill_span.ensures.1)
 
 pub shape_of-masks : goal.shape_of-masks
 shape_of-masks c =

@@ -30,7 +30,7 @@ failed-requires c =
 
 pub put_tree-requires : goal.put_tree-requires
 put_tree-requires c = (
-  omega (arith, seen_length c.requires.seen, c.remove_frames.auto.0),
+  omega (arith, seen_length c.requires.seen, c.remove_frames.auto.block),
   frames_few c.requires.seen (λ p is. (_, c.remove_frames.ensures p is)),
   c.failed.ensures.bounded,
   c.failed.ensures.words c.take_tree-tree.ensures.worded,
@@ -38,7 +38,7 @@ put_tree-requires c = (
 
 pub shape_of-block : goal.shape_of-block
 shape_of-block c =
-    omega (arith, c.remove_frames.auto.0, c.put_tree.auto.0)
+    omega (arith, c.remove_frames.auto.block, c.put_tree.auto.block)
 
 pub returns : goal.returns
 returns c =

@@ -24,11 +24,11 @@ remove_frames-requires c = (
 
 pub put_entry-requires : goal.put_entry-requires
 put_entry-requires c =
-    (omega (arith, seen_length c.requires.0.seen, c.remove_frames.auto.0), seen_room c.requires.0.seen, c.requires.2)
+    (omega (arith, seen_length c.requires.0.seen, c.remove_frames.auto.block), seen_room c.requires.0.seen, c.requires.2)
 
 pub shape_of-block : goal.shape_of-block
 shape_of-block c =
-    omega (arith, c.remove_frames.auto.0, c.put_entry.auto.0)
+    omega (arith, c.remove_frames.auto.block, c.put_entry.auto.block)
 
 pub returns : goal.returns
 returns c =

@@ -24,11 +24,11 @@ overflow_add-frames c =
 
 pub put_entry-requires : goal.put_entry-requires
 put_entry-requires c =
-    (omega (arith, seen_length c.requires.0.seen, c.insert_frame.auto.0), seen_room c.requires.0.seen, omega arith)
+    (omega (arith, seen_length c.requires.0.seen, c.insert_frame.auto.block), seen_room c.requires.0.seen, omega arith)
 
 pub shape_of-block : goal.shape_of-block
 shape_of-block c =
-    omega (arith, c.insert_frame.auto.0, c.put_entry.auto.0)
+    omega (arith, c.insert_frame.auto.block, c.put_entry.auto.block)
 
 pub returns : goal.returns
 returns c =

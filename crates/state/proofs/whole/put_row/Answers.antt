@@ -20,7 +20,7 @@ put-requires c =
 
 pub loop-j-preserved : goal.loop-j-preserved
 loop-j-preserved c = (
-  omega (arith, c.put.auto.0),
+  omega (arith, c.put.auto.block),
   omega arith,
   λ ws is. word_put _ _ ws _ _ _ _ c.requires.2 (omega arith) refl (c.loop-j.invariant.2 ws is) c.put.ensures,
 )

@@ -25,14 +25,14 @@ put_row-requires c =
 
 pub loop-i-preserved : goal.loop-i-preserved
 loop-i-preserved c = (
-  omega (arith, c.put_row.auto.0),
+  omega (arith, c.put_row.auto.block),
   omega arith,
   write_more _ c.args.t2 _ _ _ _ c.loop-i.invariant.2 (λ ts is. c.row_at-row.ensures.1 c.args.t2 ts c.requires.2 is refl refl) c.put_row.ensures,
 )
 
 pub shape_of-block : goal.shape_of-block
 shape_of-block c =
-    omega (arith, c.put_count.auto.0)
+    omega (arith, c.put_count.auto.block)
 
 pub returns : goal.returns
 returns c =

@@ -1,7 +1,9 @@
 use mathlib.Core.Path.{refl}
 use native.Mathlib.Omega.{arith}
 use Rattle.token_words.proofs.TokenLaws.{GoesOn, counting_starts, goes_on, counting_step, stops_at, stops_at_end, all_members}
+use mathlib.Core.Logic.{inl, inr}
 use Rattle.token_words.proofs.leaves.owned.Goals as goal
+use Rattle.token_words.proofs.leaves.owned.Goals.{then-here-eq-SIGNATURE, else-here-eq-SIGNATURE, then-here-eq-FIELD, else-here-eq-FIELD, then-here-eq-METHOD, else-here-eq-METHOD}
 
 pub loop-i-init : goal.loop-i-init
 loop-i-init c =
@@ -13,9 +15,9 @@ loop-i-preserved c =
     let g : GoesOn c.args.roles.now c.loop-i.i = goes_on c.loop-i-test.true c.if-here-eq-INTERFACE.false c.if-here-eq-CLASS.false in
     record {
       inside = omega arith;
-      signatures = counting_step g n.signatures c.if-here-eq-SIGNATURE.branch (λ w. w.taken) (λ w. w.left);
-      fields = counting_step g n.fields c.if-here-eq-FIELD.branch (λ w. w.taken) (λ w. w.left);
-      methods = counting_step g n.methods c.if-here-eq-METHOD.branch (λ w. w.taken) (λ w. w.left);
+      signatures = counting_step g n.signatures (elim c.if-here-eq-SIGNATURE.branch [ then-here-eq-SIGNATURE w ↦ inl (w.if-here-eq-SIGNATURE.true, w.signatures-is) | else-here-eq-SIGNATURE w ↦ inr (w.if-here-eq-SIGNATURE.false, w.signatures-is) ]) (λ e. e) (λ e. e);
+      fields = counting_step g n.fields (elim c.if-here-eq-FIELD.branch [ then-here-eq-FIELD w ↦ inl (w.if-here-eq-FIELD.true, w.fields-is) | else-here-eq-FIELD w ↦ inr (w.if-here-eq-FIELD.false, w.fields-is) ]) (λ e. e) (λ e. e);
+      methods = counting_step g n.methods (elim c.if-here-eq-METHOD.branch [ then-here-eq-METHOD w ↦ inl (w.if-here-eq-METHOD.true, w.methods-is) | else-here-eq-METHOD w ↦ inr (w.if-here-eq-METHOD.false, w.methods-is) ]) (λ e. e) (λ e. e);
     }
 
 pub returns-after-loop-i : goal.returns-after-loop-i

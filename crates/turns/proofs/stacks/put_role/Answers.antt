@@ -5,8 +5,8 @@ use Rattle.turns.proofs.stacks.put_role.Goals as goal
 
 pub shape_of-roles : goal.shape_of-roles
 shape_of-roles c =
-    simp length-set (omega (arith, c.settle.auto.0, c.replace_last.auto.0))
+    simp length-set (omega (arith, c.settle.auto.roles, c.replace_last.auto.roles))
 
 pub returns : goal.returns
 returns c =
-    role_put _ _ _ _ c.args.m c.args.own _ c.settle.ensures c.replace_last.ensures c.role_of.ensures (omega (arith, c.settle.auto.0, c.replace_last.auto.0))
+    role_put _ _ _ _ c.args.m c.args.own _ c.settle.ensures c.replace_last.ensures c.role_of.ensures (omega (arith, c.settle.auto.roles, c.replace_last.auto.roles))
