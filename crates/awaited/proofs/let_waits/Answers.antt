@@ -1,3 +1,4 @@
+use borrow.Enum.Refused.{opened}
 use mathlib.Core.Path.{◌∙◌}
 use Rattle.awaited.proofs.AwaitedLaws as laws
 use Rattle.awaited.proofs.ReadyLaws as ready
@@ -13,7 +14,7 @@ returns-in-Faulty c =
 
 pub first_type-requires : goal.first_type-requires
 first_type-requires c =
-    record { empty_env = ((ready.still_ready c.requires.scoped_block c.infer_under-g.ensures.table_unchanged).blank, laws.first_there (ready.scoped_at c.requires.scoped_block c.requires.node_under.0) c.requires.node_under.1 c.node_word-a.ensures.0); chain = (ready.chain c.requires.scoped_block _ c.requires.node_under.0.environment, ready.typed c.requires.scoped_block, ready.well c.requires.scoped_block _); inferable = laws.first_inferable (ready.scoped_at c.requires.scoped_block c.requires.node_under.0) c.requires.node_under.1 _ c.infer_under-g.ensures.given_in c.in_default.in_default-own.keys2 _ c.node_word-a.ensures.0 }
+    record { empty_env = ((ready.still_ready c.requires.scoped_block c.infer_under-g.ensures.table_unchanged).blank, laws.first_there (ready.scoped_at c.requires.scoped_block c.requires.node_under.0) c.requires.node_under.1 c.node_word-a.ensures.0); chain = (ready.chain c.requires.scoped_block _ c.requires.node_under.0.environment, ready.typed c.requires.scoped_block, ready.well c.requires.scoped_block _); inferable = laws.first_inferable (ready.scoped_at c.requires.scoped_block c.requires.node_under.0) c.requires.node_under.1 _ c.infer_under-g.ensures.given_in (opened c.in_default.in_default-own.keys2) _ c.node_word-a.ensures.0 }
 
 pub returns-in_default-first_type : goal.returns-in_default-first_type
 returns-in_default-first_type c =

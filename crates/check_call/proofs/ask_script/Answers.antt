@@ -7,4 +7,4 @@ check_script-requires c =
 
 pub returns : goal.returns
 returns c =
-    let told = c.check_script.ensures in record { number = told.number; place = told.place.0; start_type = told.place.1.0 }
+    let told = c.check_script.ensures in record { number = told.number; place = told.place; start_type = told.start_type }

@@ -1,3 +1,4 @@
+use borrow.Enum.Refused.{opened}
 use mathlib.Core.Path.{refl, ◌∙◌}
 use native.Mathlib.Omega.{arith}
 use Rattle.awaited.specs.declared.Waits.TheVariants.{Never, For, ForNull}
@@ -11,7 +12,7 @@ recall-kept-requires c =
 
 pub returns-in_default : goal.returns-in_default
 returns-in_default c =
-    record { waits_as = laws.as_recalled _ _ c.requires.memo_ready.remembers _ c.recall-kept.ensures c.in_default.in_default-own.keys2; table_unchanged = refl; remembers = c.requires.memo_ready.remembers }
+    record { waits_as = laws.as_recalled _ _ c.requires.memo_ready.remembers _ c.recall-kept.ensures (opened c.in_default.in_default-own.keys2); table_unchanged = refl; remembers = c.requires.memo_ready.remembers }
 
 pub overflow_add-u : goal.overflow_add-u
 overflow_add-u c =

@@ -6,7 +6,7 @@ use Rattle.silent_call.proofs.silent.Goals as goal
 
 pub returns-then-asked-ne0 : goal.returns-then-asked-ne0
 returns-then-asked-ne0 c =
-    let told = (refl, silent_refused c.args.script.now c.args.node _ _ _ c.silent_refusal.ensures c.ask_script-asked.ensures.number c.ask_script-asked.ensures.place.0 c.if-asked-ne0.true) in record { script = told.0; number = told.1; place = told.2; count = told.3 }
+    let told = (refl, silent_refused c.args.script.now c.args.node _ _ _ c.silent_refusal.ensures c.ask_script-asked.ensures.number c.ask_script-asked.ensures.place c.if-asked-ne0.true) in record { script = told.0; number = told.1; place = told.2; count = told.3 }
 
 pub silent_from-count-requires : goal.silent_from-count-requires
 silent_from-count-requires c =

@@ -13,4 +13,4 @@ add-requires c =
 
 pub returns : goal.returns
 returns c =
-    let pre = c.requires in let name = c.name_at-name.ensures in let place = c.search-e.ensures in let kept = c.add.ensures in record { place_is = place; grows = enter_new _ _ _ _ _ _ _ place _ _ _ _ _ c.if-e-count.false refl pre.count_in_bounds.0 pre.count_in_bounds.1 pre.count_in_bounds.2 pre.table_filled.1 name.hash_is name.hash_low kept.firsts_after kept.links_after.0 kept.links_after.1 }
+    let pre = c.requires in let name = c.name_at-name.ensures in let place = c.search-e.ensures in let kept = c.add.ensures in record { place_is = place; grows = enter_new _ _ _ _ _ _ _ place _ _ _ _ _ c.if-e-count.false refl pre.count_in_bounds.0 pre.count_in_bounds.1 pre.count_in_bounds.2 pre.table_filled.1 name.hash_is name.hash_low kept.firsts_after kept.links_after kept.heads_after }

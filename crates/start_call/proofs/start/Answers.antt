@@ -4,7 +4,7 @@ use Rattle.start_call.proofs.start.Goals as goal
 
 pub returns-then-checked-ne0 : goal.returns-then-checked-ne0
 returns-then-checked-ne0 c =
-    let told = (refl, script_refused c.args.script.now c.args.block.now _ _ _ c.start_refusal.ensures c.ask_script-checked.ensures.number c.ask_script-checked.ensures.place.0 c.if-checked-ne0.true) in record { script = told.0; number = told.1; place = told.2; block = told.3 }
+    let told = (refl, script_refused c.args.script.now c.args.block.now _ _ _ c.start_refusal.ensures c.ask_script-checked.ensures.number c.ask_script-checked.ensures.place c.if-checked-ne0.true) in record { script = told.0; number = told.1; place = told.2; block = told.3 }
 
 pub returns-then-block-ne-BLOCK : goal.returns-then-block-ne-BLOCK
 returns-then-block-ne-BLOCK c =

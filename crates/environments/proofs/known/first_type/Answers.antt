@@ -10,7 +10,7 @@ returns-in_default c =
 
 pub overflow_cast-result : goal.overflow_cast-result
 overflow_cast-result c =
-    omega (arith, laws.told_small (laws.scoped c.requires.empty_env.0 c.requires.empty_env.1 c.requires.chain.0.0 c.requires.chain.0.2) _ c.known_type.ensures _ c.in-At.is)
+    omega (arith, laws.told_small (laws.scoped c.requires.empty_env.0 c.requires.empty_env.1 c.requires.chain.0 c.requires.chain.2) _ c.known_type.ensures _ c.in-At.is)
 
 pub returns : goal.returns
 returns c =

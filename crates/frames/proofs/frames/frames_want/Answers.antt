@@ -20,19 +20,19 @@ frame_want-requires c =
 
 pub shape_of-table-in_default : goal.shape_of-table-in_default
 shape_of-table-in_default c =
-    ap length (c.frame_want.ensures.table_unchanged.0 ∙ c.loop-k.invariant.0.same)
+    ap length (c.frame_want.ensures.table_unchanged ∙ c.loop-k.invariant.0.same)
 
 pub shape_of-memo-in_default : goal.shape_of-memo-in_default
 shape_of-memo-in_default c =
-    same_size c.frame_want.ensures.table_unchanged.1 c.requires.memo_ready.remembers
+    same_size c.frame_want.ensures.remembers c.requires.memo_ready.remembers
 
 pub returns-in_default : goal.returns-in_default
 returns-in_default c =
-    record { value = laws.climb_stopped c.requires.memo_ready.ready c.requires.n_bound c.loop-k.invariant.0 (omega arith) _ c.frame_want.ensures.value c.in_default.is; table_unchanged = c.frame_want.ensures.table_unchanged.0 ∙ c.loop-k.invariant.0.same; remembers = c.frame_want.ensures.table_unchanged.1 }
+    record { value = laws.climb_stopped c.requires.memo_ready.ready c.requires.n_bound c.loop-k.invariant.0 (omega arith) _ c.frame_want.ensures.value c.in_default.is; table_unchanged = c.frame_want.ensures.table_unchanged ∙ c.loop-k.invariant.0.same; remembers = c.frame_want.ensures.remembers }
 
 pub loop-k-preserved : goal.loop-k-preserved
 loop-k-preserved c =
-    (laws.climb_more c.requires.memo_ready.ready c.requires.n_bound c.loop-k.invariant.0 (omega arith) _ c.frame_want.ensures.value c.frame_want.ensures.table_unchanged.0 _ c.in-Wants.is, c.frame_want.ensures.table_unchanged.1)
+    (laws.climb_more c.requires.memo_ready.ready c.requires.n_bound c.loop-k.invariant.0 (omega arith) _ c.frame_want.ensures.value c.frame_want.ensures.table_unchanged _ c.in-Wants.is, c.frame_want.ensures.remembers)
 
 pub shape_of-table : goal.shape_of-table
 shape_of-table c =

@@ -24,7 +24,7 @@ frames_want-requires c =
 
 pub shape_of-memo-in_default : goal.shape_of-memo-in_default
 shape_of-memo-in_default c =
-    same_size c.frames_want.ensures.table_unchanged.1 c.requires.memo_ready.remembers
+    same_size c.frames_want.ensures.remembers c.requires.memo_ready.remembers
 
 pub returns-in_default : goal.returns-in_default
 returns-in_default c =
@@ -40,7 +40,7 @@ value_fits-requires c =
 
 pub shape_of-memo-then-kind-eq-RETURNING : goal.shape_of-memo-then-kind-eq-RETURNING
 shape_of-memo-then-kind-eq-RETURNING c =
-    same_size c.frames_want.ensures.table_unchanged.1 c.requires.memo_ready.remembers
+    same_size c.frames_want.ensures.remembers c.requires.memo_ready.remembers
 
 pub returns-then-kind-eq-RETURNING : goal.returns-then-kind-eq-RETURNING
 returns-then-kind-eq-RETURNING c =
@@ -56,12 +56,12 @@ word-e-requires c =
 
 pub node_fits-requires : goal.node_fits-requires
 node_fits-requires c =
-    still_ready c.requires.memo_ready.ready c.frames_want.ensures.table_unchanged.0
+    still_ready c.requires.memo_ready.ready c.frames_want.ensures.table_unchanged
 
 pub shape_of-memo : goal.shape_of-memo
 shape_of-memo c =
-    same_size c.frames_want.ensures.table_unchanged.1 c.requires.memo_ready.remembers
+    same_size c.frames_want.ensures.remembers c.requires.memo_ready.remembers
 
 pub returns : goal.returns
 returns c =
-    record { value = laws.place_node c.requires.memo_ready.ready _ c.requires.i_bound.0 c.args.want _ c.word-kind.ensures.0 c.if-kind-eq-FAILED.false _ _ c.requires.i_bound.1 c.word-n.ensures.0 _ c.frames_want.ensures.value _ c.in-Wants.is c.if-kind-eq-RETURNING.false _ _ _ c.word-a.ensures.0 c.word-e.ensures.0 c.node_fits.ensures.value; table_unchanged = c.node_fits.ensures.table_unchanged ∙ c.frames_want.ensures.table_unchanged.0; remembers = c.frames_want.ensures.table_unchanged.1 }
+    record { value = laws.place_node c.requires.memo_ready.ready _ c.requires.i_bound.0 c.args.want _ c.word-kind.ensures.0 c.if-kind-eq-FAILED.false _ _ c.requires.i_bound.1 c.word-n.ensures.0 _ c.frames_want.ensures.value _ c.in-Wants.is c.if-kind-eq-RETURNING.false _ _ _ c.word-a.ensures.0 c.word-e.ensures.0 c.node_fits.ensures.value; table_unchanged = c.node_fits.ensures.table_unchanged ∙ c.frames_want.ensures.table_unchanged; remembers = c.frames_want.ensures.remembers }

@@ -23,11 +23,11 @@ position_fits-requires c =
 
 pub shape_of-table-then-not-position_fits : goal.shape_of-table-then-not-position_fits
 shape_of-table-then-not-position_fits c =
-    ap length (c.position_fits.ensures.table_unchanged.0 ∙ c.loop-i.invariant.1.same)
+    ap length (c.position_fits.ensures.table_unchanged ∙ c.loop-i.invariant.1.same)
 
 pub returns-then-not-position_fits : goal.returns-then-not-position_fits
 returns-then-not-position_fits c =
-    record { value = laws.pass_misfit c.requires c.loop-i.invariant.1 (omega (arith, c.loop-i.invariant.0)) _ c.position_fits.ensures.value (not-true _ (ap not c.if-not-position_fits.true)); table_unchanged = c.position_fits.ensures.table_unchanged.0 ∙ c.loop-i.invariant.1.same }
+    record { value = laws.pass_misfit c.requires c.loop-i.invariant.1 (omega (arith, c.loop-i.invariant.0)) _ c.position_fits.ensures.value (not-true _ (ap not c.if-not-position_fits.true)); table_unchanged = c.position_fits.ensures.table_unchanged ∙ c.loop-i.invariant.1.same }
 
 pub word-requires : goal.word-requires
 word-requires c =
@@ -39,7 +39,7 @@ overflow_add-from c =
 
 pub loop-i-preserved : goal.loop-i-preserved
 loop-i-preserved c =
-    (c.loop-i.invariant.0, laws.pass_more c.requires c.loop-i.invariant.1 (omega (arith, c.loop-i.invariant.0)) _ c.position_fits.ensures.value c.position_fits.ensures.table_unchanged.0 _ c.word.ensures.0 (not-false _ (ap not c.if-not-position_fits.false)), c.position_fits.ensures.table_unchanged.1)
+    (c.loop-i.invariant.0, laws.pass_more c.requires c.loop-i.invariant.1 (omega (arith, c.loop-i.invariant.0)) _ c.position_fits.ensures.value c.position_fits.ensures.table_unchanged _ c.word.ensures.0 (not-false _ (ap not c.if-not-position_fits.false)), c.position_fits.ensures.remembers)
 
 pub shape_of-table : goal.shape_of-table
 shape_of-table c =

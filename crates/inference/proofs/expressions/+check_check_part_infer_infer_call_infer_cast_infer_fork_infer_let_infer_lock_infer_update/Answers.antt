@@ -1,3 +1,4 @@
+use borrow.Enum.Refused.{opened}
 use mathlib.Core.Path.{refl, sym, ap, ◌∙◌}
 use Prim.Native.Nat.{◌+◌, ◌*◌, ◌-◌}
 use native.Mathlib.Omega.{arith}
@@ -141,7 +142,7 @@ infer_fork-infer-requires t c =
 
 pub infer_fork-returns-in_default : goal.infer_fork-returns-in_default
 infer_fork-returns-in_default t c =
-    record { given_as = laws.fork_left c.requires.0 c.requires.1 c.if-facts-n-eq1.false _ _ c.node_word-a.ensures.0 c.infer.ensures.given_as _ c.no_null-left.ensures c.in_default.in_default-own.keys2; env_unchanged = c.infer.ensures.env_unchanged }
+    record { given_as = laws.fork_left c.requires.0 c.requires.1 c.if-facts-n-eq1.false _ _ c.node_word-a.ensures.0 c.infer.ensures.given_as _ c.no_null-left.ensures (opened c.in_default.in_default-own.keys2); env_unchanged = c.infer.ensures.env_unchanged }
 
 pub infer_fork-infer-requires-2 : goal.infer_fork-infer-requires-2
 unfolding kind_of
@@ -150,7 +151,7 @@ infer_fork-infer-requires-2 t c =
 
 pub infer_fork-returns-in_default-right : goal.infer_fork-returns-in_default-right
 infer_fork-returns-in_default-right t c =
-    record { given_as = laws.fork_right c.requires.0 c.requires.1 c.if-facts-n-eq1.false _ _ c.node_word-a.ensures.0 c.infer.ensures.given_as _ c.no_null-left.ensures _ _ c.in-Typed.is _ _ _ c.node_word-b.ensures.0 (laws.same_env _ _ _ c.infer.ensures.env_unchanged c.infer-2.ensures.given_as) c.no_null-right.ensures c.in_default-right.in_default-right-own.keys2; env_unchanged = c.infer-2.ensures.env_unchanged ∙ c.infer.ensures.env_unchanged }
+    record { given_as = laws.fork_right c.requires.0 c.requires.1 c.if-facts-n-eq1.false _ _ c.node_word-a.ensures.0 c.infer.ensures.given_as _ c.no_null-left.ensures _ _ c.in-Typed.is _ _ _ c.node_word-b.ensures.0 (laws.same_env _ _ _ c.infer.ensures.env_unchanged c.infer-2.ensures.given_as) c.no_null-right.ensures (opened c.in_default-right.in_default-right-own.keys2); env_unchanged = c.infer-2.ensures.env_unchanged ∙ c.infer.ensures.env_unchanged }
 
 pub infer_fork-node_word-c-requires : goal.infer_fork-node_word-c-requires
 infer_fork-node_word-c-requires t c =
@@ -172,7 +173,7 @@ infer_let-infer-requires t c =
 
 pub infer_let-returns-in_default : goal.infer_let-returns-in_default
 infer_let-returns-in_default t c =
-    record { given_as = laws.let_first c.requires.0 _ _ _ c.requires.1 c.node_word-value.ensures.0 c.infer.ensures.given_as c.no_null-first.ensures c.in_default.in_default-own.keys2; env_unchanged = c.infer.ensures.env_unchanged }
+    record { given_as = laws.let_first c.requires.0 _ _ _ c.requires.1 c.node_word-value.ensures.0 c.infer.ensures.given_as c.no_null-first.ensures (opened c.in_default.in_default-own.keys2); env_unchanged = c.infer.ensures.env_unchanged }
 
 pub infer_let-bounds-facts-n : goal.infer_let-bounds-facts-n
 infer_let-bounds-facts-n t c =

@@ -5,6 +5,7 @@ use Rattle.script.specs.declared.Section.TheVariants.{Fields as fields}
 use Rattle.subtypes.proofs.SubtypeLaws.{laid}
 use Rattle.initials.proofs.InitialLaws as laws
 use Rattle.initials.proofs.initials.fill_numbers.Goals as goal
+use Rattle.initials.proofs.initials.fill_numbers.Goals.{then-record_word-int, else-record_word-int}
 
 pub loop-k-init : goal.loop-k-init
 loop-k-init c =
@@ -33,10 +34,10 @@ loop-k-smaller c =
 pub loop-k-preserved : goal.loop-k-preserved
 loop-k-preserved c = (
   omega arith,
-  ⊎_elim
-      (λ w. rw w.5 (laws.starts_zero c.loop-k.invariant.1 _ _ (omega arith) c.record_word.ensures.0 c.int_of-int.ensures.0 w.0.taken w.2.ensures))
-      (λ w. rw w.1 (laws.stays_null c.loop-k.invariant.1 _ _ (omega arith) c.record_word.ensures.0 c.int_of-int.ensures.0 w.0.left))
-      c.if-record_word-int.branch,
+  elim c.if-record_word-int.branch [
+      then-record_word-int w ↦ rw w.block-is (laws.starts_zero c.loop-k.invariant.1 _ _ (omega arith) c.record_word.ensures.0 c.int_of-int.ensures.0 w.if-record_word-int.true w.put_field.ensures)
+    | else-record_word-int w ↦ rw w.block-is (laws.stays_null c.loop-k.invariant.1 _ _ (omega arith) c.record_word.ensures.0 c.int_of-int.ensures.0 w.if-record_word-int.false)
+  ],
 )
 
 pub shape_of-block : goal.shape_of-block

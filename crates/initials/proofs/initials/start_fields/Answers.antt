@@ -1,3 +1,4 @@
+use borrow.Enum.Refused.{opened}
 use mathlib.Core.Path.{refl}
 use mathlib.Core.Logic.{⊎_elim}
 use native.Mathlib.Omega.{arith}
@@ -10,7 +11,7 @@ use Rattle.initials.proofs.initials.start_fields.Goals as goal
 
 pub returns-in_default : goal.returns-in_default
 returns-in_default c =
-    laws.none_started c.declared_as-d.ensures (λ n e. ⊎_elim (λ z. omega (arith, (rw e at z))) (λ z. omega (arith, (rw e at z))) c.in_default.in_default-own.keys2)
+    laws.none_started c.declared_as-d.ensures (λ n e. ⊎_elim (λ z. omega (arith, (rw e at z))) (λ z. omega (arith, (rw e at z))) (opened c.in_default.in_default-own.keys2))
 
 pub overflow_add-from : goal.overflow_add-from
 overflow_add-from c =

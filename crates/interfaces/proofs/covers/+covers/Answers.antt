@@ -1,7 +1,8 @@
 use borrow.Author.Rules.{rules}
 use borrow.Author.Tests.{not-true, not-false}
 use lib.ListN.{length-set}
-use mathlib.Core.Path.{sym, ◌∙◌}
+use mathlib.Core.Bool.{not}
+use mathlib.Core.Path.{ap, sym, ◌∙◌}
 use native.Mathlib.Omega.{arith}
 use Rattle.script.specs.declared.Section.TheVariants.{Interfaces as interfaces}
 use Rattle.subtypes.proofs.SubtypeLaws.{left_earlier, right_earlier, earlier_interface}

@@ -1,3 +1,4 @@
+use borrow.Enum.Refused.{opened}
 use native.Mathlib.Omega.{arith}
 use mathlib.Core.Path.{refl, ◌∙◌}
 use Rattle.representation.specs.Preorder.{frames_above}
@@ -13,7 +14,7 @@ returns-in_default c =
 
 pub returns-in_default-value : goal.returns-in_default-value
 returns-in_default-value c =
-    record { x_value = λ c₀ p rest a₀ a k fs h. targets.null_target (targets.locks c₀.stores (frames_above [] c₀.tree p) fs a _ k) (c.target_of-found.ensures _ rest c₀.stores _ h.seen) c.in-Bound.is c.in_default-value.in_default-value-own.keys2; by_index = λ o e. absurd (laws.not_open e refl) }
+    record { x_value = λ c₀ p rest a₀ a k fs h. targets.null_target (targets.locks c₀.stores (frames_above [] c₀.tree p) fs a _ k) (c.target_of-found.ensures _ rest c₀.stores _ h.seen) c.in-Bound.is (opened c.in_default-value.in_default-value-own.keys2); by_index = λ o e. absurd (laws.not_open e refl) }
 
 pub word-shut-requires : goal.word-shut-requires
 word-shut-requires c =

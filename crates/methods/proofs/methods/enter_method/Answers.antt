@@ -1,3 +1,4 @@
+use borrow.Enum.Refused.{opened}
 use Rattle.moves.proofs.Laws.{performs_as}
 use Rattle.moves.proofs.TargetLaws as targets
 use Rattle.moves.specs.Performs.{performs_still}
@@ -9,7 +10,7 @@ returns-in_default c =
 
 pub returns-in_default-value : goal.returns-in_default-value
 returns-in_default-value c =
-    λ rest st g fs s. performs_as (targets.null_target (targets.calls _ st fs _ _ _) (c.target_of-found.ensures _ rest st _ s) c.in-Bound.is c.in_default-value.in_default-value-own.keys2) (c.fails.ensures rest st _ s)
+    λ rest st g fs s. performs_as (targets.null_target (targets.calls _ st fs _ _ _) (c.target_of-found.ensures _ rest st _ s) c.in-Bound.is (opened c.in_default-value.in_default-value-own.keys2)) (c.fails.ensures rest st _ s)
 
 pub call_object-requires : goal.call_object-requires
 call_object-requires c =

@@ -1,3 +1,4 @@
+use borrow.Enum.Refused.{opened}
 use mathlib.Core.Path.{◌∙◌}
 use Rattle.state.proofs.Moves.{lies}
 use Rattle.state.proofs.Seeing.{seen_length}
@@ -14,7 +15,7 @@ returns-in_default c =
 
 pub returns-in_default-value : goal.returns-in_default-value
 returns-in_default-value c =
-    λ rest st a fs own seen. performs_as (targets.null_target (targets.selects _ st fs _) (c.target_of-found.ensures _ rest st _ seen) c.in-Bound.is c.in_default-value.in_default-value-own.keys2) (c.fails.ensures rest st _ seen)
+    λ rest st a fs own seen. performs_as (targets.null_target (targets.selects _ st fs _) (c.target_of-found.ensures _ rest st _ seen) c.in-Bound.is (opened c.in_default-value.in_default-value-own.keys2)) (c.fails.ensures rest st _ seen)
 
 pub field_value-read-requires : goal.field_value-read-requires
 field_value-read-requires c =

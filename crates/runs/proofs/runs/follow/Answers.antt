@@ -6,7 +6,7 @@ use Rattle.runs.proofs.runs.follow.Goals as goal
 
 pub loop-read-init : goal.loop-read-init
 loop-read-init c =
-    (refl, refl, laws.loop_begun c.requires.choices_len_bound.1)
+    (refl, refl, laws.loop_begun c.requires.config_value)
 
 pub take_choice-taken-requires : goal.take_choice-taken-requires
 take_choice-taken-requires c =
@@ -14,11 +14,11 @@ take_choice-taken-requires c =
 
 pub overflow_add-read : goal.overflow_add-read
 overflow_add-read c =
-    omega (arith, c.loop-read.invariant.2.few, c.requires.choices_len_bound.0)
+    omega (arith, c.loop-read.invariant.2.few, c.requires.choices_len_bound)
 
 pub overflow_add-moves : goal.overflow_add-moves
 overflow_add-moves c =
-    omega (arith, c.loop-read.invariant.2.fewer, c.loop-read.invariant.2.few, c.take_choice-taken.ensures.table_unchanged.1, c.requires.choices_len_bound.0)
+    omega (arith, c.loop-read.invariant.2.fewer, c.loop-read.invariant.2.few, c.take_choice-taken.ensures.table_unchanged.1, c.requires.choices_len_bound)
 
 pub shape_of-table-in-Stops : goal.shape_of-table-in-Stops
 shape_of-table-in-Stops c =

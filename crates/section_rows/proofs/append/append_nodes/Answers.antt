@@ -23,24 +23,24 @@ overflow_add-n c =
 
 pub overflow_cast-n : goal.overflow_cast-n
 overflow_cast-n c =
-    let q = c.requires.sizes_known in omega (arith, q.few_nodes, nodes_few q c.requires.places_value.0.0)
+    let q = c.requires.sizes_known in omega (arith, q.few_nodes, nodes_few q c.requires.places_value.0)
 
 pub append_row-end-requires : goal.append_row-end-requires
 append_row-end-requires c =
-    let l = c.loop-k in let q = c.requires.sizes_known in let e = c.requires.places_value.0.0 in let h = c.loop-k-test.true in let z = place_at_lem nodes-section c.args.roles.now e l.k (omega arith) in let n = nodes_few q e in let r = row_length nodes-section c.args.types (c.args.base + (l.k - c.args.from)) (drop (get_or c.args.places.now l.k 0) (items_of c.args.text.now c.args.roles.now c.args.offsets.now c.args.values.now)) in record { readable = (q.readable, z.inside); sizes_bound = (omega (arith, q.few_nodes, n), omega (arith, q.few_nodes, n), z.begins); sizes_value = λ _. node_sizes q z; values_in_bounds = omega (arith, r, c.requires.places_value.1, l.invariant.3, l.invariant.2) }
+    let l = c.loop-k in let q = c.requires.sizes_known in let e = c.requires.places_value.0 in let h = c.loop-k-test.true in let z = place_at_lem nodes-section c.args.roles.now e l.k (omega arith) in let n = nodes_few q e in let r = row_length nodes-section c.args.types (c.args.base + (l.k - c.args.from)) (drop (get_or c.args.places.now l.k 0) (items_of c.args.text.now c.args.roles.now c.args.offsets.now c.args.values.now)) in record { readable = (q.readable, z.inside); sizes_bound = (omega (arith, q.few_nodes, n), omega (arith, q.few_nodes, n), z.begins); sizes_value = λ _. node_sizes q z; values_in_bounds = omega (arith, r, c.requires.from_in_bounds, l.invariant.3, l.invariant.2) }
 
 pub loop-k-preserved : goal.loop-k-preserved
 loop-k-preserved c =
     let l = c.loop-k in
     let q = c.requires.sizes_known in
     let f = c.append_row-end.ensures in
-    let z = place_at_lem nodes-section c.args.roles.now c.requires.places_value.0.0 l.k (omega arith) in
+    let z = place_at_lem nodes-section c.args.roles.now c.requires.places_value.0 l.k (omega arith) in
     let r = row_length nodes-section c.args.types (c.args.base + (l.k - c.args.from)) (drop (get_or c.args.places.now l.k 0) (items_of c.args.text.now c.args.roles.now c.args.offsets.now c.args.values.now)) in (
       omega arith,
       omega arith,
-      appended_long (omega (arith, r, c.requires.places_value.1, l.invariant.3, l.invariant.2)) f ∙ l.invariant.2,
+      appended_long (omega (arith, r, c.requires.from_in_bounds, l.invariant.3, l.invariant.2)) f ∙ l.invariant.2,
       omega (arith, r, f.end_is, l.invariant.3),
-      λ a b t. node_next q z l.invariant.0 (omega arith) t c.requires.places_value.1 (l.invariant.4 a b t) f,
+      λ a b t. node_next q z l.invariant.0 (omega arith) t c.requires.from_in_bounds (l.invariant.4 a b t) f,
     )
 
 pub shape_of-file : goal.shape_of-file

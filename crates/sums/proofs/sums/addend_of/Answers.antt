@@ -1,3 +1,4 @@
+use borrow.Enum.Refused.{opened}
 use Rattle.sums.proofs.SumLaws as laws
 use Rattle.sums.proofs.sums.addend_of.Goals as goal
 
@@ -7,7 +8,7 @@ returns-in_default c =
 
 pub returns-in_default-value : goal.returns-in_default-value
 returns-in_default-value c =
-    laws.addend_other _ _ _ _ c.variable.ensures _ c.in-Bound.is c.in_default-value.in_default-value-own.keys2
+    laws.addend_other _ _ _ _ c.variable.ensures _ c.in-Bound.is (opened c.in_default-value.in_default-value-own.keys2)
 
 pub returns : goal.returns
 returns c =

@@ -1,3 +1,4 @@
+use borrow.Enum.Refused.{opened}
 use mathlib.Core.Path.{refl}
 use native.Mathlib.Omega.{arith}
 use Rattle.tree.proofs.Parts.{used_length}
@@ -14,7 +15,7 @@ bounds-self-i c =
 
 pub returns-in_default : goal.returns-in_default
 returns-in_default c =
-    joins_none _ _ c.requires.0 c.in_default.in_default-own.keys2
+    joins_none _ _ c.requires.0 (opened c.in_default.in_default-own.keys2)
 
 pub returns : goal.returns
 returns c =

@@ -1,3 +1,4 @@
+use borrow.Enum.Refused.{opened}
 use borrow.Author.Rules.{rules}
 use mathlib.Core.Path.{refl, ap, ◌∙◌}
 use Rattle.machine.specs.declared.Value.TheVariants.{Null as nil}
@@ -14,7 +15,7 @@ returns-in_default c =
 
 pub returns-in_default-value : goal.returns-in_default-value
 returns-in_default-value c =
-    λ rest st g fs s own. performs_as (targets.null_target (targets.updates _ st fs _ _) (c.target_of-found.ensures _ rest st _ s) c.in-Bound.is c.in_default-value.in_default-value-own.keys2) (c.fails.ensures rest st _ s)
+    λ rest st g fs s own. performs_as (targets.null_target (targets.updates _ st fs _ _) (c.target_of-found.ensures _ rest st _ s) c.in-Bound.is (opened c.in_default-value.in_default-value-own.keys2)) (c.fails.ensures rest st _ s)
 
 pub write_field-requires : goal.write_field-requires
 write_field-requires c =

@@ -17,4 +17,4 @@ slice_bounds-write_over-end-3 c =
 
 pub returns : goal.returns
 returns c =
-    buffer_is c.args.file.now _ c.requires.n_in_bounds.3 (whole_fits c.requires.writable.0) c.clear.ensures c.write_over.ensures
+    buffer_is c.args.file.now _ c.requires.n_in_bounds.3 (whole_fits c.requires.writable) c.clear.ensures c.write_over.ensures
