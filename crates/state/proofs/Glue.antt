@@ -155,7 +155,7 @@ module _ (c : Config) (n : ℕ) (p : Path) (u : machine.Tree) (at : locate c.tre
         few = few_entries st s.positions (preorder t) (frames_of t) same (subst (λ (fs : List Frame). Few (parts_in st s.positions fs)) (sym (frames_there w)) s.few);
         storable =
             let p = parts_in st s.positions (frames_of t) in
-            storable_positions p (storable_frames _ s.storable (frames_of t)) (preorder t)
+            storable_positions p (storable_frames (parts_in st s.positions ((around c n u).outer ++ (frames_of w ++ (around c n u).later))) s.storable (frames_of t)) (preorder t)
             (storable_entries s.positions (preorder t) same (s.storable Positions));
       }
 

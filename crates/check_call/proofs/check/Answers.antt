@@ -5,7 +5,7 @@ use Rattle.check_call.proofs.check.Goals as goal
 
 pub returns-then-asked-ne0 : goal.returns-then-asked-ne0
 returns-then-asked-ne0 c =
-    let told = (refl, check_refused c.args.script.now _ _ _ c.check_refusal.ensures c.ask_script-asked.ensures.number c.ask_script-asked.ensures.place c.if-asked-ne0.true) in record { script = told.0; number = told.1; place = told.2; start_type = told.3; silent = told.4 }
+    let told = check_refused c.args.script.now _ _ _ c.check_refusal.ensures c.ask_script-asked.ensures.number c.ask_script-asked.ensures.place c.if-asked-ne0.true in record { script = refl; number = told.0; place = told.1.0; start_type = told.1.1.0; silent = told.1.1.1 }
 
 pub most_silent-silent-requires : goal.most_silent-silent-requires
 most_silent-silent-requires c =
@@ -13,4 +13,4 @@ most_silent-silent-requires c =
 
 pub returns : goal.returns
 returns c =
-    let told = (refl, check_accepted c.args.script.now _ _ _ _ c.check_reply.ensures c.ask_script-asked.ensures.number c.if-asked-ne0.false c.ask_script-asked.ensures.start_type c.most_silent-silent.ensures) in record { script = told.0; number = told.1; place = told.2; start_type = told.3; silent = told.4 }
+    let told = check_accepted c.args.script.now _ _ _ _ c.check_reply.ensures c.ask_script-asked.ensures.number c.if-asked-ne0.false c.ask_script-asked.ensures.start_type c.most_silent-silent.ensures in record { script = refl; number = told.0; place = told.1.0; start_type = told.1.1.0; silent = told.1.1.1 }

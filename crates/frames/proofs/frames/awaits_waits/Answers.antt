@@ -13,4 +13,4 @@ returns-then-count-e c =
 
 pub returns : goal.returns
 returns c =
-    let told = (laws.awaits_awaited _ _ _ _ (omega arith) (omega arith) c.node_waits.result c.node_waits.ensures.waits_as, c.node_waits.ensures.table_unchanged) in record { awaits_as = told.0; table_unchanged = told.1; remembers = told.2 }
+    record { awaits_as = laws.awaits_awaited _ _ _ _ (omega arith) (omega arith) c.node_waits.result c.node_waits.ensures.waits_as; table_unchanged = c.node_waits.ensures.table_unchanged; remembers = c.node_waits.ensures.remembers }

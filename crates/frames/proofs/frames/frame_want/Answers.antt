@@ -8,7 +8,7 @@ frame-f-requires c =
 
 pub returns-in-Awaits : goal.returns-in-Awaits
 returns-in-Awaits c =
-    let told = (laws.frame_awaits c.requires.memo_ready.ready _ c.requires.i_bound _ c.frame-f.ensures c.args.want c.awaits_waits-w.result _ c.expected.ensures _ _ c.in-Awaits.is c.awaits_waits-w.ensures.awaits_as, c.awaits_waits-w.ensures.table_unchanged) in record { value = told.0; table_unchanged = told.1; remembers = told.2 }
+    record { value = laws.frame_awaits c.requires.memo_ready.ready _ c.requires.i_bound _ c.frame-f.ensures c.args.want c.awaits_waits-w.result _ c.expected.ensures _ _ c.in-Awaits.is c.awaits_waits-w.ensures.awaits_as; table_unchanged = c.awaits_waits-w.ensures.table_unchanged; remembers = c.awaits_waits-w.ensures.remembers }
 
 pub returns-in-Casts : goal.returns-in-Casts
 returns-in-Casts c =

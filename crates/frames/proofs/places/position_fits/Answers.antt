@@ -28,7 +28,7 @@ shape_of-memo-in_default c =
 
 pub returns-in_default : goal.returns-in_default
 returns-in_default c =
-    let told = (laws.place_misfit c.requires.memo_ready.ready _ c.requires.i_bound.0 c.args.want _ c.word-kind.ensures.0 c.if-kind-eq-FAILED.false _ _ c.requires.i_bound.1 c.word-n.ensures.0 _ c.frames_want.ensures.value c.in_default.is, c.frames_want.ensures.table_unchanged) in record { value = told.0; table_unchanged = told.1; remembers = told.2 }
+    record { value = laws.place_misfit c.requires.memo_ready.ready _ c.requires.i_bound.0 c.args.want _ c.word-kind.ensures.0 c.if-kind-eq-FAILED.false _ _ c.requires.i_bound.1 c.word-n.ensures.0 _ c.frames_want.ensures.value c.in_default.is; table_unchanged = c.frames_want.ensures.table_unchanged; remembers = c.frames_want.ensures.remembers }
 
 pub value-x-requires : goal.value-x-requires
 value-x-requires c =
@@ -44,7 +44,7 @@ shape_of-memo-then-kind-eq-RETURNING c =
 
 pub returns-then-kind-eq-RETURNING : goal.returns-then-kind-eq-RETURNING
 returns-then-kind-eq-RETURNING c =
-    let told = (laws.place_value c.requires.memo_ready.ready _ c.requires.i_bound.0 c.args.want _ c.word-kind.ensures.0 c.if-kind-eq-FAILED.false _ _ c.requires.i_bound.1 c.word-n.ensures.0 _ c.frames_want.ensures.value _ c.in-Wants.is c.if-kind-eq-RETURNING.true _ _ c.value-x.ensures.0 c.value_fits.ensures, c.frames_want.ensures.table_unchanged) in record { value = told.0; table_unchanged = told.1; remembers = told.2 }
+    record { value = laws.place_value c.requires.memo_ready.ready _ c.requires.i_bound.0 c.args.want _ c.word-kind.ensures.0 c.if-kind-eq-FAILED.false _ _ c.requires.i_bound.1 c.word-n.ensures.0 _ c.frames_want.ensures.value _ c.in-Wants.is c.if-kind-eq-RETURNING.true _ _ c.value-x.ensures.0 c.value_fits.ensures; table_unchanged = c.frames_want.ensures.table_unchanged; remembers = c.frames_want.ensures.remembers }
 
 pub word-a-requires : goal.word-a-requires
 word-a-requires c =

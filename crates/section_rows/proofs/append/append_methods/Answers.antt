@@ -16,16 +16,16 @@ pub overflow_cast-i : goal.overflow_cast-i
 overflow_cast-i c =
     omega (arith, c.shared_slice_known-in-loop-k-1.given c.loop-k.k)
 
-pub overflow_add-n : goal.overflow_add-n
-overflow_add-n c =
-    omega (arith, overflow_cast-n c)
-
 pub overflow_cast-n : goal.overflow_cast-n
 overflow_cast-n c =
     let l = c.loop-k in
     let z = place_at_lem methods c.args.roles.now c.requires.places_value.0 l.k (omega arith) in
     let b = c.nodes_before-p.ensures c.args.roles.now c.requires.places_value.1 (l.invariant.2 _ z) in
     omega (arith, b, c.requires.sizes_known.few_nodes, nodes_within c.requires.sizes_known (get_or c.args.places.now l.k 0))
+
+pub overflow_add-n : goal.overflow_add-n
+overflow_add-n c =
+    omega (arith, overflow_cast-n c)
 
 pub append_row-end-requires : goal.append_row-end-requires
 append_row-end-requires c =

@@ -17,13 +17,13 @@ pub overflow_cast-i : goal.overflow_cast-i
 overflow_cast-i c =
     omega (arith, c.shared_slice_known-in-loop-k-1.given c.loop-k.k)
 
-pub overflow_add-n : goal.overflow_add-n
-overflow_add-n c =
-    omega (arith, overflow_cast-n c)
-
 pub overflow_cast-n : goal.overflow_cast-n
 overflow_cast-n c =
     let q = c.requires.sizes_known in omega (arith, q.few_nodes, nodes_few q c.requires.places_value.0)
+
+pub overflow_add-n : goal.overflow_add-n
+overflow_add-n c =
+    omega (arith, overflow_cast-n c)
 
 pub append_row-end-requires : goal.append_row-end-requires
 append_row-end-requires c =

@@ -20,15 +20,15 @@ pub bounds-roles-places : goal.bounds-roles-places
 bounds-roles-places c =
     (place_at_lem nodes c.args.roles.now c.requires.0 (c.loop-k.k - 1) (omega arith)).inside
 
-pub overflow_add-size : goal.overflow_add-size
-overflow_add-size c =
-    omega (arith, overflow_cast-sizes c)
-
 pub overflow_cast-sizes : goal.overflow_cast-sizes
 overflow_cast-sizes c =
     let l = c.loop-k in
     let n : l.k - 1 + 1 ≡ l.k = omega arith in
     omega (arith, c.hop-size.ensures, hop_fits c.args.roles.now l.sizes (l.k - 1 + 1) c.arity.result (λ es e. rw n (l.invariant.2 es e)))
+
+pub overflow_add-size : goal.overflow_add-size
+overflow_add-size c =
+    omega (arith, overflow_cast-sizes c)
 
 pub loop-k-preserved : goal.loop-k-preserved
 loop-k-preserved c =

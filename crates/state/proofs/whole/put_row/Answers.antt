@@ -27,6 +27,6 @@ loop-j-preserved c = (
 
 pub returns : goal.returns
 returns c ws is =
-    let row = c.args.t3 in
+    let row = c.args.row in
     let e : c.loop-j.j ≡ width Positions = omega arith in
     c.loop-j.invariant.2 ws is ∙ ap (λ (vs : List ℕ). bytes (sets ws (begins Positions + width Positions * c.args.i) vs)) (ap (λ (k : ℕ). take k row) e ∙ take_all (width Positions) row (omega arith))

@@ -9,7 +9,7 @@ rows_of-n-requires c =
 
 pub loop-i-init : goal.loop-i-init
 loop-i-init c =
-    (refl, omega arith, write_none _ c.args.t2)
+    (refl, omega arith, write_none _ c.args.tree)
 
 pub offset_bounds-tree-i : goal.offset_bounds-tree-i
 offset_bounds-tree-i c =
@@ -27,7 +27,7 @@ pub loop-i-preserved : goal.loop-i-preserved
 loop-i-preserved c = (
   omega (arith, c.put_row.auto.block),
   omega arith,
-  write_more _ c.args.t2 _ _ _ _ c.loop-i.invariant.2 (λ ts is. c.row_at-row.ensures.1 c.args.t2 ts c.requires.2 is refl refl) c.put_row.ensures,
+  write_more _ c.args.tree _ _ _ _ c.loop-i.invariant.2 (λ ts is. c.row_at-row.ensures.1 c.args.tree ts c.requires.2 is refl refl) c.put_row.ensures,
 )
 
 pub shape_of-block : goal.shape_of-block
@@ -37,4 +37,4 @@ shape_of-block c =
 pub returns : goal.returns
 returns c =
     let e : c.loop-i.i ≡ c.rows_of-n.result = omega arith in
-    written _ c.args.t2 _ _ _ c.requires.2 c.rows_of-n.ensures.0 c.rows_of-n.ensures.1 c.rows_of-n.ensures.2 (rw e at c.loop-i.invariant.2) c.put_count.ensures
+    written _ c.args.tree _ _ _ c.requires.2 c.rows_of-n.ensures.0 c.rows_of-n.ensures.1 c.rows_of-n.ensures.2 (rw e at c.loop-i.invariant.2) c.put_count.ensures

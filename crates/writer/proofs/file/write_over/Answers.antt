@@ -12,13 +12,13 @@ use Rattle.section_rows.proofs.FileLaws.{appended_both}
 use Rattle.writer.proofs.SectionLaws.{words_fit, whole_fits, contents_long}
 use Rattle.writer.proofs.file.write_over.Goals as goal
 
-pub overflow_add-types : goal.overflow_add-types
-overflow_add-types c =
-    omega (arith, overflow_cast-types c)
-
 pub overflow_cast-types : goal.overflow_cast-types
 overflow_cast-types c =
     let f = c.requires.0.few_records in omega (arith, f.within interfaces, f.within classes)
+
+pub overflow_add-types : goal.overflow_add-types
+overflow_add-types c =
+    omega (arith, overflow_cast-types c)
 
 pub write_sections-requires : goal.write_sections-requires
 write_sections-requires c =
