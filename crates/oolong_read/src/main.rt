@@ -2,29 +2,25 @@
 // place, to standard error, and nothing to standard output.
 #![tactic(auto)]
 
-use libc::{STDERR_FILENO, STDOUT_FILENO};
+use std::io;
 
 // Reads the text, and writes its file or the refusal.
-fn respond(text: &[u8], file: &mut [u8]) {
+fn respond(rt: &(impl Print + Eprint), text: &[u8], file: &mut [u8]) -> io::Result<()> {
     let reply = engine::oolong_read(text, file);
     if reply.number != 0 {
-        io::write_all(STDERR_FILENO, b"REFUSE ");
-        io::print_decimal(STDERR_FILENO, reply.number as u64);
-        io::write_all(STDERR_FILENO, b" ");
-        io::print_decimal(STDERR_FILENO, reply.place as u64);
-        io::write_all(STDERR_FILENO, b"\n");
-        return;
+        return eprintln!(rt; "REFUSE {} {}", reply.number, reply.place);
     }
     let length = reply.length as usize;
     if length <= file.len() {
-        io::write_all(STDOUT_FILENO, &file[..length]);
+        rt.write_all(&file[..length])?;
     }
+    Ok(())
 }
 
-fn main() {
+fn main(rt: HostRuntime) -> io::Result<()> {
     // One byte more than the longest text has, so that a longer one is seen to be too long.
     let mut text = [0u8; 65537];
-    let n = io::read_full(0, &mut text);
+    let n = input::read_full(&mut rt.stdin(), &mut text);
     let mut file = [0u8; 13592];
-    respond(&text[..n], &mut file);
+    respond(&rt, &text[..n], &mut file)
 }
