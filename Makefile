@@ -7,7 +7,7 @@
 # make install    under PREFIX (default /usr/local; each place by itself: LIBDIR, INCLUDEDIR, BINDIR, PKGCONFIGDIR, DOCDIR, MANDIR), in DESTDIR if it is given
 # make uninstall  removes what `make install` with the same variables has put there, and DOCDIR if nothing else is in it
 # make bench      the speed of the calls beside the second implementation's, of Read beside that of a reader made for speed, and of `oolong explore` beside SPIN, if that is there
-# make clean      removes build/ and target/
+# make clean      removes build/, and what rt keeps in the crates' out/
 
 PREFIX ?= /usr/local
 LIBDIR ?= $(PREFIX)/lib
@@ -19,7 +19,7 @@ MANDIR ?= $(PREFIX)/share/man
 OBJCOPY ?= objcopy
 CFLAGS ?= -O2
 CFLAGS += -std=c11 -D_DEFAULT_SOURCE -Wall -Wextra -Werror
-SOURCES := crates.txt $(shell find crates -type f)
+SOURCES := crates.txt $(shell find crates -type f -not -path '*/out/*')
 
 # One folder for all that cargo compiles, so that what several of its crates use is compiled once.
 export CARGO_TARGET_DIR := $(CURDIR)/build/cargo
@@ -62,10 +62,10 @@ all: $(LIBRARY) build/include/oolong.h $(PROGRAMS) $(TOOL)
 build/engine.a $(PROGRAMS) &: $(SOURCES)
 	@mkdir -p build/bin
 	@echo "proving the engine's crates and compiling them: minutes the first time, then only what has changed"
-	rt staticlib engine
-	rt check $(NAMES)
-	cp target/staticlib/libengine.a build/engine.a
-	cp $(addprefix target/bin/,$(NAMES)) build/bin/
+	cd crates/engine_c && rt lib
+	for name in $(NAMES); do (cd crates/$$name && rt run <stdin >/dev/null) || exit; done
+	cp crates/engine_c/out/libengine_c.a build/engine.a
+	for name in $(NAMES); do cp crates/$$name/out/$$name build/bin/; done
 
 $(LIBRARY): build/engine.a include/oolong.h
 	@mkdir -p $(@D)
@@ -121,4 +121,4 @@ bench: $(LIBRARY) $(TOOL)
 	cargo run --quiet --release --offline --manifest-path bench/Cargo.toml
 
 clean:
-	rm -rf build target
+	rm -rf build crates/*/out

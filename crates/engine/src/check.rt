@@ -6,8 +6,7 @@ ghost use Rattle.calls.specs.Calls.{verdict_silent};
 use c_replies::CheckReply;
 
 // Check: questions 1 to 15 about a script, whatever its bytes and its length.
-#[unsafe(no_mangle)]
-pub extern "C" fn oolong_check(script: &[u8]) -> CheckReply
+pub fn oolong_check(script: &[u8]) -> CheckReply
     ensures script { script.now ≡ script.now }
     ensures number { result.number ≡ verdict_number (check_of script.now) }
     ensures place { result.place ≡ verdict_place (check_of script.now) }

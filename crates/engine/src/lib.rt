@@ -1,4 +1,4 @@
-// The calls that a C program makes.
+// The six calls. A C program makes them through `engine_c`.
 #![tactic(auto)]
 
 mod check;

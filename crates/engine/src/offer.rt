@@ -5,8 +5,7 @@ ghost use Rattle.calls.specs.Calls.{offer_of};
 use c_replies::OfferReply;
 
 // Offer: questions 1 to 15 about the script, then 20, 22, 21, 26 and 27. A yes to all sets the flags; a no leaves them as they were. The block is only read.
-#[unsafe(no_mangle)]
-pub extern "C" fn oolong_offer(script: &[u8], block: &[u8], flags: &mut [u8]) -> OfferReply
+pub fn oolong_offer(script: &[u8], block: &[u8], flags: &mut [u8]) -> OfferReply
     ensures script { script.now ≡ script.now }
     ensures block { block.now ≡ (offer_of script.now block.now flags.old).block }
     ensures number { result.number ≡ (offer_of script.now block.now flags.old).number }

@@ -230,7 +230,8 @@ examples =
     changes_to (an_open nil nil ∷ []) (xy nil nil)
     (returning (ref 0) (awaits 2 1 ∷ [])) 0
     (an_open nil nil ∷ []) (bound_to 3 1 (ref 0) 1 ∷ xy nil nil) (running 5 3 []) ∷
-    changes_to [] (bound_to 2 1 nil 2 ∷ xy nil nil) (returning nil (awaits 5 2 ∷ [])) 0 [] (bound_to 4 2 nil 2 ∷ bound_to 2 1 nil 2 ∷ xy nil nil) (running 7 4 []) ∷
+    changes_to [] (bound_to 2 1 nil 2 ∷ xy nil nil) (returning nil (awaits 5 2 ∷ [])) 0
+    [] (bound_to 4 2 nil 2 ∷ bound_to 2 1 nil 2 ∷ xy nil nil) (running 7 4 []) ∷
     -- "a waiting call adds two, this with the object's class and the parameter with its declared type, and enters the body with no others": y : I holds an
     -- object of class C, and so does the argument
     changes_to (an_open nil nil ∷ an_open nil nil ∷ []) (xy (ref 1) (ref 0))

@@ -10,7 +10,8 @@ use Rattle.names.specs.Ranks.{Ranked, Indexed}
 
 -- Whether the asyncs of each fork share a variable, at its first slot.
 pub record Forks (s facts : List ℕ) : Type 0 where
-  pub flags : (n a b c : ℕ) → n < count_of s nodes → view_at s n ≡ n_fork a b c → get_or facts (2 * n) 0 ≡ flag_of (shares (fv (expr_at s a)) (fv (expr_at s b)))
+  pub flags : (n a b c : ℕ) → n < count_of s nodes → view_at s n ≡ n_fork a b c →
+      get_or facts (2 * n) 0 ≡ flag_of (shares (fv (expr_at s a)) (fv (expr_at s b)))
 
 -- The table of facts about the script s.
 pub record Facts (s facts : List ℕ) : Type 0 where

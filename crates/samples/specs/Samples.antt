@@ -353,7 +353,8 @@ samples =
           ∷ 1 ∷ 1 ∷ 0 ∷ 0 ∷ []);
       checked = reply 0 0 2 1;
       trials =
-          trial (times 7 0 (four_times 31 1)) 7 131 130 (configured (open_c ∷ []) (after_calls (λ n. ref 0) 32) (left_joins 31 3)) (times 31 0 (times 32 1 [])) ∷
+          trial (times 7 0 (four_times 31 1)) 7 131 130 (configured (open_c ∷ []) (after_calls (λ n. ref 0) 32) (left_joins 31 3))
+          (times 31 0 (times 32 1 [])) ∷
           [];
     } ∷
     []
@@ -383,5 +384,6 @@ silent_samples =
     silent_sample (nodes_with_class (5 ∷ 2 ∷ 1 ∷ 2 ∷ 7 ∷ 2 ∷ 3 ∷ 0 ∷ 9 ∷ 2 ∷ 4 ∷ 0 ∷ 0 ∷ 0 ∷ 0 ∷ 0 ∷ 1 ∷ 2 ∷ 0 ∷ 0 ∷ [])) 2 0 0 0 ∷
     -- parts that are entered by a published step: let x = (C)null in lock x in (C)null at the lock, and fork{(C)null}{(C)null}; (C)null at the fork
     silent_sample (nodes_with_class (5 ∷ 2 ∷ 1 ∷ 3 ∷ 7 ∷ 2 ∷ 2 ∷ 0 ∷ 0 ∷ 0 ∷ 0 ∷ 0 ∷ 9 ∷ 2 ∷ 4 ∷ 0 ∷ 7 ∷ 2 ∷ 5 ∷ 0 ∷ 0 ∷ 0 ∷ 0 ∷ 0 ∷ [])) 3 0 0 0 ∷
-    silent_sample (nodes_with_class (8 ∷ 1 ∷ 3 ∷ 5 ∷ 7 ∷ 2 ∷ 2 ∷ 0 ∷ 0 ∷ 0 ∷ 0 ∷ 0 ∷ 7 ∷ 2 ∷ 4 ∷ 0 ∷ 0 ∷ 0 ∷ 0 ∷ 0 ∷ 7 ∷ 2 ∷ 6 ∷ 0 ∷ 0 ∷ 0 ∷ 0 ∷ 0 ∷ [])) 0 0 0 0 ∷
+    silent_sample
+    (nodes_with_class (8 ∷ 1 ∷ 3 ∷ 5 ∷ 7 ∷ 2 ∷ 2 ∷ 0 ∷ 0 ∷ 0 ∷ 0 ∷ 0 ∷ 7 ∷ 2 ∷ 4 ∷ 0 ∷ 0 ∷ 0 ∷ 0 ∷ 0 ∷ 7 ∷ 2 ∷ 6 ∷ 0 ∷ 0 ∷ 0 ∷ 0 ∷ 0 ∷ [])) 0 0 0 0 ∷
     []

@@ -1,0 +1,16 @@
+// The calls that a C program makes, exported: each is that of `engine`, and promises the same.
+#![tactic(auto)]
+
+mod check;
+mod offer;
+mod read;
+mod run;
+mod silent;
+mod start;
+
+pub use check::oolong_check;
+pub use offer::oolong_offer;
+pub use read::oolong_read;
+pub use run::oolong_run;
+pub use silent::oolong_silent;
+pub use start::oolong_start;

@@ -1,0 +1,16 @@
+// Silent.
+ghost use Rattle.std.specs.Prelude.{◌≡◌};
+ghost use Rattle.calls.specs.Calls.{silent_of};
+
+use c_replies::SilentReply;
+
+// Silent: questions 1 to 15 about the script, and then how many silent moves a thread at the node makes in a row, 0 where no such node is.
+#[unsafe(no_mangle)]
+pub extern "C" fn oolong_silent(script: &[u8], node: u32) -> SilentReply
+    ensures script { script.now ≡ script.now }
+    ensures number { result.number ≡ (silent_of script.now node).number }
+    ensures place { result.place ≡ (silent_of script.now node).place }
+    ensures count { result.count ≡ (silent_of script.now node).count }
+{
+    engine::oolong_silent(script, node)
+}
