@@ -1,6 +1,6 @@
 -- All positions of a tree: it is typed if and only if each position is, the root to its own expectation and the others to any.
 use mathlib.Core.Path.{◌≡◌, refl, sym, ap, ◌∙◌}
-use mathlib.Core.Bool.{Bool, true, false, ◌&&◌, and_true, and-false, and_assoc}
+use mathlib.Core.Bool.{Bool, true, false, ◌&&◌, and-true, and-false, and_assoc}
 use mathlib.Core.List.{List, [], ◌∷◌}
 use mathlib.Core.Option.{Option, none, some}
 use Prim.Native.Nat.{ℕ, zero, suc, ◌+◌, ◌<◌, ◌≤◌}
@@ -42,8 +42,8 @@ module _ (s : Code) (st : Stores) where
   tree_is : (w : Want) (t : Tree) → tree_test s st w t ≡ position_test s st w t && all_of (position_test s st any) (drop 1 (preorder t))
   unfolding preorder all_of
   tree_is w (running a e fs) =
-      asked_inside (leb e (length st.bindings)) (expects s st.bindings w fs) (λ v. at_test s (context st.bindings e) a v) ∙ sym (and_true (position_test s st w (running a e fs)))
-  tree_is w (returning x fs) = sym (and_true (position_test s st w (returning x fs)))
+      asked_inside (leb e (length st.bindings)) (expects s st.bindings w fs) (λ v. at_test s (context st.bindings e) a v) ∙ sym (and-true (position_test s st w (running a e fs)))
+  tree_is w (returning x fs) = sym (and-true (position_test s st w (returning x fs)))
   tree_is w failed = refl
   tree_is w (join fs a e l r) =
       let side : (t : Tree) → tree_test s st any t ≡ position_test s st any t && all_of (position_test s st any) (drop 1 (preorder t)) → tree_test s st any t ≡ all_of (position_test s st any) (preorder t) =

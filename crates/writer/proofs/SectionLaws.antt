@@ -17,8 +17,8 @@ use Rattle.script.specs.Section.{size_of}
 use Rattle.grammar.specs.Roles.{R_INTERFACE, R_SIGNATURE, R_CLASS, R_FIELD}
 use Rattle.grammar.specs.Faults.{begins_test}
 use Rattle.bounds.specs.Places.{index_of}
-use Rattle.rows.specs.Rows.{Item, interface_row, signature_row, class_row, field_row}
-use Rattle.rows.specs.Rows.{rows_with, method_rows, node_count, node_rows, sections_words}
+use Rattle.rows.specs.Rows.{one_added_if, Item, interface_row, signature_row, class_row, field_row}
+use Rattle.rows.specs.Rows.{one_added_if, rows_with, method_rows, node_count, node_rows, sections_words}
 use Rattle.token_words.specs.Items.{Roled, items_of}
 use Rattle.token_words.proofs.TokenLaws.{items_shown}
 use Rattle.row_words.specs.Row.{row_of}
@@ -43,12 +43,12 @@ plain_rows :
 unfolding rows_of rows_with
 plain_rows s types r row b f n [] = refl
 plain_rows s types r row b f n (e ∷ es) =
-    rw (b e.role, f n (e ∷ es)) (ap (λ (l : List ℕ). cond (eqb e.role r) (row (e ∷ es)) [] ++ l) (plain_rows s types r row b f _ es))
+    rw (b e.role, f n (e ∷ es)) (ap (λ (l : List ℕ). cond (eqb e.role r) (row (e ∷ es)) [] ++ l) (plain_rows s types r row b f (one_added_if (begins_test nodes e.role) n) es))
 
 method_rows_lem : (types n : ℕ) (es : List Item) → all_rows methods types n es ≡ method_rows types n es
 unfolding rows_of method_rows
 method_rows_lem types n [] = refl
-method_rows_lem types n (e ∷ es) = ap (λ (l : List ℕ). row_if methods types n (e ∷ es) ++ l) (method_rows_lem types _ es)
+method_rows_lem types n (e ∷ es) = ap (λ (l : List ℕ). row_if methods types n (e ∷ es) ++ l) (method_rows_lem types (one_added_if (begins_test nodes e.role) n) es)
 
 node_rows_lem : (types k n : ℕ) (es : List Item) → rows_of nodes types k n es ≡ node_rows types k n es
 unfolding rows_of node_rows

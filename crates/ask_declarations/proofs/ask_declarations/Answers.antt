@@ -23,8 +23,8 @@ returns-then-fault-n c =
 
 pub ask_limits-requires : goal.ask_limits-requires
 ask_limits-requires c =
-    let k = c.declaration_fault-fault.auto.values in
-    (declaration_passed c.requires.0 c.link_names-f.auto.chain c.link_names-f.ensures c.declaration_fault-fault.ensures (omega arith) k.0 k.1.0 k.1.1.0 k.1.1.1.0, c.requires.1)
+    let k = c.declaration_fault-fault.auto in
+    (declaration_passed c.requires.0 c.link_names-f.auto.chain c.link_names-f.ensures c.declaration_fault-fault.ensures (omega arith) k.values k.firsts k.links k.heads, c.requires.1)
 
 pub shape_of-chain : goal.shape_of-chain
 shape_of-chain c =

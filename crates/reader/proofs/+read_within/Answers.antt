@@ -1,11 +1,5 @@
 use native.Mathlib.Omega.{arith}
-use borrow.Author.Rules.{rules}
-use Prim.Native.Nat.{ℕ, ◌-◌, ◌<◌}
-use lib.ListN.{length}
 use Rattle.reader.proofs.+read_within.Goals as goal
-
-abbrev μ : Measures 2 kinds.ps ℕ
-μ κs a = length a.0.now - a.1.0
 
 pub overflow_mul-room : goal.overflow_mul-room
 overflow_mul-room t c =

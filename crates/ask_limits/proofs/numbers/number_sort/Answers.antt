@@ -9,11 +9,11 @@ number_names-requires c =
 
 pub returns : goal.returns
 returns c =
-    let k = c.number_names.auto.values in
+    let k = c.number_names.auto in
     record {
       values_are = c.number_names.ensures.values_are;
-      values_long = k.0;
-      firsts_long = k.1.0;
-      links_long = k.1.1.0;
-      heads_long = k.1.1.1.0 ∙ c.clear_heads.auto.heads;
+      values_long = k.values;
+      firsts_long = k.firsts;
+      links_long = k.links;
+      heads_long = k.heads ∙ c.clear_heads.auto.heads;
     }

@@ -21,17 +21,18 @@ top_frame-f-requires c =
 
 pub wake-requires : goal.wake-requires
 wake-requires c =
-    let blank = c.requires.0 in let h = c.requires.1 in let seen = h.here.seen in let bindings = h.stores.bindings in let there = laws.resumes_there h _ _ _ (λ z. c.if-frames-eq0.false (c.word-frames.ensures.0 ∙ z)) c.top_frame-f.ensures c.in let told = -Awaits.is in
-    let first = laws.resumes_first h _ _ _ (λ z. c.if-frames-eq0.false (c.word-frames.ensures.0 ∙ z)) c.top_frame-f.ensures c.in-Awaits.is in (
-      record {
+    let blank = c.requires.0 in let h = c.requires.1 in let seen = h.here.seen in let bindings = h.stores.bindings in let there = laws.resumes_there h _ _ _ (λ z. c.if-frames-eq0.false (c.word-frames.ensures.0 ∙ z)) c.top_frame-f.ensures c.in-Awaits.is in
+    let first = laws.resumes_first h _ _ _ (λ z. c.if-frames-eq0.false (c.word-frames.ensures.0 ∙ z)) c.top_frame-f.ensures c.in-Awaits.is in
+    record {
+      at_typed_frame = record {
         blank = blank;
         chain = seen_chain seen blank.within bindings _ there.env;
         typed = seen_typed seen blank.within bindings;
         types = seen_env seen blank.within bindings _;
         frame = record { here = some_state seen; waiting = omega (arith, c.word-frames.ensures.0); word = laws.resumes_word h };
-      },
-      (there.node, first),
-    ) in record { at_typed_frame = told.0; node_bound = told.1 }
+      };
+      node_bound = (there.node, first);
+    }
 
 pub drop_cast-requires : goal.drop_cast-requires
 drop_cast-requires c =

@@ -7,8 +7,8 @@ use Rattle.choices.proofs.nodes.wake.Goals as goal
 
 pub bind_value-requires : goal.bind_value-requires
 bind_value-requires c =
-    let view = laws.let_view (record { kind_is = c.node_word-kind.ensures.0; first = c.node_word-x.ensures.0; second = c.node_word-y.ensures.0; third = c.node_word-z.ensures.0 }) c.in let told = -5.is in
-    (c.requires.at_typed_frame, (let_part _ _ _ _ c.requires.at_typed_frame.blank.within c.requires.node_bound.0 view, c.requires.node_bound.1 _ _ _ view)) in record { at_typed_frame = told.0; first_bound = told.1 }
+    let view = laws.let_view (record { kind_is = c.node_word-kind.ensures.0; first = c.node_word-x.ensures.0; second = c.node_word-y.ensures.0; third = c.node_word-z.ensures.0 }) c.in-5.is in
+    record { at_typed_frame = c.requires.at_typed_frame; first_bound = (let_part _ _ _ _ c.requires.at_typed_frame.blank.within c.requires.node_bound.0 view, c.requires.node_bound.1 _ _ _ view) }
 
 pub returns-in-3 : goal.returns-in-3
 returns-in-3 c =

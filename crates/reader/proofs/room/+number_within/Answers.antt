@@ -1,10 +1,5 @@
 use native.Mathlib.Omega.{arith}
-use borrow.Author.Rules.{rules}
-use Prim.Native.Nat.{ℕ, ◌-◌, ◌<◌}
 use Rattle.reader.proofs.room.+number_within.Goals as goal
-
-abbrev μ : Measures 5 kinds.ps ℕ
-μ κs a = a.1.1.1.1.0 - a.1.1.1.1.1.1.0
 
 pub overflow_mul-room : goal.overflow_mul-room
 overflow_mul-room t c =

@@ -1,4 +1,5 @@
-use native.Mathlib.Omega.{arith}
-use borrow.Author.Rules.{rules}
-use Prim.Native.Nat.{ℕ, ◌-◌, ◌<◌}
+use Prim.Native.Nat.{◌-◌}
 use Rattle.reader.proofs.room.+number_within.Given as goal
+
+abbrev pub decreases-number_within : goal.decreases-number_within
+decreases-number_within l = l.n - l.room

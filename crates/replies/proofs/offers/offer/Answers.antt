@@ -22,6 +22,6 @@ returns-in-Bad c =
 
 pub returns-in-Sound : goal.returns-in-Sound
 returns-in-Sound c =
-    let y = c.in let told = -Sound.is in
+    let y = c.in-Sound.is in
     let held = formed _ _ _ c.well_formed-examined.result c.well_formed-examined.ensures.block_value y in
-    laws.offered _ _ _ _ c.well_formed-examined.result c.well_formed-examined.ensures.block_value y (c.mark.ensures (stands _ (λ i. omega (arith, c.shared_slice_known-1.given i)) _ c.requires.within_layout.3 _ held)) in record { number = told.0; flags = told.1 }
+    let told = laws.offered _ _ _ _ c.well_formed-examined.result c.well_formed-examined.ensures.block_value y (c.mark.ensures (stands _ (λ i. omega (arith, c.shared_slice_known-1.given i)) _ c.requires.within_layout.3 _ held)) in record { number = told.0; flags = told.1 }

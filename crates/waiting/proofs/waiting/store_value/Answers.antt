@@ -7,15 +7,16 @@ use Rattle.machine.specs.Machine.{update_object}
 use Rattle.moves.proofs.Laws.{performs_as}
 use Rattle.moves.proofs.TargetLaws as targets
 use Rattle.moves.specs.Performs.{performs_still, performs_moved}
+use Rattle.machine.specs.Config.{code_of}
 use Rattle.waiting.proofs.waiting.store_value.Goals as goal
 
 pub returns-in_default : goal.returns-in_default
 returns-in_default c =
-    λ rest st g fs s own. performs_as (targets.no_target (targets.updates _ st fs _ _) (c.target_of-found.ensures _ rest st _ s) c.in_default.is) performs_still
+    λ rest st g fs s own. performs_as (targets.no_target (targets.updates (code_of c.args.s.now) st fs _ _) (c.target_of-found.ensures _ rest st _ s) c.in_default.is) performs_still
 
 pub returns-in_default-value : goal.returns-in_default-value
 returns-in_default-value c =
-    λ rest st g fs s own. performs_as (targets.null_target (targets.updates _ st fs _ _) (c.target_of-found.ensures _ rest st _ s) c.in-Bound.is (opened c.in_default-value.in_default-value-own.keys2)) (c.fails.ensures rest st _ s)
+    λ rest st g fs s own. performs_as (targets.null_target (targets.updates (code_of c.args.s.now) st fs _ _) (c.target_of-found.ensures _ rest st _ s) c.in-Bound.is (opened c.in_default-value.in_default-value-own.keys2)) (c.fails.ensures rest st _ s)
 
 pub write_field-requires : goal.write_field-requires
 write_field-requires c =
@@ -25,5 +26,5 @@ pub returns : goal.returns
 returns c =
     λ rest st g fs s own.
     let y = targets.object_found (c.target_of-found.ensures _ rest st _ s) c.in-Bound.is c.in-Ref.is in
-    performs_as (targets.object_target (targets.updates _ st fs _ _) (c.target_of-found.ensures _ rest st _ s) c.in-Bound.is c.in-Ref.is ∙ ap (update_object _ st fs _ _ _) y.there)
+    performs_as (targets.object_target (targets.updates (code_of c.args.s.now) st fs _ _) (c.target_of-found.ensures _ rest st _ s) c.in-Bound.is c.in-Ref.is ∙ ap (update_object (code_of c.args.s.now) st fs _ _ _) y.there)
     (performs_moved (c.write_field.ensures _ rest st _ y.object (c.pop.ensures rest st _ _ fs (returning nil fs) refl refl refl s) own y.there))
