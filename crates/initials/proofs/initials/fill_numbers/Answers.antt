@@ -35,7 +35,7 @@ pub loop-k-preserved : goal.loop-k-preserved
 loop-k-preserved c = (
   omega arith,
   elim c.if-record_word-int.branch [
-      then-record_word-int w ↦ rw w.block-is (laws.starts_zero c.loop-k.invariant.1 _ _ (omega arith) c.record_word.ensures.0 c.int_of-int.ensures.0 w.if-record_word-int.true w.put_field.ensures)
+    | then-record_word-int w ↦ rw w.block-is (laws.starts_zero c.loop-k.invariant.1 _ _ (omega arith) c.record_word.ensures.0 c.int_of-int.ensures.0 w.if-record_word-int.true w.put_field.ensures)
     | else-record_word-int w ↦ rw w.block-is (laws.stays_null c.loop-k.invariant.1 _ _ (omega arith) c.record_word.ensures.0 c.int_of-int.ensures.0 w.if-record_word-int.false)
   ],
 )

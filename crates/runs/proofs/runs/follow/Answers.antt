@@ -30,7 +30,7 @@ shape_of-block-in-Stops c =
 
 pub returns-in-Stops : goal.returns-in-Stops
 returns-in-Stops c =
-    let told = rw c.ran.ensures ((λ x. laws.loop_stops c.loop-read.invariant.2 (omega arith) c.take_choice-taken.ensures.table_unchanged.1 _ c.wide-n.ensures c.take_choice-taken.ensures.taken_as _ c.in-Stops.is x, (omega arith, omega (arith, c.loop-read.invariant.2.fewer, c.take_choice-taken.ensures.table_unchanged.1)))) in record { ran_as = told.0; read_in_bounds = told.1 }
+    rw c.ran.ensures (record { ran_as = λ x. laws.loop_stops c.loop-read.invariant.2 (omega arith) c.take_choice-taken.ensures.table_unchanged.1 _ c.wide-n.ensures c.take_choice-taken.ensures.taken_as _ c.in-Stops.is x; read_in_bounds = (omega arith, omega (arith, c.loop-read.invariant.2.fewer, c.take_choice-taken.ensures.table_unchanged.1)) })
 
 pub loop-read-preserved : goal.loop-read-preserved
 loop-read-preserved c =
@@ -46,4 +46,4 @@ shape_of-block c =
 
 pub returns : goal.returns
 returns c =
-    let told = rw c.ran-2.ensures ((λ x. laws.loop_spent c.loop-read.invariant.2 (omega arith) x, (c.loop-read.invariant.2.few, c.loop-read.invariant.2.fewer))) in record { ran_as = told.0; read_in_bounds = told.1 }
+    rw c.ran-2.ensures (record { ran_as = λ x. laws.loop_spent c.loop-read.invariant.2 (omega arith) x; read_in_bounds = (c.loop-read.invariant.2.few, c.loop-read.invariant.2.fewer) })

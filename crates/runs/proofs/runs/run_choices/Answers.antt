@@ -4,7 +4,7 @@ use Rattle.runs.proofs.runs.run_choices.Goals as goal
 
 pub returns-in-Ends : goal.returns-in-Ends
 returns-in-Ends c =
-    let told = rw c.ran.ensures (λ x. laws.ended_first x _ _ _ (c.look-how.ensures x) c.in-Ends.is, (omega arith, omega arith)) in record { ran_as = told.0; read_in_bounds = told.1 }
+    rw c.ran.ensures (record { ran_as = λ x. laws.ended_first x _ _ _ (c.look-how.ensures x) c.in-Ends.is; read_in_bounds = (omega arith, omega arith) })
 
 pub follow-requires : goal.follow-requires
 follow-requires c =

@@ -8,16 +8,16 @@ look-how-requires c =
 
 pub returns-in-Still : goal.returns-in-Still
 returns-in-Still c =
-    let told = rw c.taken.ensures (λ x on. laws.took_still x _ (laws.did_as x _ c.choose-effect.ensures.performs_choice) on c.in-Still.is, (c.choose-effect.ensures.table_unchanged, omega arith)) in record { taken_as = told.0; table_unchanged = told.1 }
+    rw c.taken.ensures (record { taken_as = λ x on. laws.took_still x _ (laws.did_as x _ c.choose-effect.ensures.performs_choice) on c.in-Still.is; table_unchanged = (c.choose-effect.ensures.table_unchanged, omega arith) })
 
 pub returns-in-GoesOn : goal.returns-in-GoesOn
 returns-in-GoesOn c =
-    let told = rw c.taken-in-GoesOn.ensures (λ x on. laws.took_move x _ (laws.did_as x _ c.choose-effect.ensures.performs_choice) on c.in-Moved.is _ (c.look-how.ensures (laws.moved_standing x _ (laws.did_as x _ c.choose-effect.ensures.performs_choice) c.in-Moved.is)) c.in-GoesOn.is, (c.choose-effect.ensures.table_unchanged, omega arith)) in record { taken_as = told.0; table_unchanged = told.1 }
+    rw c.taken-in-GoesOn.ensures (record { taken_as = λ x on. laws.took_move x _ (laws.did_as x _ c.choose-effect.ensures.performs_choice) on c.in-Moved.is _ (c.look-how.ensures (laws.moved_standing x _ (laws.did_as x _ c.choose-effect.ensures.performs_choice) c.in-Moved.is)) c.in-GoesOn.is; table_unchanged = (c.choose-effect.ensures.table_unchanged, omega arith) })
 
 pub returns-in-Ends : goal.returns-in-Ends
 returns-in-Ends c =
-    let told = rw c.taken-in-Ends.ensures (λ x on. laws.took_last x _ (laws.did_as x _ c.choose-effect.ensures.performs_choice) on c.in-Moved.is _ _ (c.look-how.ensures (laws.moved_standing x _ (laws.did_as x _ c.choose-effect.ensures.performs_choice) c.in-Moved.is)) c.in-Ends.is, (c.choose-effect.ensures.table_unchanged, omega arith)) in record { taken_as = told.0; table_unchanged = told.1 }
+    rw c.taken-in-Ends.ensures (record { taken_as = λ x on. laws.took_last x _ (laws.did_as x _ c.choose-effect.ensures.performs_choice) on c.in-Moved.is _ _ (c.look-how.ensures (laws.moved_standing x _ (laws.did_as x _ c.choose-effect.ensures.performs_choice) c.in-Moved.is)) c.in-Ends.is; table_unchanged = (c.choose-effect.ensures.table_unchanged, omega arith) })
 
 pub returns-in-Full : goal.returns-in-Full
 returns-in-Full c =
-    let told = rw c.taken-in-Full.ensures (λ x on. laws.took_full x _ (laws.did_as x _ c.choose-effect.ensures.performs_choice) _ on c.in-Full.is, (c.choose-effect.ensures.table_unchanged, omega arith)) in record { taken_as = told.0; table_unchanged = told.1 }
+    rw c.taken-in-Full.ensures (record { taken_as = λ x on. laws.took_full x _ (laws.did_as x _ c.choose-effect.ensures.performs_choice) _ on c.in-Full.is; table_unchanged = (c.choose-effect.ensures.table_unchanged, omega arith) })
