@@ -5,12 +5,12 @@ mod check;
 mod offer;
 mod read;
 mod run;
-mod silent;
+mod silent_count;
 mod start;
 
 pub use check::oolong_check;
 pub use offer::oolong_offer;
 pub use read::oolong_read;
 pub use run::oolong_run;
-pub use silent::oolong_silent;
+pub use silent_count::oolong_silent;
 pub use start::oolong_start;
