@@ -28,7 +28,7 @@ pub struct Entry {
 }
 
 // A tree: its entries, and how many there are.
-#[derive(Clone, Copy)]
+#[derive(Drop)]
 pub struct Tree {
     pub entries: [Entry; Limits::POSITIONS],
     pub len: usize,
