@@ -55,7 +55,7 @@ extern "C" {
 /* The major version changes where a call, a reply, a number's meaning or the block's layout does; the minor where something is added; the patch where neither does. */
 #define OOLONG_VERSION_MAJOR 4
 #define OOLONG_VERSION_MINOR 0
-#define OOLONG_VERSION_PATCH 0
+#define OOLONG_VERSION_PATCH 1
 #define OOLONG_VERSION (OOLONG_VERSION_MAJOR * 10000 + OOLONG_VERSION_MINOR * 100 + OOLONG_VERSION_PATCH)
 
 /* The number of the block's layout: it changes where a byte of the block changes its meaning. A block that you keep in a file is best kept with this number. */
@@ -157,11 +157,11 @@ enum oolong_stop {
 };
 
 /* Stack that is enough for a thread that makes any of the calls but oolong_read, in bytes, where the script's expressions are nested so deep: a node that is no part of another is nested 1 deep,
- * and a part one deeper than its node. pthread_attr_setstacksize may be given this number as it is. In it are 8,192 bytes for the thread itself, 24,576 for a call, and 410 for each level of
+ * and a part one deeper than its node. pthread_attr_setstacksize may be given this number as it is. In it are 8,192 bytes for the thread itself, 27,648 for a call, and 410 for each level of
  * nesting, all by measurement on x86-64 with glibc, with some room. Add what your own functions use that make the call; the program's thread-local variables, if they are large, since glibc keeps
  * them, and what it knows of a thread, on the thread's stack; and what signal handlers use, if they run there. OOLONG_STACK is enough for any script, OOLONG_STACK_USUAL for one that is nested at
  * most 100 deep. */
-#define OOLONG_STACK_FOR(nesting) (8192u + 24576u + 410u * (nesting))
+#define OOLONG_STACK_FOR(nesting) (8192u + 27648u + 410u * (nesting))
 #define OOLONG_STACK_USUAL OOLONG_STACK_FOR(100u)
 #define OOLONG_STACK OOLONG_STACK_FOR(OOLONG_NODES_MOST)
 
