@@ -1,13 +1,13 @@
 -- What the code's proofs need of the block's laws: the callees' contracts are premises, and the code's locals variables.
-use mathlib.Core.Path.{◌≡◌, sym, ap, ◌∙◌}
-use mathlib.Core.Bool.{Bool, false}
+use mathlib.Core.Path.{◌≡◌, refl, sym, ap, ◌∙◌}
+use mathlib.Core.Bool.{Bool, true, false}
 use mathlib.Core.List.{List, [], ◌∷◌, ◌++◌}
 use Prim.Native.Nat.{ℕ, suc, ◌+◌, ◌*◌, ◌-◌, ◌<◌, ◌≤◌}
 use native.Mathlib.Omega.{arith}
 use borrow.Author.Tests.{ne_eqb}
 use lib.IntN.{ℤ}
 use mir.Syntax.{w32}
-use mir.Val.{SFits}
+use mir.Val.{SFits, bool_byte}
 use lib.ListN.{length, get_or, set, take, drop, replicate, length-append, length-map}
 use Rattle.slices.specs.Put.{put_word}
 use Rattle.words.specs.Word.{WORD, bytes}
@@ -103,6 +103,11 @@ pub frame_row : (f : Frame) (k x y : ℕ) → k ≡ get_or (frame_words f) 0 0 �
 frame_row (awaits n e) k x y a b c = cc
 frame_row (casts n) k x y a b c = cc
 frame_row (locks o) k x y a b c = cc
+
+-- the number that the library makes of a test
+pub shut_is : (s : Bool) → bool_byte s ≡ shut_word s
+shut_is true = refl
+shut_is false = refl
 
 module _ (b : List ℕ) (p : Parts) (is : b ≡ bytes (laid p)) where
   pub frames_counted : counted b Frames ≡ length p.frames

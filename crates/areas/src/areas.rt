@@ -7,6 +7,7 @@ ghost use Rattle.representation.specs.Changed.{put_words};
 ghost use Rattle.block.specs.Layout.{width, most, count_byte, word_byte, counted, word_in};
 
 use block::{Area, begins_of, count_word_of, width_of};
+use limits::Limits;
 
 // The byte at which word j of record i stands.
 fn word_byte(a: Area, i: usize, j: usize) -> usize
@@ -19,8 +20,7 @@ fn word_byte(a: Area, i: usize, j: usize) -> usize
 }
 
 // How many records an area has.
-pub fn count(block: &[u8], a: Area) -> usize
-    requires { length block.now ≡ BLOCK }
+pub fn count(block: &[u8; Limits::BLOCK], a: Area) -> usize
     ensures { (result ≡ counted block.now a) × (result < WORD) }
 {
     let n = count_word_of(a);
@@ -28,8 +28,8 @@ pub fn count(block: &[u8], a: Area) -> usize
 }
 
 // Word j of record i of an area.
-pub fn word(block: &[u8], a: Area, i: usize, j: usize) -> u16
-    requires { (length block.now ≡ BLOCK) × (i < most a) × (j < width a) }
+pub fn word(block: &[u8; Limits::BLOCK], a: Area, i: usize, j: usize) -> u16
+    requires { (i < most a) × (j < width a) }
     ensures { (result ≡ word_in block.now a i j) × (result < WORD) }
 {
     let at = word_byte(a, i, j);
@@ -37,8 +37,8 @@ pub fn word(block: &[u8], a: Area, i: usize, j: usize) -> u16
 }
 
 // Puts v as word j of record i of an area.
-pub fn put(block: &mut [u8], a: Area, i: usize, j: usize, v: u16)
-    requires { (length block.old ≡ BLOCK) × (i < most a) × (j < width a) }
+pub fn put(block: &mut [u8; Limits::BLOCK], a: Area, i: usize, j: usize, v: u16)
+    requires { (i < most a) × (j < width a) }
     ensures { block.new ≡ put_word block.old (word_byte a i j) v }
 {
     let at = word_byte(a, i, j);
@@ -46,8 +46,8 @@ pub fn put(block: &mut [u8], a: Area, i: usize, j: usize, v: u16)
 }
 
 // Puts v and w as words j and j + 1 of record i of an area.
-pub fn put_pair(block: &mut [u8], a: Area, i: usize, j: usize, v: u16, w: u16)
-    requires { (length block.old ≡ BLOCK) × (i < most a) × (j + 1 < width a) }
+pub fn put_pair(block: &mut [u8; Limits::BLOCK], a: Area, i: usize, j: usize, v: u16, w: u16)
+    requires { (i < most a) × (j + 1 < width a) }
     ensures { block.new ≡ put_words block.old (word_byte a i j) (v ∷ w ∷ []) }
 {
     put(block, a, i, j, v);
@@ -55,8 +55,7 @@ pub fn put_pair(block: &mut [u8], a: Area, i: usize, j: usize, v: u16, w: u16)
 }
 
 // Puts n as the count of an area.
-pub fn put_count(block: &mut [u8], a: Area, n: u16)
-    requires { length block.old ≡ BLOCK }
+pub fn put_count(block: &mut [u8; Limits::BLOCK], a: Area, n: u16)
     ensures { block.new ≡ put_word block.old (count_byte a) n }
 {
     let at = count_word_of(a);

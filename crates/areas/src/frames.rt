@@ -12,38 +12,17 @@ ghost use Rattle.areas.specs.Shifts.{raised, lowered};
 
 use crate::areas::{count, put, put_count, put_pair, word};
 use block::{Area, Layout};
+use limits::Limits;
 use machine::Frame;
 
-// What a frame is.
-fn kind_of(f: Frame) -> u16
-    ensures { result ≡ get_or (frame_words f) KIND 0 }
+// The words of a frame: what it is, its node or object, and its environment, or 0.
+fn frame_words(f: Frame) -> [u16; Layout::FRAME_WIDTH]
+    ensures { result ≡ frame_words f }
 {
     match f {
-        Frame::Awaits(n, e) => Layout::AWAITS,
-        Frame::Casts(n) => Layout::CASTS,
-        Frame::Locks(o) => Layout::LOCKS,
-    }
-}
-
-// Its node or object.
-fn first_of(f: Frame) -> u16
-    ensures { result ≡ get_or (frame_words f) NODE 0 }
-{
-    match f {
-        Frame::Awaits(n, e) => n,
-        Frame::Casts(n) => n,
-        Frame::Locks(o) => o,
-    }
-}
-
-// Its environment, or 0.
-fn second_of(f: Frame) -> u16
-    ensures { result ≡ get_or (frame_words f) ENV 0 }
-{
-    match f {
-        Frame::Awaits(n, e) => e,
-        Frame::Casts(n) => 0,
-        Frame::Locks(o) => 0,
+        Frame::Awaits(n, e) => [Layout::AWAITS, n, e],
+        Frame::Casts(n) => [Layout::CASTS, n, 0],
+        Frame::Locks(o) => [Layout::LOCKS, o, 0],
     }
 }
 
@@ -61,8 +40,8 @@ fn frame_of(kind: u16, x: u16, y: u16) -> Frame
 }
 
 // Frame i.
-pub fn frame(block: &[u8], i: usize) -> Frame
-    requires { (length block.now ≡ BLOCK) × (i < FRAMES) }
+pub fn frame(block: &[u8; Limits::BLOCK], i: usize) -> Frame
+    requires { i < FRAMES }
     ensures { (p : Parts) → block.now ≡ bytes (laid p) → i < length p.frames → result ≡ get_or p.frames i (awaits 0 0) }
 {
     let kind = word(block, Area::Frames, i, Layout::KIND);
@@ -72,8 +51,8 @@ pub fn frame(block: &[u8], i: usize) -> Frame
 }
 
 // Puts the words of frame i.
-fn put_row(block: &mut [u8], i: usize, kind: u16, x: u16, y: u16)
-    requires { (length block.old ≡ BLOCK) × (i < FRAMES) }
+fn put_row(block: &mut [u8; Limits::BLOCK], i: usize, kind: u16, x: u16, y: u16)
+    requires { i < FRAMES }
     ensures { block.new ≡ put_words block.old (word_byte Frames i KIND) (kind ∷ x ∷ y ∷ []) }
 {
     put_pair(block, Area::Frames, i, Layout::KIND, kind, x);
@@ -81,23 +60,21 @@ fn put_row(block: &mut [u8], i: usize, kind: u16, x: u16, y: u16)
 }
 
 // Puts f as frame i.
-pub fn put_frame(block: &mut [u8], i: usize, f: Frame)
-    requires { (length block.old ≡ BLOCK) × (i < FRAMES) }
+pub fn put_frame(block: &mut [u8; Limits::BLOCK], i: usize, f: Frame)
+    requires { i < FRAMES }
     ensures block_after { block.new ≡ put_words block.old (word_byte Frames i KIND) (frame_words f) }
     ensures block_after_2 { (p : Parts) →
         block.old ≡ bytes (laid p) →
         i < length p.frames →
         block.new ≡ bytes (laid (with_frames p (set p.frames i f))) }
 {
-    let kind = kind_of(f);
-    let x = first_of(f);
-    let y = second_of(f);
+    let [kind, x, y] = frame_words(f);
     put_row(block, i, kind, x, y);
 }
 
 // One frame more, at the end.
-fn add_frame(block: &mut [u8], f: Frame)
-    requires { (length block.old ≡ BLOCK) × (counted block.old Frames < FRAMES) }
+fn add_frame(block: &mut [u8; Limits::BLOCK], f: Frame)
+    requires { counted block.old Frames < FRAMES }
     ensures { (p : Parts) → block.old ≡ bytes (laid p) → block.new ≡ bytes (laid (with_frames p (p.frames ++ f ∷ []))) }
 {
     let n = count(block, Area::Frames);
@@ -114,8 +91,8 @@ fn frame_byte(i: usize) -> usize
 }
 
 // All but the first m of n frames taken away.
-fn cut_frames(block: &mut [u8], m: usize, n: usize)
-    requires { (length block.old ≡ BLOCK) × (m ≤ n) × (n ≤ FRAMES) }
+fn cut_frames(block: &mut [u8; Limits::BLOCK], m: usize, n: usize)
+    requires { (m ≤ n) × (n ≤ FRAMES) }
     ensures { (p : Parts) →
         block.old ≡ bytes (laid p) →
         length p.frames ≡ n →
@@ -128,8 +105,8 @@ fn cut_frames(block: &mut [u8], m: usize, n: usize)
 }
 
 // Of n frames, those from `at` on moved one place up, over the last.
-fn shift_up(block: &mut [u8], at: usize, n: usize)
-    requires { (length block.old ≡ BLOCK) × (at < n) × (n ≤ FRAMES) }
+fn shift_up(block: &mut [u8; Limits::BLOCK], at: usize, n: usize)
+    requires { (at < n) × (n ≤ FRAMES) }
     ensures { (p : Parts) →
         block.old ≡ bytes (laid p) →
         length p.frames ≡ n →
@@ -141,8 +118,8 @@ fn shift_up(block: &mut [u8], at: usize, n: usize)
 }
 
 // Of n frames, those from `at` + k on moved k places down.
-fn shift_down(block: &mut [u8], at: usize, k: usize, n: usize)
-    requires { (length block.old ≡ BLOCK) × (at + k ≤ n) × (n ≤ FRAMES) }
+fn shift_down(block: &mut [u8; Limits::BLOCK], at: usize, k: usize, n: usize)
+    requires { (at + k ≤ n) × (n ≤ FRAMES) }
     ensures { (p : Parts) →
         block.old ≡ bytes (laid p) →
         length p.frames ≡ n →
@@ -154,8 +131,8 @@ fn shift_down(block: &mut [u8], at: usize, k: usize, n: usize)
 }
 
 // Puts f in as frame `at`.
-pub fn insert_frame(block: &mut [u8], at: usize, f: Frame)
-    requires { (length block.old ≡ BLOCK) × (at ≤ counted block.old Frames) × (counted block.old Frames < FRAMES) }
+pub fn insert_frame(block: &mut [u8; Limits::BLOCK], at: usize, f: Frame)
+    requires { (at ≤ counted block.old Frames) × (counted block.old Frames < FRAMES) }
     ensures { (p : Parts) →
         block.old ≡ bytes (laid p) →
         block.new ≡ bytes (laid (with_frames p (take at p.frames ++ f ∷ drop at p.frames))) }
@@ -167,8 +144,8 @@ pub fn insert_frame(block: &mut [u8], at: usize, f: Frame)
 }
 
 // Takes out k frames from frame `at` on.
-pub fn remove_frames(block: &mut [u8], at: usize, k: usize)
-    requires { (length block.old ≡ BLOCK) × (at + k ≤ counted block.old Frames) × (counted block.old Frames ≤ FRAMES) }
+pub fn remove_frames(block: &mut [u8; Limits::BLOCK], at: usize, k: usize)
+    requires { (at + k ≤ counted block.old Frames) × (counted block.old Frames ≤ FRAMES) }
     ensures { (p : Parts) →
         block.old ≡ bytes (laid p) →
         block.new ≡ bytes (laid (with_frames p (take at p.frames ++ drop (at + k) p.frames))) }

@@ -7,18 +7,19 @@ ghost use Rattle.machine.specs.Config.{Object};
 ghost use Rattle.block.specs.declared.Area.TheVariants.{Objects, Bindings};
 ghost use Rattle.block.specs.Layout.{counted, word_in, field_word};
 ghost use Rattle.block.specs.Values.{value_in, Storable};
-ghost use Rattle.block.specs.Block.{shut_word, Parts, laid};
+ghost use Rattle.block.specs.Block.{Parts, laid};
 ghost use Rattle.representation.specs.Changed.{with_objects, with_bindings, marked_shut, with_field};
 
 use crate::areas::{count, put, put_count, put_pair};
 use crate::values::{put_value, value};
 use block::{Area, Layout};
+use limits::Limits;
 use machine::Value;
 
 // An open object with null in each of its m fields, whatever m is: null is all zeros, as is all past the last object. The initial values of its class follow in
 // crate initials.
-pub fn new_object(block: &mut [u8], class: u16)
-    requires { (length block.old ≡ BLOCK) × (counted block.old Objects < OBJECTS) }
+pub fn new_object(block: &mut [u8; Limits::BLOCK], class: u16)
+    requires { counted block.old Objects < OBJECTS }
     ensures { (p : Parts) (m : ℕ) →
         block.old ≡ bytes (laid p) →
         block.new ≡ bytes (laid (with_objects p (p.objects ++ record { class = class; shut = false; fields = replicate m nil } ∷ []))) }
@@ -28,31 +29,20 @@ pub fn new_object(block: &mut [u8], class: u16)
     put_count(block, Area::Objects, (n + 1) as u16);
 }
 
-// 1 for shut, 0 for open.
-fn shut_word(shut: bool) -> u16
-    ensures { result ≡ shut_word shut }
-{
-    if shut {
-        return 1;
-    }
-    0
-}
-
 // Object o opened or shut.
-pub fn set_shut(block: &mut [u8], o: usize, shut: bool)
-    requires { (length block.old ≡ BLOCK) × (o < OBJECTS) }
+pub fn set_shut(block: &mut [u8; Limits::BLOCK], o: usize, shut: bool)
+    requires { o < OBJECTS }
     ensures { (p : Parts) (d : Object) →
         block.old ≡ bytes (laid p) →
         o < length p.objects →
         block.new ≡ bytes (laid (with_objects p (set p.objects o (marked_shut (get_or p.objects o d) shut)))) }
 {
-    let w = shut_word(shut);
-    put(block, Area::Objects, o, Layout::SHUT, w);
+    put(block, Area::Objects, o, Layout::SHUT, u16::from(shut));
 }
 
 // Field k of object o.
-pub fn field(block: &[u8], o: usize, k: usize) -> Value
-    requires { (length block.now ≡ BLOCK) × (o < OBJECTS) × (k < CLASS_FIELDS) }
+pub fn field(block: &[u8; Limits::BLOCK], o: usize, k: usize) -> Value
+    requires { (o < OBJECTS) × (k < CLASS_FIELDS) }
     ensures { (result ≡ value_in (word_in block.now Objects o) (field_word k)) × Storable result }
 {
     value(
@@ -64,8 +54,8 @@ pub fn field(block: &[u8], o: usize, k: usize) -> Value
 }
 
 // v in field k of object o.
-pub fn put_field(block: &mut [u8], o: usize, k: usize, v: Value)
-    requires { (length block.old ≡ BLOCK) × (o < OBJECTS) × (k < CLASS_FIELDS) }
+pub fn put_field(block: &mut [u8; Limits::BLOCK], o: usize, k: usize, v: Value)
+    requires { (o < OBJECTS) × (k < CLASS_FIELDS) }
     ensures { (p : Parts) (d : Object) →
         block.old ≡ bytes (laid p) →
         o < length p.objects →
@@ -82,8 +72,8 @@ pub fn put_field(block: &mut [u8], o: usize, k: usize, v: Value)
 }
 
 // One binding more.
-pub fn add_binding(block: &mut [u8], name: u16, t: u16, value: Value, link: u16)
-    requires { (length block.old ≡ BLOCK) × (counted block.old Bindings < BINDINGS) }
+pub fn add_binding(block: &mut [u8; Limits::BLOCK], name: u16, t: u16, value: Value, link: u16)
+    requires { counted block.old Bindings < BINDINGS }
     ensures { (p : Parts) →
         block.old ≡ bytes (laid p) →
         block.new ≡ bytes (laid (with_bindings p (p.bindings ++ record { name = name; type = t; value = value; link = link } ∷ []))) }

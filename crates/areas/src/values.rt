@@ -8,12 +8,13 @@ ghost use Rattle.representation.specs.Changed.{put_words};
 use crate::areas::{put, put_pair, word};
 use block::{Area, Layout};
 use integers::integer_of;
+use limits::Limits;
 use machine::Value;
 use value_words::value_words;
 
 // The value in record i of an area from word j on.
-pub fn value(block: &[u8], a: Area, i: usize, j: usize) -> Value
-    requires { (length block.now ≡ BLOCK) × (i < most a) × (j + VALUE ≤ width a) }
+pub fn value(block: &[u8; Limits::BLOCK], a: Area, i: usize, j: usize) -> Value
+    requires { (i < most a) × (j + VALUE ≤ width a) }
     ensures { (result ≡ value_in (word_in block.now a i) j) × Storable result }
 {
     let kind = word(block, a, i, j);
@@ -30,8 +31,8 @@ pub fn value(block: &[u8], a: Area, i: usize, j: usize) -> Value
 }
 
 // Puts v into record i of an area from word j on.
-pub fn put_value(block: &mut [u8], a: Area, i: usize, j: usize, v: Value)
-    requires { (length block.old ≡ BLOCK) × (i < most a) × (j + VALUE ≤ width a) }
+pub fn put_value(block: &mut [u8; Limits::BLOCK], a: Area, i: usize, j: usize, v: Value)
+    requires { (i < most a) × (j + VALUE ≤ width a) }
     ensures { block.new ≡ put_words block.old (word_byte a i j) (value_words v) }
 {
     let w = value_words(v);

@@ -1,43 +1,41 @@
 // The pass that asks for 35, before those behind it.
 #![tactic(auto)]
 
-ghost use Rattle.std.specs.Prelude.{◌≡◌};
+ghost use Rattle.std.specs.Prelude.{◌≤◌, length};
+ghost use Rattle.words.specs.Word.{WORD};
 ghost use Rattle.grammar.specs.Read.{read_of};
-ghost use Rattle.tokens.specs.Kinds.{byte_kinds};
 ghost use Rattle.ask_limits.specs.Reading.{ReadAs};
-ghost use Rattle.ask_declarations.specs.Judged.{JudgedDerived};
+ghost use Rattle.ask_limits.specs.Derived.{DerivedText};
 
-use ask_limits::{Read, ask_limits, offset_at, refusal};
+use ask_limits::{ReadError, ReadRefusal, ask_limits};
 use declarations::declaration_fault;
-use numbering::link_names;
+use numbering::{Linked, link_names};
+use spellings::NameTable;
+use tokens::Tokens;
 
-// 35: "after 34, a type name is declared nowhere or again".
-pub fn ask_declarations(
-    kinds: &[u8; 256],
-    text: &[u8],
-    roles: &[u8],
-    offsets: &[u16],
-    n: usize,
+// 35: "after 34, a type name is declared nowhere or again". There is room for N tokens. It is never inlined: the frame of a call for few tokens then has no
+// room for many, whose pages would be touched each time.
+#[inline(never)]
+pub fn ask_declarations<const N: usize>(
+    tokens: &Tokens,
     start: usize,
-    chain: &mut [u16],
-    values: &mut [u16],
-    firsts: &mut [u16],
-    links: &mut [u16],
-    heads: &mut [u32],
     file: &mut [u8],
-) -> Read
-    requires { JudgedDerived text.now roles.now offsets.now n start chain.old values.old firsts.old links.old heads.old file.old
-        × (kinds.now ≡ byte_kinds) }
-    ensures { ReadAs result file.new (read_of text.now file.old) }
+) -> Result<u16, ReadRefusal>
+    requires judged { DerivedText tokens.now start file.old }
+    requires room { (length tokens.now.roles.now ≤ N) × (N ≤ WORD) }
+    ensures { ReadAs result file.new (read_of tokens.now.text.bytes.now file.old) }
 {
-    let f = link_names(roles, n, chain);
-    let fault = declaration_fault(
-        kinds, text, roles, offsets, n, chain, f, values, firsts, links, heads,
-    );
-    if fault < n {
-        return refusal(35, offset_at(offsets, fault));
+    let mut chain = [0u16; N];
+    let mut values = [0u16; N];
+    let mut table = NameTable::<N>::new();
+    let firsts = link_names(tokens.roles, &mut chain);
+    let linked = Linked {
+        tokens: *tokens,
+        chain: &chain,
+        firsts,
+    };
+    if let Some(i) = declaration_fault(&linked, &mut values, &mut table) {
+        return Err(ReadRefusal::at_token(ReadError::NoDeclaration, tokens, i));
     }
-    ask_limits(
-        kinds, text, roles, offsets, n, start, chain, f, values, firsts, links, heads, file,
-    )
+    ask_limits(&linked, start, &mut values, &mut table, file)
 }

@@ -1,17 +1,21 @@
 -- The values that the passes leave are the numbers of the derivation's items.
-use Prim.Native.Nat.{ℕ}
-use mathlib.Core.Path.{◌≡◌, refl, ap, ◌∙◌}
+use Prim.Native.Nat.{ℕ, ◌+◌, ◌<◌}
+use mathlib.Core.Path.{◌≡◌, refl}
 use mathlib.Core.Bool.{Bool, true, false, cond}
 use mathlib.Core.List.{List, [], ◌∷◌, ◌++◌, map}
 use native.Mathlib.Omega.{arith}
 use lib.Dec.{eqb}
-use lib.ListN.{length, replicate}
+use lib.ListN.{length, replicate, drop, get_or}
+use native.Mathlib.Numerals.{add-one}
+use Rattle.std.proofs.Common.{drop-cons}
 use Rattle.grammar.specs.Tokens.{Lexeme}
 use Rattle.grammar.specs.Files.{Numbering, spelling_of, rank_in, method_role, field_role, other_role, declared_role}
 use Rattle.grammar.specs.Roles.{R_TYPE}
 use Rattle.rows.specs.Zipped.{value_by, items_by}
-use Rattle.numbering.specs.Numbers.{numbered, chosen_number}
-use Rattle.ask_limits.specs.Numbers.{SortNumbered, sort_numbered}
+use Rattle.numbering.specs.Numbers.{role_test, numbered, chosen_number}
+use Rattle.tokens.specs.declared.roles.Tokens.{Tokens}
+use Rattle.numbering.specs.declared.Sort.{Sort}
+use Rattle.ask_limits.specs.Numbers.{sort_numbered}
 use Rattle.declarations.specs.Declaring.{type_named}
 
 -- One token after the other sorts of names.
@@ -49,17 +53,15 @@ values_numbered k (r ∷ rs) (l ∷ ls) rest h =
     )
     refl
 
--- A sort more, behind those that are numbered.
+-- The values where the names of a list of sorts have been numbered, one after another.
+abbrev pub sorts_numbered : Tokens → List Sort → List ℕ → List ℕ
+sorts_numbered k [] values = values
+sorts_numbered k (s ∷ ss) values = sorts_numbered k ss (sort_numbered (role_test s) k values)
+
+-- One sort more.
 pub sorts_on :
-    (test : ℕ → Bool) (text roles offsets : List ℕ) (n : ℕ) (v f l h due v₁ f₁ l₁ h₁ v₂ f₂ l₂ h₂ : List ℕ)
-    → SortNumbered text roles offsets n v f l h due v₁ f₁ l₁ h₁
-    → SortNumbered text roles offsets n v₁ f₁ l₁ h₁ (sort_numbered test text roles offsets n v₁) v₂ f₂ l₂ h₂
-    → SortNumbered text roles offsets n v f l h (sort_numbered test text roles offsets n due) v₂ f₂ l₂ h₂
-sorts_on test text roles offsets n v f l h due v₁ f₁ l₁ h₁ v₂ f₂ l₂ h₂ a b =
-    record {
-      values_are = b.values_are ∙ ap (sort_numbered test text roles offsets n) a.values_are;
-      values_long = b.values_long ∙ a.values_long;
-      firsts_long = b.firsts_long ∙ a.firsts_long;
-      links_long = b.links_long ∙ a.links_long;
-      heads_long = b.heads_long ∙ a.heads_long;
-    }
+    (k : Tokens) (ss : List Sort) (i : ℕ) (d : Sort) (v v' : List ℕ)
+    → i < length ss
+    → v' ≡ sort_numbered (role_test (get_or ss i d)) k v
+    → sorts_numbered k (drop (i + 1) ss) v' ≡ sorts_numbered k (drop i ss) v
+sorts_on k ss i d v v' h e = rw (e, add-one, drop-cons ss i d h) refl

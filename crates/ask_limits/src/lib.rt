@@ -2,132 +2,66 @@
 #![tactic(auto)]
 
 mod numbers;
+mod refusal;
 
-ghost use Rattle.std.specs.Prelude.{◌≡◌, ◌<◌, ◌≤◌, length, get_or};
-ghost use Rattle.limits.specs.Limits.{TEXT};
+ghost use Rattle.std.specs.Prelude.{◌≡◌, ◌≤◌, length};
 ghost use Rattle.grammar.specs.Read.{read_of};
-ghost use Rattle.script.specs.declared.Section.{Section};
-ghost use Rattle.tokens.specs.Kinds.{byte_kinds};
-ghost use Rattle.bounds.specs.Counting.{counted_of};
-ghost use Rattle.section_rows.specs.Counted.{records_in};
 ghost use Rattle.ask_limits.specs.Reading.{ReadAs};
 ghost use Rattle.ask_limits.specs.Derived.{DeclaredText, NumberedText};
 
 use crate::numbers::number_rest;
-use bounds::{Counted, Index, count_records};
-use numbering::Firsts;
-use section_rows::Counts;
+use bounds::{Counts, Index, count_records};
+use numbering::Linked;
+pub use refusal::{ReadError, ReadRefusal};
+use section_rows::Records;
+use spellings::NameTable;
+use token_words::Items;
+use tokens::Tokens;
 use writer::write_file;
 
-// What Read answers: the number of the error and its place, or 0 and 0; and how many bytes the file has.
-#[derive(Clone, Copy)]
-pub struct Read {
-    pub number: u16,
-    pub length: u16,
-    pub place: u32,
-}
-
-// The reply of a refusal.
-pub fn refusal(number: u16, place: usize) -> Read
-    requires { place ≤ TEXT }
-    ensures { result ≡ record { number = number; length = 0; place = place } }
-{
-    Read {
-        number,
-        length: 0,
-        place: place as u32,
-    }
-}
-
-fn wide(x: u16) -> usize
-    ensures { (result ≡ x) × (result < TEXT) }
-{
-    x as usize
-}
-
-// Where token i stands.
-pub fn offset_at(offsets: &[u16], i: usize) -> usize
-    requires { i < length offsets.now }
-    ensures { (result ≡ get_or offsets.now i 0) × (result ≤ TEXT) }
-{
-    wide(offsets[i])
-}
-
-// The counts as the writer takes them.
-fn counts_of(c: Counted) -> Counts
-    ensures { (k : Section) → records_in result k ≡ counted_of c k }
-{
-    Counts {
-        interfaces: c.interfaces,
-        signatures: c.signatures,
-        classes: c.classes,
-        fields: c.fields,
-        methods: c.methods,
-        nodes: c.nodes,
-    }
-}
-
-// Writes the file.
-fn write(
-    text: &[u8],
-    roles: &[u8],
-    offsets: &[u16],
-    values: &[u16],
-    index: &[u16],
-    n: usize,
+// Writes the file, and answers how many bytes it has.
+fn write<'a>(
+    tokens: &Tokens<'a>,
+    values: &'a [u16],
+    index: &'a [u16],
     start: usize,
-    c: Counted,
+    counts: Counts,
     file: &mut [u8],
-) -> Read
-    requires { NumberedText text.now roles.now offsets.now values.now index.now n start c file.old }
-    ensures { ReadAs result file.new (read_of text.now file.old) }
+) -> u16
+    requires { NumberedText tokens.now values.now index.now start counts file.old }
+    ensures { ReadAs (Ok result) file.new (read_of tokens.now.text.bytes.now file.old) }
 {
-    let length = write_file(
-        text,
-        roles,
-        offsets,
-        values,
+    let items = Items {
+        tokens: *tokens,
+        values: &values[..tokens.roles.len()],
+        types: counts.types(),
+    };
+    let records = Records {
+        items,
         index,
-        n,
-        start,
-        counts_of(c),
-        file,
-    );
-    Read {
-        number: 0,
-        length: length as u16,
-        place: 0,
-    }
+        counts,
+    };
+    write_file(&records, start, file) as u16
 }
 
 // 36: "after 35, a table limit or the range of Int is passed"; else names are numbered.
-pub fn ask_limits(
-    kinds: &[u8; 256],
-    text: &[u8],
-    roles: &[u8],
-    offsets: &[u16],
-    n: usize,
+pub fn ask_limits<const N: usize>(
+    linked: &Linked,
     start: usize,
-    chain: &[u16],
-    f: Firsts,
     values: &mut [u16],
-    firsts: &mut [u16],
-    links: &mut [u16],
-    heads: &mut [u32],
+    table: &mut NameTable<N>,
     file: &mut [u8],
-) -> Read
-    requires { DeclaredText text.now roles.now offsets.now n start chain.now f values.old firsts.old links.old heads.old file.old
-        × (kinds.now ≡ byte_kinds) }
-    ensures { ReadAs result file.new (read_of text.now file.old) }
+) -> Result<u16, ReadRefusal>
+    requires declared { DeclaredText linked.now.tokens start values.old file.old }
+    requires room { (length linked.now.tokens.roles.now ≤ length values.old) × (length linked.now.tokens.roles.now ≤ N) }
+    ensures { ReadAs result file.new (read_of linked.now.tokens.text.bytes.now file.old) }
 {
+    let tokens = &linked.tokens;
     let mut index = [0u16; Index::RECORDS];
-    let c = count_records(text, roles, offsets, n, &mut index);
-    let fault = c.fault;
-    if fault < n {
-        return refusal(36, offset_at(offsets, fault));
-    }
-    number_rest(
-        kinds, text, roles, offsets, n, chain, f, values, firsts, links, heads,
-    );
-    write(text, roles, offsets, values, &index, n, start, c, file)
+    let counts = match count_records(tokens, &mut index) {
+        Ok(counts) => counts,
+        Err(i) => return Err(ReadRefusal::at_token(ReadError::NoRoom, tokens, i)),
+    };
+    number_rest(linked, values, table);
+    Ok(write(tokens, values, &index, start, counts, file))
 }

@@ -13,6 +13,7 @@ use Rattle.limits.specs.Limits.{NODES}
 use Rattle.script.specs.declared.Section.TheVariants.{Nodes as nodes}
 use Rattle.script.specs.Lists.{◌∈◌}
 use Rattle.script.specs.Section.{count_of}
+use Rattle.script.specs.Statements.{WithinLayout}
 use Rattle.script.specs.Syntax.{Slot, Program}
 use Rattle.script.specs.Reading.{program_of}
 use Rattle.script.specs.Regular.{IsType}
@@ -25,7 +26,6 @@ use Rattle.block.specs.declared.Area.TheVariants.{Bindings}
 use Rattle.environments.specs.Chains.{binding_count, binding_at, newest, bindings_in, Chain, Typed}
 use Rattle.environments.specs.Known.{ScopedNode}
 use Rattle.environments.proofs.ChainLaws.{length_newest}
-use Rattle.environments.proofs.KnownLaws.{scoped}
 use Rattle.awaited.specs.Awaited.{ScopedBlock, NodeUnder}
 
 -- the bindings of an environment are some of the block's
@@ -44,26 +44,22 @@ pub bindings_length : (b : List ℕ) → length (bindings_in b) ≡ binding_coun
 unfolding bindings_in
 bindings_length b = length_newest (binding_at b) (binding_count b)
 
-module _ {s starts facts table b : List ℕ} (y : ScopedBlock s starts facts table b) where
+module _ {s b : List ℕ} (w : WithinLayout s) (y : ScopedBlock s b) where
   pub chain : (e : ℕ) → e ≤ binding_count b → Chain b e
   chain e h = record { long = y.in_order.long; few = (y.in_order.areas Bindings).few; links = y.links; within = h }
 
   pub typed : Typed b
-  typed i h = omega (arith, type_small y.blank.within _ (y.types i h))
+  typed i h = omega (arith, type_small w _ (y.types i h))
 
   pub well : (e : ℕ) → WfEnv (program_of s) (context (bindings_in b) e)
   unfolding bindings_in
   well e = WF-ENV (λ d m. (type_wf (program_of s) d.type).0 (scope_types (program_of s) (binding_at b) (binding_count b) y.types e d m))
 
-  pub scoped_at : {n e : ℕ} → NodeUnder s b n e → ScopedNode s starts b e n
-  scoped_at {e = e} u = scoped y.blank u.node (chain e u.environment) (well e)
+  pub scoped_at : {n e : ℕ} → NodeUnder s b n e → ScopedNode s b e n
+  scoped_at {e = e} u = record { there = u.node; chain = chain e u.environment; types = well e }
 
   pub small_node : {n : ℕ} → n < count_of s nodes → n < NODES
-  small_node h = omega (arith, y.blank.within.counts_are.within nodes)
+  small_node h = omega (arith, w.counts_are.within nodes)
 
   pub small_environment : {e : ℕ} → e ≤ binding_count b → e + 1 < WORD
   small_environment l = omega (arith, (y.in_order.areas Bindings).few)
-
-  -- the table as it was
-  pub still_ready : {after : List ℕ} → after ≡ table → ScopedBlock s starts facts after b
-  still_ready e = rw e y

@@ -8,8 +8,7 @@ use Rattle.script.specs.Syntax.{Point}
 use Rattle.script.specs.Reading.{view_at, program_of}
 use Rattle.script.specs.Regular.{IsType}
 use Rattle.inference.specs.declared.Given.{Given}
-use Rattle.inference.specs.declared.Given.TheVariants.{Typed as typed_at, Null as null-at, Faulty as faulty-at}
-use Rattle.inference.specs.Walk.{EmptyEnv}
+use Rattle.inference.specs.declared.Given.TheVariants.{Typed as typed_at, Null as null-at}
 use Rattle.machine.specs.declared.Want.{Want}
 use Rattle.machine.specs.declared.Want.TheVariants.{Upto as upto}
 use Rattle.machine.specs.Config.{Code, code_of}
@@ -19,45 +18,46 @@ use Rattle.block.specs.declared.Area.TheVariants.{Bindings}
 use Rattle.block.specs.Layout.{word_in, TYPE, LINK}
 use Rattle.representation.specs.InOrder.{InOrder}
 use Rattle.environments.specs.Chains.{binding_count, bindings_in}
-use Rattle.awaited.specs.declared.Expects.{Expects}
-use Rattle.awaited.specs.declared.Expects.TheVariants.{No, Wants}
+use Rattle.std.specs.declared.option.Option.{Option as CodeOption}
+use Rattle.std.specs.declared.option.Option.TheVariants.{Some, None}
+use Rattle.std.specs.declared.result.Result.{Result}
+use Rattle.std.specs.declared.result.Result.TheVariants.{Ok, Err}
+use Rattle.typing.specs.declared.Fault.{Fault}
 use Rattle.awaited.specs.declared.Waits.{Waits}
-use Rattle.awaited.specs.declared.Waits.TheVariants.{Never, For, ForNull}
+use Rattle.awaited.specs.declared.Waits.TheVariants.{For, ForNull}
 
 -- What is expected, as the code says it.
-abbrev pub expects_of : Option Want → Expects
-expects_of none = No
-expects_of (some w) = Wants w
+abbrev pub expects_of : Option Want → CodeOption Want
+expects_of none = None
+expects_of (some w) = Some w
 
 -- What is expected above a frame that waits so, where v is expected beneath it.
-abbrev pub wants_of : Code → Want → Waits → Option Want
-wants_of s v Never = none
-wants_of s v (For t u) = wants s u v t
-wants_of s v (ForNull t) = only (null_meets_test s v) (some (upto t))
+abbrev pub wants_of : Code → Want → CodeOption Waits → Option Want
+wants_of s v None = none
+wants_of s v (Some (For t u)) = wants s u v t
+wants_of s v (Some (ForNull t)) = only (null_meets_test s v) (some (upto t))
 
 -- Does what a node gives meet what is expected? A null meets all but Int.
-abbrev pub given_test : Code → Given → Want → Bool
-given_test s (typed_at t n) v = meets_test s t v
-given_test s (null-at n) v = null_meets_test s v
-given_test s (faulty-at q n) v = false
+abbrev pub given_test : Code → Result Given Fault → Want → Bool
+given_test s (Ok (typed_at t n)) v = meets_test s t v
+given_test s (Ok (null-at n)) v = null_meets_test s v
+given_test s (Err f) v = false
 
 -- What a let waits for whose first part has type t, by what the whole let gives.
 abbrev pub waits_by : ℕ → Given → Waits
 waits_by t (typed_at u n) = For t u
 waits_by t (null-at n) = ForNull t
-waits_by t (faulty-at q n) = Never
 
 -- A type that is given is one of the few.
-abbrev pub GivesSmall : Waits → Type 0
-GivesSmall r = (t u : ℕ) → r ≡ For t u → u ≤ INTERFACES + CLASSES + 1
+abbrev pub GivesSmall : CodeOption Waits → Type 0
+GivesSmall r = (t u : ℕ) → r ≡ Some (For t u) → u ≤ INTERFACES + CLASSES + 1
 
 -- What node n waits for in the environment e of the block b, whatever is expected beneath its frame.
-abbrev pub WaitsAs : List ℕ → List ℕ → Point → ℕ → Waits → Type 0
+abbrev pub WaitsAs : List ℕ → List ℕ → Point → ℕ → CodeOption Waits → Type 0
 WaitsAs s b n e r = (v : Want) → awaited (code_of s) (context (bindings_in b) e) (view_at s n) v ≡ wants_of (code_of s) v r
 
--- What the code is lent: the script's tables, an empty one for an environment, and a block in order whose bindings link to earlier ones and have types.
-pub record ScopedBlock (s starts facts table b : List ℕ) : Type 0 where
-  pub blank : EmptyEnv s starts facts table
+-- What the code is lent beside the script and its tables: a block in order whose bindings link to earlier ones and have types.
+pub record ScopedBlock (s b : List ℕ) : Type 0 where
   pub in_order : InOrder (field_count s) b
   pub links : (i : ℕ) → i < binding_count b → word_in b Bindings i LINK ≤ i
   pub types : (i : ℕ) → i < binding_count b → IsType (program_of s) (word_in b Bindings i TYPE)

@@ -112,6 +112,7 @@ pub fn agreed()
     ensures words { Layout.WORDS ≡ WORDS }
 {}
 
+// An area has four numbers, and the counts do not even stand in the areas' order, so none of the four is its discriminant.
 // The word of the header that has an area's count.
 pub fn count_word_of(a: Area) -> usize
     ensures { (result ≡ count_word a) × (result < HEADER) }

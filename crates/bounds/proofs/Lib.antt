@@ -1,4 +1,3 @@
-pub mod Begins
 pub mod Counters
 pub mod Outside
 pub mod Pass

@@ -6,8 +6,8 @@ use Prim.Native.Nat.{ℕ, zero, suc, ◌+◌, ◌%◌, ◌≤◌, ◌<◌}
 use native.Mathlib.Omega.{arith}
 use lib.Dec.{leb, ltb, leb-suc-suc}
 use lib.IntN.{pos}
-use lib.ListN.{length, get_or, take, drop, drop_of_length-le}
-use lib.Seq.{drop-cons, get_or-take, length-take-le}
+use lib.ListN.{length, get_or, drop, drop_of_length-le}
+use lib.Seq.{drop-cons}
 use borrow.Author.Tests.{ne_eqb, leb-false, ltb-true, ltb-false, le-ltb, le-leb, lt-leb}
 use Rattle.words.specs.Integer.{HALF, range_test}
 use Rattle.grammar.specs.Tokens.{Lexeme, fixed, TEXT_END, decimal, decimal_from}
@@ -16,7 +16,7 @@ use Rattle.grammar.specs.Roles.{PLAIN, R_NULL, R_INTEGER, R_NEGATIVE, BINDING}
 use Rattle.grammar.specs.Files.{spelling_of, negated}
 use Rattle.grammar.specs.Faults.{Marked, marked_by, head_spelling, begins_test, outside_test}
 use Rattle.tokens.specs.Runs.{digits_from, capped, BEYOND, capped_by}
-use Rattle.bounds.specs.Counting.{TokensLie, IntegersSpelt, lexeme_at, marked_at}
+use Rattle.bounds.specs.Counting.{IntegersSpelt, lexeme_at, marked_at}
 
 -- a number of digits, and one behind a minus
 leb_not : (a b : ℕ) → leb a b ≡ not (ltb b a)
@@ -64,34 +64,29 @@ marked_at_lem (r ∷ rs) (t ∷ ls) zero h k = refl
 marked_at_lem (r ∷ rs) (t ∷ ls) (suc i) h k = marked_at_lem rs ls i (omega arith) (omega arith)
 
 -- the tokens of a text
-module _ (text roles offsets : List ℕ) (n : ℕ) (placed : TokensLie text roles offsets n) (ls : List Lexeme) (s : IntegersSpelt text roles offsets n ls) where
+module _ (text roles offsets : List ℕ) (ls : List Lexeme) (s : IntegersSpelt text roles offsets (length roles) ls) where
   abbrev tokens : List Marked
-  tokens = marked_by (take n roles) ls
+  tokens = marked_by roles ls
 
-  taken : length (take n roles) ≡ n
-  taken = length-take-le n roles placed.roles_there
+  pub length_tokens : length tokens ≡ length roles
+  length_tokens = length_marked roles ls (sym s.all)
 
-  pub length_tokens : length tokens ≡ n
-  length_tokens = length_marked (take n roles) ls (taken ∙ sym s.all) ∙ taken
-
-  pub token_at_lem : (j : ℕ) → j < n → marked_at tokens j ≡ record { role = get_or roles j 0; marks = lexeme_at ls j }
-  token_at_lem j l =
-      marked_at_lem (take n roles) ls j (omega (arith, taken)) (omega (arith, s.all))
-      ∙ ap (λ r. record { role = r; marks = lexeme_at ls j }) (get_or-take n roles j 0 l)
+  pub token_at_lem : (j : ℕ) → j < length roles → marked_at tokens j ≡ record { role = get_or roles j 0; marks = lexeme_at ls j }
+  token_at_lem j l = marked_at_lem roles ls j l (omega (arith, s.all))
 
   -- what the code answers for token i, m being the value of the digits that it looks at
-  module _ (i : ℕ) (h : i < n) where
+  module _ (i : ℕ) (h : i < length roles) where
     abbrev answer : Bool
     answer = outside_test (marked_at tokens i) (drop (i + 1) tokens)
 
     pub neither : (get_or roles i 0 ≡ R_INTEGER → ⊥) → (get_or roles i 0 ≡ R_NEGATIVE → ⊥) → false ≡ answer
     neither p q = rw (token_at_lem i h, ne_eqb (get_or roles i 0) R_INTEGER p, ne_eqb (get_or roles i 0) R_NEGATIVE q)
 
-    pub unfollowed : get_or roles i 0 ≡ R_NEGATIVE → i + 1 ≡ n → false ≡ answer
+    pub unfollowed : get_or roles i 0 ≡ R_NEGATIVE → length roles ≤ i + 1 → false ≡ answer
     unfolding decimal_from
     unfollowed p e = let l : length tokens ≤ i + 1 = omega (arith, length_tokens) in rw (token_at_lem i h, p, drop_of_length-le tokens l)
 
-    behind : i + 1 < n → head_spelling (drop (i + 1) tokens) ≡ spelling_of (lexeme_at ls (i + 1))
+    behind : i + 1 < length roles → head_spelling (drop (i + 1) tokens) ≡ spelling_of (lexeme_at ls (i + 1))
     behind l =
         let k : i + 1 < length tokens = omega (arith, length_tokens) in
         rw (drop-cons tokens (i + 1) (record { role = PLAIN; marks = fixed TEXT_END }) k, token_at_lem (i + 1) l)
@@ -104,9 +99,8 @@ module _ (text roles offsets : List ℕ) (n : ℕ) (placed : TokensLie text role
 
       pub minus :
           get_or roles i 0 ≡ R_NEGATIVE
-          → (i + 1 ≡ n → ⊥)
+          → i + 1 < length roles
           → m ≡ capped (decimal (digits_from (drop (get_or offsets (i + 1) 0) text)))
           → ltb HALF m ≡ answer
-      minus p e q =
-          let l : i + 1 < n = omega arith in
+      minus p l q =
           rw (token_at_lem i h, p, behind l, q, ← s.negatives i l p) (past_minus (decimal (spelling_of (lexeme_at ls (i + 1)))))

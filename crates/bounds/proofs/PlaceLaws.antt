@@ -17,11 +17,11 @@ use Rattle.script.specs.Section.{entry_of, most_of}
 use Rattle.script.proofs.Lists.{lt_or_le, zeros}
 use Rattle.grammar.specs.Faults.{begins_test, one_more_if}
 use Rattle.bounds.specs.Counting.{SECTIONS, mosts, full_test}
-use Rattle.bounds.specs.Places.{total, place_if, places_from, index_of, RECORDS, index_start, IndexIs}
+use Rattle.bounds.specs.Places.{total, place_if, places_from, index_of, RECORDS, index_start}
 use Rattle.bounds.proofs.Pass.{most_at, entry_below, room, one_counted}
 
 -- where the part of a section begins
-start_is : (s : Section) → index_start (entry_of s) ≡ index_of s
+pub start_is : (s : Section) → index_start (entry_of s) ≡ index_of s
 unfolding index_start total mosts
 start_is interfaces = refl
 start_is signatures = refl
@@ -68,6 +68,9 @@ apart s e c k b l ne m q =
 -- a place in a part is one of the index
 pub place_below : (counts : List ℕ) (e : ℕ) → e < SECTIONS → full_test counts e ≡ false → index_start e + get_or counts e 0 < RECORDS
 place_below counts e h f = omega (arith, earlier e SECTIONS h (omega arith), room counts e h f, all_records)
+
+pub section_below : (counts : List ℕ) (s : Section) → full_test counts (entry_of s) ≡ false → index_of s + get_or counts (entry_of s) 0 < RECORDS
+section_below counts s f = rw (← start_is s) (place_below counts (entry_of s) (entry_below s) f)
 
 pub no_place : (counts index : List ℕ) (e i : ℕ) → length index ≡ RECORDS → e ≡ SECTIONS → index ≡ set index (index_start e + get_or counts e 0) i
 no_place counts index e i l h = sym (set_out index (index_start e + get_or counts e 0) i (omega (arith, all_records, ap index_start h)))
@@ -142,7 +145,3 @@ module _
               ∙ rw (p.counted s, one_more s) (sym (length_more (eqb e (entry_of s)) i (places_from s 0 (take i roles))));
           placed = λ s. rw (one_more s) (λ k m. at_places s k (eqb e (entry_of s)) refl m);
         }
-
--- behind the last token
-pub indexed : (roles counts index : List ℕ) (n : ℕ) → Placing roles counts index n → IndexIs (take n roles) index
-indexed roles counts index n p = record { long = p.long; places = p.placed }

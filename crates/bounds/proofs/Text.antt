@@ -14,7 +14,6 @@ use Rattle.grammar.specs.Grammar.{Derivation, spelled_text, Derives}
 use Rattle.grammar.specs.Roles.{R_INTEGER, R_NEGATIVE, roles_text}
 use Rattle.grammar.specs.Files.{spelling_of}
 use Rattle.grammar.specs.Faults.{marked_text}
-use Rattle.grammar.proofs.Splitting.{splits}
 use Rattle.tokens.specs.Runs.{digits_from}
 use Rattle.spelt.specs.Spelt.{digits_in, Spelt}
 use Rattle.spelt.specs.RoleFits.{fit_test, digits_head, RoleFits}
@@ -24,8 +23,8 @@ use Rattle.capacity.specs.Extent.{records_of, WithinLimits}
 use Rattle.capacity.proofs.Roles.{text_spelled}
 use Rattle.capacity.proofs.Begun.{begun_records}
 use Rattle.capacity.proofs.Within.{within_limits}
-use Rattle.bounds.specs.declared.Counted.{Counted}
-use Rattle.bounds.specs.Counting.{TokensLie, lexeme_at, IntegersSpelt, counted_of, CountedAs}
+use Rattle.bounds.specs.declared.counts.Counts.{Counts}
+use Rattle.bounds.specs.Counting.{lexeme_at, IntegersSpelt, counted_of, AllCounted}
 
 -- A token begins in its text.
 pub begins_within : (end : ℕ) {n : ℕ} {s : List ℕ} {ts : List Token} → n + length s ≤ end → Splits n s ts → Every (λ t. t.offset ≤ end) ts
@@ -33,11 +32,6 @@ begins_within end h splits_end = tt
 begins_within end h (splits_blank e r) = begins_within end (omega arith) r
 begins_within end h (splits_token {s = s} w e f m r) =
     (omega arith, begins_within end (omega (arith, ap length e, length-append w s)) r)
-
-every_at : (end : ℕ) (ts : List Token) (i : ℕ) → i < length ts → Every (λ t. t.offset ≤ end) ts → get_or (map (λ t. t.offset) ts) i 0 ≤ end
-every_at end [] i h e = absurd (omega arith)
-every_at end (t ∷ ts) zero h e = e.0
-every_at end (t ∷ ts) (suc i) h e = every_at end ts i (omega arith) e.1
 
 -- Where a role says that digits stand, the spelling is digits.
 digits_at : (rs : List ℕ) (ls : List Lexeme) (i : ℕ) → RoleFits rs ls → i < length rs → get_or rs i 0 ≡ R_INTEGER → spelling_of (lexeme_at ls i) ≡ digits_in (lexeme_at ls i)
@@ -99,14 +93,6 @@ module _
     offset_at : (i : ℕ) → i < n → get_or offsets i 0 ≡ get_or (map (λ t. t.offset) (tokens_of text)) i 0
     offset_at i h = rw (first-offsets, get_or-append (map (λ t. t.offset) (tokens_of text)) more 0 i (omega (arith, all_offsets)))
 
-    pub placed_text : TokensLie text roles offsets n
-    placed_text =
-        record {
-          roles_there = omega (arith, ap length first-roles, length-append (roles_text d) others, all_roles);
-          offsets_there = omega (arith, ap length first-offsets, length-append (map (λ t. t.offset) (tokens_of text)) more, all_offsets);
-          within = λ i h. rw (offset_at i h) (every_at (length text) (tokens_of text) i h (begins_within (length text) (omega arith) (splits 0 text)));
-        }
-
     there : (i : ℕ) → i < n → digits_in (lexeme_at (spelled_text d) i) ≡ digits_from (drop (get_or offsets i 0) text)
     there i h = rw (derives, offset_at i h) (sym (digits_there text (tokens_of text) i h (spelt text)))
 
@@ -120,9 +106,5 @@ module _
         }
 
 -- The counts are those of the file's sections.
-pub counted_text :
-    (d : Derivation) (n : ℕ) (r : Counted)
-    → CountedAs n (marked_text d) r
-    → r.fault ≡ n
-    → WithinLimits d × ((k : Section) → counted_of r k ≡ records_of k d)
-counted_text d n r c e = (within_limits d (c.faultless e), λ k. (c.counts e k).0 ∙ begun_records k d)
+pub counted_text : (d : Derivation) (c : Counts) → AllCounted (marked_text d) c → WithinLimits d × ((k : Section) → counted_of c k ≡ records_of k d)
+counted_text d c a = (within_limits d a.faultless, λ k. (a.counts k).0 ∙ begun_records k d)

@@ -1,4 +1,5 @@
 // The replies as C gets them.
+// A number stands beside the values, and 0 means that the call was not refused: C has no Result, and include/oolong.h declares these structs so.
 #![tactic(auto)]
 
 mod check;
@@ -8,9 +9,9 @@ mod run;
 mod silent;
 mod start;
 
-pub use check::{CheckReply, ScriptAnswer, check_refusal, check_reply, script_answer};
-pub use offer::{OfferReply, offer_reply};
+pub use check::CheckReply;
+pub use offer::OfferReply;
 pub use read::{ReadReply, read_reply};
-pub use run::{RunReply, run_refusal, run_reply};
-pub use silent::{SilentReply, silent_refusal, silent_reply};
-pub use start::{StartReply, start_refusal};
+pub use run::RunReply;
+pub use silent::SilentReply;
+pub use start::StartReply;

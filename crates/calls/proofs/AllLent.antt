@@ -7,7 +7,7 @@ use Prim.Native.Nat.{ℕ, ◌<◌}
 use lib.ListN.{length}
 use borrow.Author.Tests.{eq-eqb, ne_eqb, lt-leb}
 use Rattle.limits.specs.Limits.{BLOCK, CHOICES, FLAGS}
-use Rattle.typing.specs.declared.Verdict.TheVariants.{Accepted}
+use Rattle.std.specs.declared.result.Result.TheVariants.{Ok}
 use Rattle.typing.specs.Check.{check_of}
 use Rattle.machine.specs.Machine.{initial}
 use Rattle.block.specs.Block.{encode}
@@ -15,7 +15,7 @@ use Rattle.parts.specs.Parts.{objects_sound, bindings_sound}
 use Rattle.calls.specs.Calls.{no_at, start_asked, config_of, parts_asked, block_asked, start_of, offer_of, run_of}
 use Rattle.calls.specs.Lent.{LentRefused}
 
-module _ (s : List ℕ) (t : ℕ) (acc : check_of s ≡ Accepted t) (b fl ns : List ℕ) where
+module _ (s : List ℕ) (t : ℕ) (acc : check_of s ≡ Ok t) (b fl ns : List ℕ) where
   pub no_length : (length b ≡ BLOCK → ⊥) → LentRefused s (record { block = b; flags = fl; choices = ns; start = 20; written = b; number = 20 })
   unfolding start_of start_asked offer_of run_of block_asked
   no_length h =

@@ -10,8 +10,8 @@ use borrow.Author.Tests.{eqb-true, eqb-false, leb-true, leb-false}
 use Rattle.limits.specs.Limits.{BLOCK, CHOICES, FLAGS}
 use Rattle.script.specs.Asking.{Decides, holds, fails}
 use Rattle.script.proofs.Tests.{says_yes, yes_said, decides_not}
-use Rattle.typing.specs.declared.Verdict.{Verdict}
-use Rattle.typing.specs.declared.Verdict.TheVariants.{Accepted, Refused}
+use Rattle.std.specs.declared.result.Result.TheVariants.{Ok, Err}
+use Rattle.typing.specs.Answers.{Verdict}
 use Rattle.typing.specs.Check.{check_of}
 use Rattle.typing.proofs.Exact.{outside_refused}
 use Rattle.machine.specs.Config.{Config, code_of}
@@ -45,10 +45,10 @@ well_formed_some s t (some x) c e =
 -- What the questions about a block come to.
 data Answers (s b : List ℕ) (Fine Off : Type 0) : Questioned → Type 0 where
   said_no : {n place : ℕ} → FirstNoTo s b Fine Off n place → Answers s b Fine Off (no_at n place)
-  said_yes : {t : ℕ} {c : Config} → check_of s ≡ Accepted t → Fine → Holds s t b c → Answers s b Fine Off (yes_with c)
+  said_yes : {t : ℕ} {c : Config} → check_of s ≡ Ok t → Fine → Holds s t b c → Answers s b Fine Off (yes_with c)
 
 module _ (s : List ℕ) (bytes : (i : ℕ) → get_or s i 0 < 256) where
-  module _ (t : ℕ) (acc : check_of s ≡ Accepted t) where
+  module _ (t : ℕ) (acc : check_of s ≡ Ok t) where
     pub accepts : AcceptedCode (code_of s) t
     accepts = accepted s t bytes acc
 
@@ -75,7 +75,7 @@ module _ (s : List ℕ) (bytes : (i : ℕ) → get_or s i 0 < 256) where
     decides_stands b = stands_found b (config_of s t b) refl
 
   module _ (b : List ℕ) {Fine Off : Type 0} (lent : Bool) (fine : lent ≡ true → Fine) (off : lent ≡ false → Off) where
-    module _ (t : ℕ) (acc : check_of s ≡ Accepted t) (l : length b ≡ BLOCK) (f : Fine) where
+    module _ (t : ℕ) (acc : check_of s ≡ Ok t) (l : length b ≡ BLOCK) (f : Fine) where
       by_config : ObjectsAre s b → BindingsAre s b → (o : Option Config) → config_of s t b ≡ o → Answers s b Fine Off (ask_threads o)
       by_config x y none e =
           said_no (by_threads acc l f x y (λ z. let h = holds_config t acc ((parts_stand acc l).1 (x, y, z)).holds in let n : ◌≡◌ {A = ℕ} 0 1 = cc in omega arith))
@@ -93,17 +93,17 @@ module _ (s : List ℕ) (bytes : (i : ℕ) → get_or s i 0 < 256) where
       unfolding parts_asked
       by_parts = by_heap (objects_sound s b) refl
 
-    by_lent : (t : ℕ) → check_of s ≡ Accepted t → length b ≡ BLOCK → (a : Bool) → lent ≡ a → Answers s b Fine Off (ask BufferLength a (parts_asked s t b))
+    by_lent : (t : ℕ) → check_of s ≡ Ok t → length b ≡ BLOCK → (a : Bool) → lent ≡ a → Answers s b Fine Off (ask BufferLength a (parts_asked s t b))
     by_lent t acc l true e = by_parts t acc l (fine e)
     by_lent t acc l false e = said_no (by_buffer acc l (off e))
 
-    by_block : (t : ℕ) → check_of s ≡ Accepted t → (a : Bool) → block_long b ≡ a → Answers s b Fine Off (ask BlockLength a (ask BufferLength lent (parts_asked s t b)))
+    by_block : (t : ℕ) → check_of s ≡ Ok t → (a : Bool) → block_long b ≡ a → Answers s b Fine Off (ask BlockLength a (ask BufferLength lent (parts_asked s t b)))
     by_block t acc true e = by_lent t acc (eqb-true (length b) BLOCK e) lent refl
     by_block t acc false e = said_no (by_length acc (eqb-false (length b) BLOCK e))
 
     by_check : (v : Verdict) → check_of s ≡ v → Answers s b Fine Off (ask_script v (λ t. ask BlockLength (block_long b) (ask BufferLength lent (parts_asked s t b))))
-    by_check (Accepted t) e = by_block t e (block_long b) refl
-    by_check (Refused q place) e = said_no (by_script e)
+    by_check (Ok t) e = by_block t e (block_long b) refl
+    by_check (Err _) e = said_no (by_script e)
 
     block_answers : Answers s b Fine Off (block_asked s b lent)
     unfolding block_asked
@@ -131,8 +131,8 @@ module _ (s : List ℕ) (bytes : (i : ℕ) → get_or s i 0 < 256) where
 
 -- Check, on all inputs.
 check_from : (s : List ℕ) (v : Verdict) → check_of s ≡ v → CheckAnswers s (checked_from s v)
-check_from s (Accepted t) e = checked e
-check_from s (Refused q place) e = check_refused e
+check_from s (Ok t) e = checked e
+check_from s (Err _) e = check_refused e
 
 pub check_answers : (s : List ℕ) → CheckAnswers s (checked_of s)
 unfolding checked_of
@@ -140,13 +140,13 @@ check_answers s = check_from s (check_of s) refl
 
 -- Start, on all inputs: it asks no question about the block's bytes.
 module _ (s b : List ℕ) where
-  start_block : (t : ℕ) → check_of s ≡ Accepted t → (a : Bool) → block_long b ≡ a → StartAnswers s b (started_from b (ask BlockLength a (yes_with initial)))
+  start_block : (t : ℕ) → check_of s ≡ Ok t → (a : Bool) → block_long b ≡ a → StartAnswers s b (started_from b (ask BlockLength a (yes_with initial)))
   start_block t acc true e = started acc (eqb-true (length b) BLOCK e)
   start_block t acc false e = start_refused (by_length acc (eqb-false (length b) BLOCK e))
 
   start_check : (v : Verdict) → check_of s ≡ v → StartAnswers s b (started_from b (ask_script v (λ t. ask BlockLength (block_long b) (yes_with initial))))
-  start_check (Accepted t) e = start_block t e (block_long b) refl
-  start_check (Refused q place) e = start_refused (by_script e)
+  start_check (Ok t) e = start_block t e (block_long b) refl
+  start_check (Err _) e = start_refused (by_script e)
 
   pub start_answers : StartAnswers s b (start_of s b)
   unfolding start_of start_asked

@@ -8,7 +8,7 @@ use lib.ListN.{length, get_or}
 use Rattle.limits.specs.Limits.{BLOCK, FLAGS}
 use Rattle.script.specs.Lists.{◌∈◌}
 use Rattle.script.proofs.Lists.{length_run, in_run}
-use Rattle.typing.specs.declared.Verdict.TheVariants.{Accepted}
+use Rattle.std.specs.declared.result.Result.TheVariants.{Ok}
 use Rattle.typing.specs.Check.{check_of}
 use Rattle.machine.specs.Config.{Config, code_of}
 use Rattle.machine.specs.Machine.{one_if, limits, can_move}
@@ -24,7 +24,7 @@ module _ (s : List ℕ) (bytes : (i : ℕ) → get_or s i 0 < 256) where
   bytes_same : (b : List ℕ) → KeepsBytes b b
   bytes_same b = record { long = refl; small = λ h. h }
 
-  holds_bytes : (t : ℕ) → check_of s ≡ Accepted t → {b e : List ℕ} {c : Config} → length b ≡ BLOCK → Holds s t e c → KeepsBytes b e
+  holds_bytes : (t : ℕ) → check_of s ≡ Ok t → {b e : List ℕ} {c : Config} → length b ≡ BLOCK → Holds s t e c → KeepsBytes b e
   holds_bytes t acc l h = record { long = holds_long s bytes t acc h ∙ sym l; small = λ k. holds_small s bytes t acc h }
 
   flags_small : (c : Config) (x : ℕ) → x ∈ flags_of s c → x < 256

@@ -13,8 +13,8 @@ use Rattle.script.specs.Lists.{run}
 use Rattle.script.specs.Syntax.{Point}
 use Rattle.script.specs.declared.Section.TheVariants.{Nodes as nodes}
 use Rattle.script.specs.Section.{count_of}
-use Rattle.typing.specs.declared.Verdict.{Verdict}
-use Rattle.typing.specs.declared.Verdict.TheVariants.{Accepted, Refused}
+use Rattle.std.specs.declared.result.Result.TheVariants.{Ok, Err}
+use Rattle.typing.specs.Answers.{Verdict}
 use Rattle.typing.specs.Check.{check_of}
 use Rattle.machine.specs.declared.Store.TheVariants.{Frames}
 use Rattle.machine.specs.declared.Stop.TheVariants.{Full}
@@ -39,13 +39,13 @@ use Rattle.calls.proofs.Replies.{run_reply, run_holds}
 
 -- Silent, on all inputs.
 silent_from_lem : (s : List ℕ) (n : ℕ) (v : Verdict) → check_of s ≡ v → SilentAnswers s n (silent_told s n v)
-silent_from_lem s n (Refused q place) e = silent_refused e
-silent_from_lem s n (Accepted t) e = go (dec_lt n (count_of s nodes))
+silent_from_lem s n (Err _) e = silent_refused e
+silent_from_lem s n (Ok t) e = go (dec_lt n (count_of s nodes))
   where
     Counts : ℕ → Type 0
     Counts k = SilentAnswers s n (record { number = 0; place = 0; count = k })
 
-    go : Dec (n < count_of s nodes) → SilentAnswers s n (silent_told s n (Accepted t))
+    go : Dec (n < count_of s nodes) → SilentAnswers s n (silent_told s n (Ok t))
     go (yes h) = subst Counts (sym (node_count_lem (code_of s) n h)) (silent_counted e h)
     go (no h) = subst Counts (sym (no_count (code_of s) n (omega arith))) (silent_none e (omega arith))
 
@@ -53,7 +53,7 @@ pub silent_answers : (s : List ℕ) (n : ℕ) → SilentAnswers s n (silent_of s
 unfolding silent_of
 silent_answers s n = silent_from_lem s n (check_of s) refl
 
-module _ (s : List ℕ) (bytes : (i : ℕ) → get_or s i 0 < 256) {t : ℕ} (acc : check_of s ≡ Accepted t) where
+module _ (s : List ℕ) (bytes : (i : ℕ) → get_or s i 0 < 256) {t : ℕ} (acc : check_of s ≡ Ok t) where
   count_is_lem : (n : ℕ) → (silent_of s n).count ≡ silent_from (code_of s) n
   unfolding silent_of
   count_is_lem n = rw acc refl

@@ -14,7 +14,7 @@ use Rattle.limits.specs.Limits.{BLOCK, CHOICES, FLAGS}
 use Rattle.script.specs.Lists.{◌∈◌, run}
 use Rattle.script.proofs.Lists.{zeros as zero-at}
 use Rattle.script.proofs.Tests.{true_false, yes_said, no_said}
-use Rattle.typing.specs.declared.Verdict.TheVariants.{Accepted}
+use Rattle.std.specs.declared.result.Result.TheVariants.{Ok}
 use Rattle.typing.specs.Check.{check_of}
 use Rattle.machine.specs.Config.{Config}
 use Rattle.machine.specs.Machine.{initial}
@@ -74,7 +74,7 @@ zeros_bindings : (s : List ℕ) (n : ℕ) → BindingsAre s (zeros n)
 unfolding config_in rows_in run
 zeros_bindings s n = record { area = zeros_area n Bindings; vars = rw (zeros_word n 2) no_bindings }
 
-module _ (s : List ℕ) (small : (i : ℕ) → get_or s i 0 < 256) (t : ℕ) (acc : check_of s ≡ Accepted t) where
+module _ (s : List ℕ) (small : (i : ℕ) → get_or s i 0 < 256) (t : ℕ) (acc : check_of s ≡ Ok t) where
   -- a number of a block, from the three calls
   module _ (b : List ℕ) (long : length b ≡ BLOCK) where
     part_refused : (n : ℕ) → parts_asked s t b ≡ no_at n 0 → LentRefused s (damaged_case b n)

@@ -8,7 +8,7 @@ use mathlib.Core.Option.{Option}
 use lib.ListN.{length, get_or, take}
 use lib.Seq.{length-take-le, take-length}
 use Rattle.limits.specs.Limits.{CHOICES}
-use Rattle.typing.specs.declared.Verdict.TheVariants.{Accepted}
+use Rattle.std.specs.declared.result.Result.TheVariants.{Ok}
 use Rattle.typing.specs.Check.{check_of}
 use Rattle.machine.specs.declared.Store.{Store}
 use Rattle.machine.specs.declared.Store.TheVariants.{Objects, Bindings, Frames, Threads}
@@ -43,7 +43,7 @@ says (at_end {k = Failed} e n) = says_failed n e
 says (at_end {k = Deadlocked} e n) = says_deadlocked n e
 says (no_places {k = k} n e) = says_full (store_numbers k).0 (store_numbers k).1 (record { position = n; can = λ i. let z : ◌≡◌ {A = ℕ} 0 1 = cc in omega arith })
 
-module _ (s : List ℕ) (bytes : (i : ℕ) → get_or s i 0 < 256) (t : ℕ) (acc : check_of s ≡ Accepted t) where
+module _ (s : List ℕ) (bytes : (i : ℕ) → get_or s i 0 < 256) (t : ℕ) (acc : check_of s ≡ Ok t) where
   -- A Run reads none of too many choices, so there is one point between its moves, the block itself.
   few_read : {b : List ℕ} {c : Config} → Holds s t b c → (ns : List ℕ) (n : ℕ) → n ≤ (run_of s b ns).read → length (take n ns) ≤ CHOICES
   few_read {b} {c} h ns n l = go (dec_le (length ns) CHOICES)

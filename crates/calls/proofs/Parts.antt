@@ -5,7 +5,7 @@ use Prim.Native.Nat.{ℕ}
 use native.Mathlib.Omega.{arith}
 use lib.ListN.{length, length-map, length-reverse}
 use Rattle.limits.specs.Limits.{BLOCK}
-use Rattle.typing.specs.declared.Verdict.TheVariants.{Accepted}
+use Rattle.std.specs.declared.result.Result.TheVariants.{Ok}
 use Rattle.typing.specs.Check.{check_of}
 use Rattle.typing.proofs.Exact.{outside_refused}
 use Rattle.machine.specs.Config.{Config}
@@ -33,7 +33,7 @@ few_within c few =
       threads = omega (arith, few Positions, length-map (preorder c.tree) position_words, positions_threads c.tree);
     }
 
-module _ {s : List ℕ} {t : ℕ} (acc : check_of s ≡ Accepted t) {b : List ℕ} where
+module _ {s : List ℕ} {t : ℕ} (acc : check_of s ≡ Ok t) {b : List ℕ} where
   -- what a block holds is what is read from it
   pub holds_parts : length b ≡ BLOCK → {c : Config} → Holds s t b c → ObjectsAre s b × BindingsAre s b × ThreadsAre s t b
   holds_parts long {c} h =

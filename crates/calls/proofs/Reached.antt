@@ -7,7 +7,7 @@ use Prim.Native.Nat.{ℕ, suc, ◌<◌, ◌≤◌}
 use native.Mathlib.Omega.{arith}
 use lib.ListN.{length, get_or, length-append}
 use Rattle.limits.specs.Limits.{CHOICES}
-use Rattle.typing.specs.declared.Verdict.TheVariants.{Accepted}
+use Rattle.std.specs.declared.result.Result.TheVariants.{Ok}
 use Rattle.typing.specs.Check.{check_of}
 use Rattle.machine.specs.declared.Store.{Store}
 use Rattle.machine.specs.declared.Stop.TheVariants.{Full}
@@ -23,7 +23,7 @@ use Rattle.calls.specs.Answers.{Holds, ReachedBy}
 use Rattle.calls.proofs.Answers.{accepts}
 use Rattle.calls.proofs.Replies.{run_reply, run_holds}
 
-module _ (s : List ℕ) (bytes : (i : ℕ) → get_or s i 0 < 256) (t : ℕ) (acc : check_of s ≡ Accepted t) where
+module _ (s : List ℕ) (bytes : (i : ℕ) → get_or s i 0 < 256) (t : ℕ) (acc : check_of s ≡ Ok t) where
   reached_by : {b : List ℕ} {c : Config} {q : Reading} {p : Path} → Holds s t b c → OneRun (code_of s) limits c q p → ReachedBy s t b c q p
   reached_by {b} {c} {q} {p} h r =
       let ns = r.silent ++ (r.last ∷ []) in

@@ -9,7 +9,7 @@ use Rattle.limits.specs.Limits.{BLOCK, CHOICES, FLAGS}
 use Rattle.script.specs.Lists.{◌∈◌}
 use Rattle.script.proofs.Lists.{get_d_run}
 use Rattle.script.proofs.Tests.{yes_said}
-use Rattle.typing.specs.declared.Verdict.TheVariants.{Accepted}
+use Rattle.std.specs.declared.result.Result.TheVariants.{Ok}
 use Rattle.typing.specs.Check.{check_of}
 use Rattle.machine.specs.Config.{Config, code_of}
 use Rattle.machine.specs.Machine.{field_count, one_if, limits, can_move, initial}
@@ -42,7 +42,7 @@ flag_is s c l e n h =
     let z : 0 + n ≡ n = omega arith in
     rw e (rw z at (get_d_run (λ i. one_if (can_move (code_of s) limits c i)) 0 FLAGS n 0 h))
 
-module _ (s : List ℕ) (bytes : (i : ℕ) → get_or s i 0 < 256) (t : ℕ) (acc : check_of s ≡ Accepted t) where
+module _ (s : List ℕ) (bytes : (i : ℕ) → get_or s i 0 < 256) (t : ℕ) (acc : check_of s ≡ Ok t) where
   pub holds_long : {b : List ℕ} {c : Config} → Holds s t b c → length b ≡ BLOCK
   holds_long {b} {c} h = ap (λ (l : List ℕ). length l) h.is ∙ encode_length c
 

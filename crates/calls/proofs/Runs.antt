@@ -10,7 +10,7 @@ use Rattle.limits.specs.Limits.{CHOICES, FLAGS}
 use Rattle.script.specs.declared.Question.{Question}
 use Rattle.script.specs.declared.Question.TheVariants.{Length, Counts, Places, Interfaces, Owners, Types, Nodes, Names, Joins, Classes, Variables, Nulls, Members, Fits, Sharing}
 use Rattle.script.specs.Asking.{number_of}
-use Rattle.typing.specs.declared.Verdict.TheVariants.{Accepted}
+use Rattle.std.specs.declared.result.Result.TheVariants.{Ok}
 use Rattle.typing.specs.Check.{check_of}
 use Rattle.machine.specs.declared.Store.{Store}
 use Rattle.machine.specs.declared.Ending.{Ending}
@@ -59,7 +59,7 @@ refusal_numbered (by_threads x y z u v w) e = omega arith
 
 record Opened (s b : List ℕ) (Fine : Type 0) : Type 0 where
   pub type : ℕ
-  pub accepted : check_of s ≡ Accepted type
+  pub accepted : check_of s ≡ Ok type
   pub fine : Fine
   pub config : Config
   pub holds : Holds s type b config

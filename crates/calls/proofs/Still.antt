@@ -6,7 +6,7 @@ use Prim.Native.Nat.{ℕ, ◌-◌, ◌<◌}
 use native.Mathlib.Omega.{arith}
 use lib.ListN.{length, get_or}
 use Rattle.limits.specs.Limits.{FLAGS}
-use Rattle.typing.specs.declared.Verdict.TheVariants.{Accepted}
+use Rattle.std.specs.declared.result.Result.TheVariants.{Ok}
 use Rattle.typing.specs.Check.{check_of}
 use Rattle.machine.specs.declared.Ending.{Ending}
 use Rattle.machine.specs.Stops.{ending_number}
@@ -25,7 +25,7 @@ unable (full k) e = absurd (let z : ◌≡◌ {A = ℕ} 0 1 = cc in omega arith)
 unable (moved st t) e = absurd (let z : ◌≡◌ {A = ℕ} 0 1 = cc in omega arith)
 
 module _ (s : List ℕ) (bytes : (i : ℕ) → get_or s i 0 < 256) where
-  flags_are : (t : ℕ) → check_of s ≡ Accepted t → {b : List ℕ} {c : Config} → Holds s t b c → (fl : List ℕ) → length fl ≡ FLAGS → (n : ℕ) → n < FLAGS
+  flags_are : (t : ℕ) → check_of s ≡ Ok t → {b : List ℕ} {c : Config} → Holds s t b c → (fl : List ℕ) → length fl ≡ FLAGS → (n : ℕ) → n < FLAGS
       → get_or (offer_of s b fl).flags n 0 ≡ one_if (can_move (code_of s) limits c n)
   flags_are t acc {b} {c} h fl l n k = flag_is s c (offer_of s b fl).flags (rw (offer_reply s bytes t acc h fl l) refl) n k
 

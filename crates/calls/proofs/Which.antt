@@ -5,7 +5,7 @@ use Prim.Native.Nat.{ℕ, ◌<◌, ◌≤◌}
 use native.Mathlib.Omega.{arith}
 use lib.ListN.{length, get_or}
 use Rattle.limits.specs.Limits.{BLOCK, CHOICES, FLAGS}
-use Rattle.typing.specs.declared.Verdict.TheVariants.{Accepted}
+use Rattle.std.specs.declared.result.Result.TheVariants.{Ok}
 use Rattle.typing.specs.Check.{check_of}
 use Rattle.machine.specs.Config.{Config}
 use Rattle.parts.specs.Parts.{ObjectsAre, BindingsAre, ThreadsAre}
@@ -14,10 +14,10 @@ use Rattle.calls.specs.Answers.{Holds, FirstNoTo, by_script, by_length, by_buffe
 use Rattle.calls.proofs.Parts.{holds_parts, parts_stand}
 use Rattle.calls.proofs.Answers.{offer_answers, run_answers}
 
-one_type : (s : List ℕ) {t u : ℕ} → check_of s ≡ Accepted t → check_of s ≡ Accepted u → u ≡ t
+one_type : (s : List ℕ) {t u : ℕ} → check_of s ≡ Ok t → check_of s ≡ Ok u → u ≡ t
 one_type s e k = cc
 
-module _ {s : List ℕ} {t : ℕ} (acc : check_of s ≡ Accepted t) {b : List ℕ} (long : length b ≡ BLOCK) where
+module _ {s : List ℕ} {t : ℕ} (acc : check_of s ≡ Ok t) {b : List ℕ} (long : length b ≡ BLOCK) where
   -- the four cases exclude each other
   objects_bad : (ObjectsAre s b → ⊥) → WhichPart s t b 21
   objects_bad n =
@@ -72,7 +72,7 @@ module _ {s : List ℕ} {t : ℕ} (acc : check_of s ≡ Accepted t) {b : List �
   run_which l (run_refused x) = first_no_lem (λ n. omega (arith, n, l)) x
   run_which l (has_run e f h) = none_bad (rw (one_type s acc e) at h)
 
-module _ (s : List ℕ) (bytes : (i : ℕ) → get_or s i 0 < 256) {t : ℕ} (acc : check_of s ≡ Accepted t) (b : List ℕ) where
+module _ (s : List ℕ) (bytes : (i : ℕ) → get_or s i 0 < 256) {t : ℕ} (acc : check_of s ≡ Ok t) (b : List ℕ) where
   pub which_part_offer : (fl : List ℕ) → length b ≡ BLOCK → length fl ≡ FLAGS → WhichPart s t b (offer_of s b fl).number
   which_part_offer fl long l = offer_which acc long l (offer_answers s bytes b fl)
 

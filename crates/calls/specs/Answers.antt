@@ -8,7 +8,8 @@ use Rattle.script.specs.Asking.{number_of}
 use Rattle.script.specs.declared.Section.TheVariants.{Nodes as nodes}
 use Rattle.script.specs.Section.{count_of}
 use Rattle.script.specs.Reading.{expr_at}
-use Rattle.typing.specs.declared.Verdict.TheVariants.{Accepted, Refused}
+use Rattle.std.specs.declared.result.Result.TheVariants.{Ok}
+use Rattle.typing.specs.Answers.{refusal}
 use Rattle.typing.specs.Check.{check_of}
 use Rattle.machine.specs.declared.Store.{Store}
 use Rattle.machine.specs.declared.Store.TheVariants.{Frames}
@@ -46,15 +47,15 @@ found (some c) = true
 
 -- Check has a no, with document 01's number of the question, the place, type 0 and count 0; or the start's type and the largest count.
 pub data CheckAnswers (s : List ℕ) : Checked → Type 0 where
-  check_refused : {q : Question} {place : ℕ} → check_of s ≡ Refused q place
+  check_refused : {q : Question} {place : ℕ} → check_of s ≡ refusal q place
       → CheckAnswers s (record { number = number_of q; place = place; type = 0; silent = 0 })
-  checked : {t : ℕ} → check_of s ≡ Accepted t → CheckAnswers s (record { number = 0; place = 0; type = t; silent = most_silent (code_of s) })
+  checked : {t : ℕ} → check_of s ≡ Ok t → CheckAnswers s (record { number = 0; place = 0; type = t; silent = most_silent (code_of s) })
 
 -- Silent has Check's no, with count 0; or the count of the node with this number, "the answer is 0 where no such node is".
 pub data SilentAnswers (s : List ℕ) (n : ℕ) : SilentTold → Type 0 where
-  silent_refused : {q : Question} {place : ℕ} → check_of s ≡ Refused q place → SilentAnswers s n (record { number = number_of q; place = place; count = 0 })
-  silent_counted : {t : ℕ} → check_of s ≡ Accepted t → n < count_of s nodes → SilentAnswers s n (record { number = 0; place = 0; count = chain (expr_at s n) })
-  silent_none : {t : ℕ} → check_of s ≡ Accepted t → count_of s nodes ≤ n → SilentAnswers s n (record { number = 0; place = 0; count = 0 })
+  silent_refused : {q : Question} {place : ℕ} → check_of s ≡ refusal q place → SilentAnswers s n (record { number = number_of q; place = place; count = 0 })
+  silent_counted : {t : ℕ} → check_of s ≡ Ok t → n < count_of s nodes → SilentAnswers s n (record { number = 0; place = 0; count = chain (expr_at s n) })
+  silent_none : {t : ℕ} → check_of s ≡ Ok t → count_of s nodes ≤ n → SilentAnswers s n (record { number = 0; place = 0; count = 0 })
 
 -- "the largest such count over all nodes of the script": no count of Silent's is above m, and that of a node is m; and since "A thread makes at most 1,024
 -- silent moves in a row", neither is m above that.
@@ -67,13 +68,13 @@ pub record LargestCount (s : List ℕ) (m : ℕ) : Type 0 where
 
 -- The first no of each call, in order, and its number and place. `Fine` says what is asked of the other buffer, `Off` that it gets a no.
 pub data FirstNoTo (s b : List ℕ) (Fine Off : Type 0) : ℕ → ℕ → Type 0 where
-  by_script : {q : Question} {place : ℕ} → check_of s ≡ Refused q place → FirstNoTo s b Fine Off (number_of q) place
-  by_length : {t : ℕ} → check_of s ≡ Accepted t → (length b ≡ BLOCK → ⊥) → FirstNoTo s b Fine Off (lent_number BlockLength) 0
-  by_buffer : {t : ℕ} → check_of s ≡ Accepted t → length b ≡ BLOCK → Off → FirstNoTo s b Fine Off (lent_number BufferLength) 0
-  by_objects : {t : ℕ} → check_of s ≡ Accepted t → length b ≡ BLOCK → Fine → (ObjectsAre s b → ⊥) → FirstNoTo s b Fine Off (lent_number BlockObjects) 0
-  by_bindings : {t : ℕ} → check_of s ≡ Accepted t → length b ≡ BLOCK → Fine → ObjectsAre s b → (BindingsAre s b → ⊥)
+  by_script : {q : Question} {place : ℕ} → check_of s ≡ refusal q place → FirstNoTo s b Fine Off (number_of q) place
+  by_length : {t : ℕ} → check_of s ≡ Ok t → (length b ≡ BLOCK → ⊥) → FirstNoTo s b Fine Off (lent_number BlockLength) 0
+  by_buffer : {t : ℕ} → check_of s ≡ Ok t → length b ≡ BLOCK → Off → FirstNoTo s b Fine Off (lent_number BufferLength) 0
+  by_objects : {t : ℕ} → check_of s ≡ Ok t → length b ≡ BLOCK → Fine → (ObjectsAre s b → ⊥) → FirstNoTo s b Fine Off (lent_number BlockObjects) 0
+  by_bindings : {t : ℕ} → check_of s ≡ Ok t → length b ≡ BLOCK → Fine → ObjectsAre s b → (BindingsAre s b → ⊥)
       → FirstNoTo s b Fine Off (lent_number BlockBindings) 0
-  by_threads : {t : ℕ} → check_of s ≡ Accepted t → length b ≡ BLOCK → Fine → ObjectsAre s b → BindingsAre s b → (ThreadsAre s t b → ⊥)
+  by_threads : {t : ℕ} → check_of s ≡ Ok t → length b ≡ BLOCK → Fine → ObjectsAre s b → BindingsAre s b → (ThreadsAre s t b → ⊥)
       → FirstNoTo s b Fine Off (lent_number BlockThreads) 0
 
 -- "A block was refused before exactly when it is refused after": the three parts together are the question 21 that was.
@@ -90,23 +91,23 @@ pub record WhichPart (s : List ℕ) (t : ℕ) (b : List ℕ) (n : ℕ) : Type 0 
 -- Start asks of the block's length only.
 pub data StartAnswers (s b : List ℕ) : Started → Type 0 where
   start_refused : {n place : ℕ} → FirstNoTo s b ⊥ ⊥ n place → StartAnswers s b (record { number = n; place = place; block = b })
-  started : {t : ℕ} → check_of s ≡ Accepted t → length b ≡ BLOCK → StartAnswers s b (record { number = 0; place = 0; block = encode initial })
+  started : {t : ℕ} → check_of s ≡ Ok t → length b ≡ BLOCK → StartAnswers s b (record { number = 0; place = 0; block = encode initial })
 
 pub data OfferAnswers (s b fl : List ℕ) : Offered → Type 0 where
   offer_refused : {n place : ℕ} → FirstNoTo s b (length fl ≡ FLAGS) (length fl ≡ FLAGS → ⊥) n place
       → OfferAnswers s b fl (record { number = n; place = place; block = b; flags = fl })
-  offered : {t : ℕ} {c : Config} → check_of s ≡ Accepted t → length fl ≡ FLAGS → Holds s t b c
+  offered : {t : ℕ} {c : Config} → check_of s ≡ Ok t → length fl ≡ FLAGS → Holds s t b c
       → OfferAnswers s b fl (record { number = 0; place = 0; block = b; flags = flags_of s c })
 
 pub data RunAnswers (s b ns : List ℕ) : Ran → Type 0 where
   run_refused : {n place : ℕ} → FirstNoTo s b (length ns ≤ CHOICES) (CHOICES < length ns) n place
       → RunAnswers s b ns (record { number = n; place = place; stop = 0; read = 0; moves = 0; block = b })
-  has_run : {t : ℕ} {c : Config} → check_of s ≡ Accepted t → length ns ≤ CHOICES → Holds s t b c → RunAnswers s b ns (ran (report (code_of s) limits c ns))
+  has_run : {t : ℕ} {c : Config} → check_of s ≡ Ok t → length ns ≤ CHOICES → Holds s t b c → RunAnswers s b ns (ran (report (code_of s) limits c ns))
 
 -- A Run that is not refused: what it had, what each choice did, what it leaves and why it stopped.
 pub record NotRefused (s b ns : List ℕ) : Type 0 where
   pub type : ℕ
-  pub accepted : check_of s ≡ Accepted type
+  pub accepted : check_of s ≡ Ok type
   pub few : length ns ≤ CHOICES
   pub before : Config
   pub had : Holds s type b before
@@ -126,7 +127,7 @@ pub record NotRefused (s b ns : List ℕ) : Type 0 where
 -- position that its choice names, from the configuration that the block held to the one that it holds afterwards.
 pub record TraceOf (s b ns : List ℕ) : Type 0 where
   pub type : ℕ
-  pub accepted : check_of s ≡ Accepted type
+  pub accepted : check_of s ≡ Ok type
   pub before : Config
   pub after : Config
   pub had : Holds s type b before

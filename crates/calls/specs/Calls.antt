@@ -5,8 +5,8 @@ use Rattle.std.proofs.Math.Option.{Option, none, some}
 use Rattle.limits.specs.Limits.{BLOCK, CHOICES, FLAGS}
 use Rattle.script.specs.Lists.{run}
 use Rattle.script.specs.Asking.{number_of}
-use Rattle.typing.specs.declared.Verdict.{Verdict}
-use Rattle.typing.specs.declared.Verdict.TheVariants.{Accepted, Refused}
+use Rattle.std.specs.declared.result.Result.TheVariants.{Ok, Err}
+use Rattle.typing.specs.Answers.{Verdict, refusal}
 use Rattle.typing.specs.Check.{check_of, verdict_number, verdict_place, verdict_type}
 use Rattle.machine.specs.Stops.{stop_number}
 use Rattle.machine.specs.Config.{Config, code_of}
@@ -27,8 +27,8 @@ pub data Questioned : Type 0 where
 
 -- "Start through these and 20, Offer and Run through all": first questions 1 to 15, with Check's number and place.
 abbrev pub ask_script : Verdict → (ℕ → Questioned) → Questioned
-ask_script (Accepted t) next = next t
-ask_script (Refused q place) next = no_at (number_of q) place
+ask_script (Ok t) next = next t
+ask_script (Err r) next = no_at (number_of r.question) r.place
 
 -- "Is the state block 49,152 bytes? 20" ("The block grows to 65,536 bytes, so question 20 asks that"), "Is the choice list at most 4,096 bytes (Run), or the
 -- flag buffer exactly 63 (Offer)? 22", "Is the block a well-formed configuration of this script? 21", but "21 now means objects; 26 bindings, after 21; 27
@@ -114,8 +114,8 @@ pub record Ran : Type 0 where
 
 -- "Check reports the largest such count over all nodes of the script"
 abbrev pub verdict_silent : List ℕ → Verdict → ℕ
-verdict_silent s (Accepted t) = most_silent (code_of s)
-verdict_silent s (Refused q place) = 0
+verdict_silent s (Ok t) = most_silent (code_of s)
+verdict_silent s (Err _) = 0
 
 -- "Check answers the start's type."
 abbrev pub checked_from : List ℕ → Verdict → Checked
@@ -127,8 +127,8 @@ checked_of s = checked_from s (check_of s)
 -- "For a thread at a node, given by number (the answer is 0 where no such node is), the engine, after questions 1 to 15, reports the exact number of silent
 -- moves"
 abbrev pub silent_told : List ℕ → ℕ → Verdict → SilentTold
-silent_told s n (Accepted t) = record { number = 0; place = 0; count = silent_from (code_of s) n }
-silent_told s n (Refused q place) = record { number = number_of q; place = place; count = 0 }
+silent_told s n (Ok t) = record { number = 0; place = 0; count = silent_from (code_of s) n }
+silent_told s n (Err r) = record { number = number_of r.question; place = r.place; count = 0 }
 
 unfoldable pub silent_of : List ℕ → ℕ → SilentTold
 silent_of s n = silent_told s n (check_of s)

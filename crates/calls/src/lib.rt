@@ -6,9 +6,9 @@
 // asked.
 #[derive(Clone, Copy)]
 pub enum LentQuestion {
-    BlockLength,
-    BufferLength,
-    BlockObjects,
-    BlockBindings,
-    BlockThreads,
+    BlockLength = 20,
+    BufferLength = 22,
+    BlockObjects = 21,
+    BlockBindings = 26,
+    BlockThreads = 27,
 }

@@ -9,40 +9,28 @@ ghost use Rattle.parts.specs.Parts.{ThreadsOk};
 
 use block::{Area, Layout, most_of};
 use in_order::{blank, records_in_order, zeros};
+use limits::Limits;
 use one_tree::{frames_add_up, one_tree};
 
+// The bytes and that they are within layout, and no Script: that would ask callers for its runs as well, of which nothing here is read.
 // Has an area at most as many records as places, each in order, and 0 in the other places?
-pub fn area_in_order(s: &[u8], block: &[u8], a: Area) -> bool
-    requires { WithinLayout s.now × (length block.now ≡ BLOCK) }
+pub fn area_in_order(s: &[u8], block: &[u8; Limits::BLOCK], a: Area) -> bool
+    requires { WithinLayout s.now }
     ensures { Decides (AreaOk (field_count s.now) block.now a) result }
 {
     let n = areas::count(block, a);
     let all = most_of(a);
-    if all < n {
-        return false;
-    }
-    if !records_in_order(s, block, a) {
-        return false;
-    }
-    blank(block, a)
+    n <= all && records_in_order(s, block, a) && blank(block, a)
 }
 
 // Are positions and frames in order, form the positions one tree with as many frames as are counted, and is all after the areas 0?
-pub fn threads_in_order(s: &[u8], block: &[u8]) -> bool
-    requires { WithinLayout s.now × (length block.now ≡ BLOCK) }
+pub fn threads_in_order(s: &[u8], block: &[u8; Limits::BLOCK]) -> bool
+    requires { WithinLayout s.now }
     ensures { Decides (ThreadsOk (field_count s.now) block.now) result }
 {
-    if !area_in_order(s, block, Area::Positions) {
-        return false;
-    }
-    if !area_in_order(s, block, Area::Frames) {
-        return false;
-    }
-    if !one_tree(block) {
-        return false;
-    }
-    if !frames_add_up(block) {
-        return false;
-    }
-    zeros(block, Layout::END, Layout::WORDS)
+    area_in_order(s, block, Area::Positions)
+        && area_in_order(s, block, Area::Frames)
+        && one_tree(block)
+        && frames_add_up(block)
+        && zeros(block, Layout::END, Layout::WORDS)
 }

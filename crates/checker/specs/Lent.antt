@@ -1,8 +1,8 @@
 -- The tables that a call lends to Check, and that it fills.
 use Rattle.std.specs.Prelude.{ℕ, ◌≡◌, List, length}
 use Rattle.slices.specs.Zero.{AllZero}
-use Rattle.typing.specs.declared.Verdict.{Verdict}
-use Rattle.typing.specs.declared.Verdict.TheVariants.{Accepted, Refused}
+use Rattle.std.specs.declared.result.Result.TheVariants.{Ok, Err}
+use Rattle.typing.specs.Answers.{Verdict}
 use Rattle.subtypes.specs.Tables.{STARTS, Starts}
 use Rattle.names.specs.Ranks.{FACTS}
 use Rattle.names.specs.Facts.{Facts}
@@ -20,5 +20,5 @@ pub record TablesLent (starts facts : List ℕ) : Type 0 where
 
 -- The tables after Check: those of an accepted script are filled.
 abbrev pub TablesFilled : List ℕ → List ℕ → List ℕ → Verdict → Type 0
-TablesFilled s starts facts (Accepted t) = Starts s starts × Facts s facts
-TablesFilled s starts facts (Refused q place) = Unit {0}
+TablesFilled s starts facts (Ok t) = Starts s starts × Facts s facts
+TablesFilled s starts facts (Err _) = Unit {0}

@@ -1,108 +1,105 @@
 // Check: questions 1 to 15, in order.
 ghost use Rattle.std.specs.Prelude.{◌≡◌};
-ghost use Rattle.sections.specs.Laid.{Laid};
+ghost use Rattle.script.specs.Asking.{at_zero};
 ghost use Rattle.script.specs.Statements.{WithinLayout};
+ghost use Rattle.sections.specs.Laid.{Laid, passed_of};
 ghost use Rattle.typing.specs.Check.{check_of, walked};
-ghost use Rattle.subtypes.specs.Tables.{Starts};
 ghost use Rattle.names.specs.Facts.{Facts};
-ghost use Rattle.checker.specs.Stages.{NodeThere, walk_stage, member_stage, record_stage};
+ghost use Rattle.checker.specs.Stages.{asked, NodeThere, walk_stage, member_stage, record_stage};
 ghost use Rattle.checker.specs.Lent.{FactsLent, TablesLent, TablesFilled};
 
 use inference::walk_script;
-use interfaces::{classes_no, joins_no};
-use members::fill_starts;
+use interfaces::{check_classes, check_joins};
+use members::{Code, fill_starts};
 use names::{RANKS, fill_ranks};
-use script::{Found, Question, Section};
+use records::{check_interfaces, check_names, check_nodes, check_types};
+use script::{Question, Refusal, Section};
+use sections::File;
 use sharing::fill_forks;
-use typing::{Answer, Verdict};
+use subtypes::Script;
+use typing::Fault;
+
+// The question gets a no at the place where it did not pass.
+fn ask(question: Question, passed: Result<(), u16>) -> Result<(), Refusal>
+    ensures { result ≡ asked question passed }
+{
+    match passed {
+        Ok(()) => Ok(()),
+        Err(place) => Err(Refusal { question, place }),
+    }
+}
+
+// "0 for questions 1 to 3, 5"
+fn at_zero(yes: bool) -> Result<(), u16>
+    ensures { result ≡ passed_of (at_zero yes) }
+{
+    if yes { Ok(()) } else { Err(0) }
+}
 
 // The walk's answer, with the node's record as the place.
-fn placed(s: &[u8], a: Answer) -> Verdict
-    requires { Laid s.now × NodeThere s.now a }
-    ensures { result ≡ walked s.now a }
+fn placed(file: &File, answer: Result<u16, Fault>) -> Result<u16, Refusal>
+    requires { NodeThere file.now.bytes.now answer }
+    ensures { result ≡ walked file.now.bytes.now answer }
 {
-    match a {
-        Answer::Typed(t) => Verdict::Accepted(t),
-        Answer::Faulty(q, n) => {
-            let place = sections::record_at(s, Section::Nodes, n as usize);
-            Verdict::Refused(q, place as u16)
-        }
+    match answer {
+        Ok(t) => Ok(t),
+        Err(fault) => Err(Refusal {
+            question: fault.question,
+            place: file.record_at(Section::Nodes, fault.node as usize) as u16,
+        }),
     }
 }
 
 // 11 to 15, after which the table of facts is filled.
-fn walk_verdict(s: &[u8], starts: &[u16], facts: &mut [u16]) -> Verdict
-    requires { WithinLayout s.now × Starts s.now starts.now × FactsLent facts.old }
-    ensures value { result ≡ walk_stage s.now }
-    ensures facts { Facts s.now facts.new }
+fn walk_verdict(script: Script, facts: &mut [u16]) -> Result<u16, Refusal>
+    requires { FactsLent facts.old }
+    ensures value { result ≡ walk_stage script.entry.bytes.now }
+    ensures facts { Facts script.entry.bytes.now facts.new }
 {
-    let count = fill_ranks(s, facts);
-    fill_forks(s, count, facts);
+    let s = script.bytes;
+    let count = fill_ranks(&script, facts);
+    fill_forks(&script, count, facts);
     let mut env = [0u16; RANKS];
-    let a = walk_script(s, starts, facts, &mut env);
-    placed(s, a)
+    let answer = walk_script(&Code { script, facts }, &mut env);
+    placed(&File { bytes: s }, answer)
 }
 
+// The bytes become a Script here, as soon as their runs are filled in.
 // 9 to 15.
-fn member_verdict(s: &[u8], starts: &mut [u16], facts: &mut [u16]) -> Verdict
+fn member_verdict(s: &[u8], starts: &mut [u16], facts: &mut [u16]) -> Result<u16, Refusal>
     requires { WithinLayout s.now × TablesLent starts.old facts.old }
     ensures value { result ≡ member_stage s.now }
     ensures tables_filled { TablesFilled s.now starts.new facts.new result }
 {
     fill_starts(s, starts);
-    let joins = joins_no(s, starts);
-    if let Found::At(place) = joins {
-        return Verdict::Refused(Question::Joins, place as u16);
-    }
-    let classes = classes_no(s, starts);
-    if let Found::At(place) = classes {
-        return Verdict::Refused(Question::Classes, place as u16);
-    }
-    walk_verdict(s, starts, facts)
+    let script = Script { bytes: s, starts };
+    ask(Question::Joins, check_joins(&script))?;
+    ask(Question::Classes, check_classes(&script))?;
+    walk_verdict(script, facts)
 }
 
 // 4 to 15.
-fn record_verdict(s: &[u8], starts: &mut [u16], facts: &mut [u16]) -> Verdict
-    requires { Laid s.now × TablesLent starts.old facts.old }
-    ensures value { result ≡ record_stage s.now }
-    ensures tables_filled { TablesFilled s.now starts.new facts.new result }
+fn record_verdict(file: &File, starts: &mut [u16], facts: &mut [u16]) -> Result<u16, Refusal>
+    requires { TablesLent starts.old facts.old }
+    ensures value { result ≡ record_stage file.now.bytes.now }
+    ensures tables_filled { TablesFilled file.now.bytes.now starts.new facts.new result }
 {
-    let interfaces = records::interfaces_no(s);
-    if let Found::At(place) = interfaces {
-        return Verdict::Refused(Question::Interfaces, place as u16);
-    }
-    if !sections::owners_fit(s) {
-        return Verdict::Refused(Question::Owners, 0);
-    }
-    let types = records::types_no(s);
-    if let Found::At(place) = types {
-        return Verdict::Refused(Question::Types, place as u16);
-    }
-    let nodes = records::nodes_no(s);
-    if let Found::At(place) = nodes {
-        return Verdict::Refused(Question::Nodes, place as u16);
-    }
-    let names = records::names_no(s);
-    if let Found::At(place) = names {
-        return Verdict::Refused(Question::Names, place as u16);
-    }
-    member_verdict(s, starts, facts)
+    ask(Question::Interfaces, check_interfaces(file))?;
+    ask(Question::Owners, at_zero(sections::owners_fit(file)))?;
+    ask(Question::Types, check_types(file))?;
+    ask(Question::Nodes, check_nodes(file))?;
+    ask(Question::Names, check_names(file))?;
+    member_verdict(file.bytes, starts, facts)
 }
 
 // Check: 1 to 15. The tables are lent, and are filled for an accepted script.
-pub fn verdict_of(s: &[u8], starts: &mut [u16], facts: &mut [u16]) -> Verdict
+pub fn verdict_of(s: &[u8], starts: &mut [u16], facts: &mut [u16]) -> Result<u16, Refusal>
     requires { TablesLent starts.old facts.old }
     ensures value { result ≡ check_of s.now }
     ensures tables_filled { TablesFilled s.now starts.new facts.new result }
 {
-    if !sections::length_fits(s) {
-        return Verdict::Refused(Question::Length, 0);
-    }
-    if !sections::counts_fit(s) {
-        return Verdict::Refused(Question::Counts, 0);
-    }
-    if !sections::places_fit(s) {
-        return Verdict::Refused(Question::Places, 0);
-    }
-    record_verdict(s, starts, facts)
+    ask(Question::Length, at_zero(sections::length_fits(s)))?;
+    ask(Question::Counts, at_zero(sections::counts_fit(s)))?;
+    ask(Question::Places, at_zero(sections::places_fit(s)))?;
+    record_verdict(&File { bytes: s }, starts, facts)
 }

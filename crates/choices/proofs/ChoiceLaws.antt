@@ -8,12 +8,13 @@ use lib.ListN.{length}
 use Rattle.limits.specs.Limits.{BLOCK, POSITIONS}
 use Rattle.script.specs.declared.Section.TheVariants.{Nodes as nodes}
 use Rattle.script.specs.Section.{count_of}
+use Rattle.script.specs.Statements.{WithinLayout}
 use Rattle.machine.specs.declared.Value.{Value}
 use Rattle.machine.specs.declared.Frame.{Frame}
 use Rattle.machine.specs.declared.Want.{Want}
 use Rattle.machine.specs.Config as machine
 use Rattle.machine.specs.Config.{code_of, Code, running, returning, join, Config}
-use Rattle.machine.specs.Machine.{limits, spare, Outcome, run_node, resume, phase, fold, Path, here, left, right, move_at, move, locate, choice}
+use Rattle.machine.specs.Machine.{limits, spare, Outcome, run_node, resume, phase, fold, Path, here, move_at, move, locate, choice}
 use Rattle.machine.specs.WellFormed.{TreeOk, running_ok}
 use Rattle.block.specs.declared.Area.TheVariants.{Positions}
 use Rattle.block.specs.Layout.{counted}
@@ -95,10 +96,10 @@ pub cell_told : {x y : Entry} {k : Cell} → x ≡ y → x.cell ≡ k → y.cell
 cell_told e h = ap (λ (z : Entry). z.cell) (sym e) ∙ h
 
 -- what the moves of a formed configuration ask
-pub ready_long : {s starts facts table b : List ℕ} → FormedBlock s starts facts table b → length b ≡ BLOCK
+pub ready_long : {s table b : List ℕ} → FormedBlock s table b → length b ≡ BLOCK
 ready_long h = rw h.represents.block (encode_length h.config)
 
-module _ {s starts facts table b : List ℕ} {n : ℕ} (h : FormedBlock s starts facts table b) (l : n < counted b Positions) where
+module _ {s table b : List ℕ} {n : ℕ} (h : FormedBlock s table b) (l : n < counted b Positions) where
   ready_there : ChosenPart b h.config n
   ready_there = chosen_at n h.represents l
 
@@ -111,16 +112,16 @@ module _ {s starts facts table b : List ℕ} {n : ℕ} (h : FormedBlock s starts
   pub ready_sight : SomeState b n
   ready_sight = some_state ready_there.is.seen
 
-  pub ready_running : (a env : ℕ) → (entry_at b n).cell ≡ Running a env → (a < count_of s nodes) × Chain b env × WordBound b env
-  ready_running a env e =
+  pub ready_running : WithinLayout s → (a env : ℕ) → (entry_at b n).cell ≡ Running a env → (a < count_of s nodes) × Chain b env × WordBound b env
+  ready_running within a env e =
       let k = root_told ready_there e in
       go (waiting ready_there.tree) (rw k at ready_part.1)
     where
       go : {w : Want} (fs : List Frame) → TreeOk (code_of s) h.config.stores w (running a env fs) → (a < count_of s nodes) × Chain b env × WordBound b env
       go fs (running_ok x g f) = (
         g.node,
-        seen_chain ready_there.is.seen h.blank.within h.formed.stores.bindings env x,
-        seen_words ready_there.is.seen h.blank.within h.formed.stores.bindings env,
+        seen_chain ready_there.is.seen within h.formed.stores.bindings env x,
+        seen_words ready_there.is.seen within h.formed.stores.bindings env,
       )
 
   pub ready_returning : (v : Value) → (entry_at b n).cell ≡ Returning v → Resumes s b n v

@@ -2,13 +2,17 @@
 use mathlib.Core.Path.{◌≡◌, refl, sym, ap, ◌∙◌}
 use mathlib.Core.Bool.{false}
 use mathlib.Core.List.{List, [], ◌∷◌}
-use Prim.Native.Nat.{ℕ, zero, suc, ◌-◌, ◌<◌, ◌≤◌}
+use Prim.Native.Nat.{ℕ, ◌-◌, ◌<◌, ◌≤◌}
 use native.Mathlib.Omega.{arith}
 use lib.ListN.{length, length-reverse}
 use Rattle.limits.specs.Limits.{BINDINGS}
 use Rattle.script.specs.Syntax.{Point, Slot, n_bind}
-use Rattle.script.specs.Reading.{kind_of, node_of, view_at, expr_at, program_of}
-use Rattle.typing.specs.declared.Answer.TheVariants.{Typed}
+use Rattle.script.specs.declared.Kind.{Kind}
+use Rattle.script.specs.declared.Kind.TheVariants.{Null as null_kind, Variable as var_kind, Select as select_kind, Update as update_kind, Call as call_kind, Let as bind_kind}
+use Rattle.script.specs.declared.Kind.TheVariants.{New as new_kind, Cast as cast_kind, Fork as fork_kind, Lock as lock_kind, Constant as constant_kind}
+use Rattle.script.specs.declared.Kind.TheVariants.{Sum as add_kind, Unknown as unknown_kind}
+use Rattle.script.specs.Reading.{node_of, view_at, expr_at, program_of}
+use Rattle.std.specs.declared.result.Result.TheVariants.{Ok}
 use Rattle.typing.specs.Typing.{inferred}
 use Rattle.machine.specs.declared.Value.{Value}
 use Rattle.machine.specs.declared.Frame.{Frame}
@@ -40,45 +44,40 @@ bindings_room : {b : List ℕ} {c : Config} → Represents b c → length c.stor
 bindings_room {c = c} h = sym (bindings_counted (parts_of c) h.block ∙ length-reverse c.stores.bindings)
 
 -- no other kind of node waits
-other_wake : (s : Code) (room : Places) (st : Stores) (v : Value) (fs : List Frame) (e k x y z : ℕ) → (k ≡ 3 → ⊥) → (k ≡ 4 → ⊥) → (k ≡ 5 → ⊥) → wake s room st v fs e (node_of (kind_of k) x y z) ≡ still
-unfolding kind_of
-other_wake s room st v fs e zero x y z h3 h4 h5 = refl
-other_wake s room st v fs e (suc zero) x y z h3 h4 h5 = refl
-other_wake s room st v fs e (suc (suc zero)) x y z h3 h4 h5 = refl
-other_wake s room st v fs e (suc (suc (suc zero))) x y z h3 h4 h5 = absurd (h3 refl)
-other_wake s room st v fs e (suc (suc (suc (suc zero)))) x y z h3 h4 h5 = absurd (h4 refl)
-other_wake s room st v fs e (suc (suc (suc (suc (suc zero))))) x y z h3 h4 h5 = absurd (h5 refl)
-other_wake s room st v fs e (suc (suc (suc (suc (suc (suc zero)))))) x y z h3 h4 h5 = refl
-other_wake s room st v fs e (suc (suc (suc (suc (suc (suc (suc zero))))))) x y z h3 h4 h5 = refl
-other_wake s room st v fs e (suc (suc (suc (suc (suc (suc (suc (suc zero)))))))) x y z h3 h4 h5 = refl
-other_wake s room st v fs e (suc (suc (suc (suc (suc (suc (suc (suc (suc zero))))))))) x y z h3 h4 h5 = refl
-other_wake s room st v fs e (suc (suc (suc (suc (suc (suc (suc (suc (suc (suc zero)))))))))) x y z h3 h4 h5 = refl
-other_wake s room st v fs e (suc (suc (suc (suc (suc (suc (suc (suc (suc (suc (suc zero))))))))))) x y z h3 h4 h5 = refl
-other_wake s room st v fs e (suc (suc (suc (suc (suc (suc (suc (suc (suc (suc (suc (suc k)))))))))))) x y z h3 h4 h5 = refl
+other_wake : (s : Code) (room : Places) (st : Stores) (v : Value) (fs : List Frame) (e : ℕ) (k : Kind) (x y z : ℕ) → (k ≡ update_kind → ⊥) → (k ≡ call_kind → ⊥) → (k ≡ bind_kind → ⊥) → wake s room st v fs e (node_of k x y z) ≡ still
+other_wake s room st v fs e null_kind x y z h3 h4 h5 = refl
+other_wake s room st v fs e var_kind x y z h3 h4 h5 = refl
+other_wake s room st v fs e select_kind x y z h3 h4 h5 = refl
+other_wake s room st v fs e update_kind x y z h3 h4 h5 = absurd (h3 refl)
+other_wake s room st v fs e call_kind x y z h3 h4 h5 = absurd (h4 refl)
+other_wake s room st v fs e bind_kind x y z h3 h4 h5 = absurd (h5 refl)
+other_wake s room st v fs e new_kind x y z h3 h4 h5 = refl
+other_wake s room st v fs e cast_kind x y z h3 h4 h5 = refl
+other_wake s room st v fs e fork_kind x y z h3 h4 h5 = refl
+other_wake s room st v fs e lock_kind x y z h3 h4 h5 = refl
+other_wake s room st v fs e constant_kind x y z h3 h4 h5 = refl
+other_wake s room st v fs e add_kind x y z h3 h4 h5 = refl
+other_wake s room st v fs e unknown_kind x y z h3 h4 h5 = refl
 
-module _ {b : List ℕ} {i : ℕ} {rest : Rest} {after : List ℕ} {r : Effect} (s : List ℕ) (c : Config) (v : Value) (fs : List Frame) (n env : ℕ) {kind x y z : ℕ} (w : Words s n kind x y z) where
-  pub wakes_write : kind ≡ 3 → Performs b i rest (update_target (code_of s) c.stores fs y v (find (scope c.stores.bindings env) x)) after r
+module _ {b : List ℕ} {i : ℕ} {rest : Rest} {after : List ℕ} {r : Effect} (s : List ℕ) (c : Config) (v : Value) (fs : List Frame) (n env : ℕ) {kind : Kind} {x y z : ℕ} (w : Words s n kind x y z) where
+  pub wakes_write : kind ≡ update_kind → Performs b i rest (update_target (code_of s) c.stores fs y v (find (scope c.stores.bindings env) x)) after r
       → Performs b i rest (wake (code_of s) (spare limits c.stores c.tree) c.stores v fs env (view_at s n)) after r
-  unfolding kind_of
-  wakes_write k came = rw (view_kind w 3 k) came
+  wakes_write k came = rw (view_kind w update_kind k) came
 
-  pub wakes_call : Represents b c → kind ≡ 4 → Performs b i rest (call_target (code_of s) c.stores fs y v (BINDINGS - counted b Bindings) (find (scope c.stores.bindings env) x)) after r
+  pub wakes_call : Represents b c → kind ≡ call_kind → Performs b i rest (call_target (code_of s) c.stores fs y v (BINDINGS - counted b Bindings) (find (scope c.stores.bindings env) x)) after r
       → Performs b i rest (wake (code_of s) (spare limits c.stores c.tree) c.stores v fs env (view_at s n)) after r
-  unfolding kind_of
-  wakes_call h k came = rw (view_kind w 4 k, bindings_room h) came
+  wakes_call h k came = rw (view_kind w call_kind k, bindings_room h) came
 
-  pub wakes_let : Represents b c → kind ≡ 5
+  pub wakes_let : Represents b c → kind ≡ bind_kind
       → Performs b i rest (extend c.stores fs x v z env (inferred (program_of s) (context c.stores.bindings env) (expr_at s y)) (BINDINGS - counted b Bindings)) after r
       → Performs b i rest (wake (code_of s) (spare limits c.stores c.tree) c.stores v fs env (view_at s n)) after r
-  unfolding kind_of
-  wakes_let h k came = rw (view_kind w 5 k, bindings_room h) came
+  wakes_let h k came = rw (view_kind w bind_kind k, bindings_room h) came
 
 -- the view of a let
-pub let_view : {s : List ℕ} {n kind x y z : ℕ} → Words s n kind x y z → kind ≡ 5 → view_at s n ≡ n_bind x y z
-unfolding kind_of
-let_view w k = view_kind w 5 k
+pub let_view : {s : List ℕ} {n : ℕ} {kind : Kind} {x y z : ℕ} → Words s n kind x y z → kind ≡ bind_kind → view_at s n ≡ n_bind x y z
+let_view w k = view_kind w bind_kind k
 
-pub wakes_none : (s : List ℕ) (c : Config) (v : Value) (fs : List Frame) (n env : ℕ) {kind x y z : ℕ} → Words s n kind x y z → (kind ≡ 3 → ⊥) → (kind ≡ 4 → ⊥) → (kind ≡ 5 → ⊥)
+pub wakes_none : (s : List ℕ) (c : Config) (v : Value) (fs : List Frame) (n env : ℕ) {kind : Kind} {x y z : ℕ} → Words s n kind x y z → (kind ≡ update_kind → ⊥) → (kind ≡ call_kind → ⊥) → (kind ≡ bind_kind → ⊥)
     → wake (code_of s) (spare limits c.stores c.tree) c.stores v fs env (view_at s n) ≡ still
 wakes_none s c v fs n env {kind = kind} {x = x} {y = y} {z = z} w h3 h4 h5 =
     rw (view_words w) (other_wake (code_of s) (spare limits c.stores c.tree) c.stores v fs env kind x y z h3 h4 h5)
@@ -140,11 +139,11 @@ awaits_there (casts m) gs (a_cast l k me ok) e = let z : ◌≡◌ {A = ℕ} 1 0
 awaits_there (locks o) gs (a_lock ok) e = let z : ◌≡◌ {A = ℕ} 2 0 = ap frame_number e in absurd (omega arith)
 
 -- the first part of a let that waits has a type
-let_first : {s : Code} {start : ℕ} (acc : AcceptedCode s start) {Γ : List Slot} {x t : ℕ} {a b : Point} {v : Want} → Awaits s Γ (n_bind x a b) t v → inferred s.program Γ (s.expr a) ≡ Typed t
+let_first : {s : Code} {start : ℕ} (acc : AcceptedCode s start) {Γ : List Slot} {x t : ℕ} {a b : Point} {v : Want} → Awaits s Γ (n_bind x a b) t v → inferred s.program Γ (s.expr a) ≡ Ok t
 let_first acc (a_let h k) = infer_computes acc h
 
 awaits_first : {s : Code} {start : ℕ} (acc : AcceptedCode s start) {bs : List Binding} {n env : ℕ} {w u : Want} (g : Frame) (gs : List Frame) → FramesOk s bs w (g ∷ gs) u → g ≡ awaits n env → (x a b : ℕ) → s.view n ≡ n_bind x a b
-    → (t : ℕ) × (inferred s.program (context bs env) (s.expr a) ≡ Typed t)
+    → (t : ℕ) × (inferred s.program (context bs env) (s.expr a) ≡ Ok t)
 unfolding frame_number frame_node frame_env
 awaits_first {s} acc (awaits m d) gs (a_node {t = t} l k aw ok) e x a b v =
     let same : d ≡ _ = ap frame_env e in

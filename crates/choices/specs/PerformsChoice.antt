@@ -2,7 +2,7 @@
 use Rattle.std.specs.Prelude.{◌≡◌, List, ◌∷◌, ℕ}
 use Rattle.script.specs.Syntax.{Point, n_bind}
 use Rattle.script.specs.Reading.{view_at}
-use Rattle.inference.specs.Walk.{EmptyEnv}
+use Rattle.members.specs.Code.{Blank}
 use Rattle.machine.specs.declared.Value.{Value}
 use Rattle.machine.specs.declared.Frame.{Frame}
 use Rattle.machine.specs.declared.Want.{Want}
@@ -25,9 +25,9 @@ pub data PerformsChoice (b : List ℕ) : Outcome → List ℕ → Effect → Typ
   choice_moved : {after : List ℕ} {st : Stores} {t : machine.Tree} → Represents after (record { stores = st; tree = t })
       → PerformsChoice b (moved st t) after Moved
 
--- The tables of an accepted script, and a formed configuration that the block is.
-pub record FormedBlock (s starts facts table b : List ℕ) : Type 0 where
-  pub blank : EmptyEnv s starts facts table
+-- A blank table, an accepted script, and a formed configuration that the block is.
+pub record FormedBlock (s table b : List ℕ) : Type 0 where
+  pub blank : Blank table
   pub config : Config
   pub want : Want
   pub represents : Represents b config

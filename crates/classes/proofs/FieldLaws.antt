@@ -1,5 +1,5 @@
 -- The numbers of fields, and what the code of their look-up answers: a law for each return, with the callees' results as variables.
-use mathlib.Core.Path.{◌≡◌, refl}
+use mathlib.Core.Path.{◌≡◌, refl, sym}
 use mathlib.Core.Bool.{Bool, true, false, cond, not}
 use mathlib.Core.List.{List, [], ◌∷◌}
 use mathlib.Core.Option.{Option, none, some, map}
@@ -8,8 +8,8 @@ use native.Mathlib.Omega.{arith}
 use lib.Dec.{eqb}
 use lib.ListN.{length}
 use Rattle.limits.specs.Limits.{CLASS_FIELDS}
-use Rattle.script.specs.declared.Found.{Found}
-use Rattle.script.specs.declared.Found.TheVariants.{At, Nothing}
+use Rattle.std.specs.declared.option.Option.{Option as CodeOption}
+use Rattle.std.specs.declared.option.Option.TheVariants.{Some, None}
 use Rattle.script.specs.declared.Section.TheVariants.{Fields as fields}
 use Rattle.script.specs.Lists.{run, sum_below}
 use Rattle.script.specs.Section.{record_word}
@@ -21,10 +21,10 @@ use Rattle.sections.specs.Laid.{found_of, other_name}
 use Rattle.script.proofs.Lists.{length_run}
 use Rattle.script.proofs.Declarations.{class_from}
 use Rattle.subtypes.specs.declared.Declared.{Declared}
-use Rattle.subtypes.specs.declared.Declared.TheVariants.{Interface as is_interface, Class as is_class, Neither as is-neither}
-use Rattle.subtypes.specs.Subtypes.{Memberless, DeclaredAs}
+use Rattle.subtypes.specs.declared.Declared.TheVariants.{Class as is_class}
+use Rattle.subtypes.specs.Subtypes.{DeclaredAs}
 use Rattle.members.specs.Lookup.{own_named}
-use Rattle.subtypes.proofs.SubtypeLaws.{type_interface, type_class, type_neither}
+use Rattle.subtypes.proofs.SubtypeLaws.{type_class, but_class}
 use Rattle.members.proofs.LookupLaws.{found_at, found_nothing}
 use Rattle.typing.specs.Members.{fields_from, fields_of}
 use Rattle.classes.specs.Defined.{field_number}
@@ -57,10 +57,10 @@ module _ {s : List ℕ} (w : WithinLayout s) (t : ℕ) where
       go no_type e = omega arith
 
   -- So a place that is found is below 8.
-  pub placed : (f : ℕ) (r : Found) → r ≡ found_of (field_number (fields_of (program_of s) t) f) → (r ≡ found_of (field_number (fields_of (program_of s) t) f)) × ((k : ℕ) → r ≡ At k → k < CLASS_FIELDS)
-  placed f r e =
+  pub placed : (f : ℕ) (r : CodeOption ℕ) → r ≡ found_of (field_number (fields_of (program_of s) t) f) → (k : ℕ) → r ≡ Some k → k < CLASS_FIELDS
+  placed f r e k q =
       let n = field_number (fields_of (program_of s) t) f in
-      (e, λ k q. omega (arith, fields_few, number_below (fields_of (program_of s) t) f k (found_at n r e k q)))
+      omega (arith, fields_few, number_below (fields_of (program_of s) t) f k (found_at n r e k q))
 
 -- A record that a search through the n from i on finds, if it finds one, and its number among them.
 data Numbered (i n : ℕ) : Option ℕ → Option ℕ → Type 0 where
@@ -80,39 +80,30 @@ module _ (s : List ℕ) (f : ℕ) where
 
 -- The place of a field: in a class the number of the first record of its run with the name, and no other type has any.
 module _ {s : List ℕ} {t : ℕ} {d : Declared} (h : DeclaredAs s t d) (f : ℕ) where
-  module _ {c : ℕ} (e : d ≡ is_class c) (found : Found) (o : found ≡ found_of (own_named s fields c f)) where
+  module _ {c : ℕ} (e : d ≡ is_class c) (found : CodeOption ℕ) (o : found ≡ found_of (own_named s fields c f)) where
     class_numbered : {x : Option ℕ} → own_named s fields c f ≡ x → Numbered (sum_below (own_fields s) c) (own_fields s c) x (field_number (fields_of (program_of s) t) f)
     unfolding class_at
     class_numbered q = rw (type_class h e, ← q) (run_numbered s f (sum_below (own_fields s) c) (own_fields s c))
 
-    pub place_miss : found ≡ Nothing → Nothing ≡ found_of (field_number (fields_of (program_of s) t) f)
+    pub place_miss : found ≡ None → None ≡ found_of (field_number (fields_of (program_of s) t) f)
     place_miss q = go (class_numbered (found_nothing (own_named s fields c f) found o q))
       where
-        go : {y : Option ℕ} → Numbered (sum_below (own_fields s) c) (own_fields s c) none y → Nothing ≡ found_of y
+        go : {y : Option ℕ} → Numbered (sum_below (own_fields s) c) (own_fields s c) none y → None ≡ found_of y
         go no_record = refl
 
-    module _ (i from : ℕ) (q : found ≡ At i) (b : from ≡ sum_below (own_fields s) c) where
+    module _ (i from : ℕ) (q : found ≡ Some i) (b : from ≡ sum_below (own_fields s) c) where
       pub place_past : from ≤ i
       place_past = go (class_numbered (found_at (own_named s fields c f) found o i q))
         where
           go : {y : Option ℕ} → Numbered (sum_below (own_fields s) c) (own_fields s c) (some i) y → from ≤ i
           go (number_at p l) = omega arith
 
-      pub place_hit : At (i - from) ≡ found_of (field_number (fields_of (program_of s) t) f)
+      pub place_hit : Some (i - from) ≡ found_of (field_number (fields_of (program_of s) t) f)
       place_hit = go (class_numbered (found_at (own_named s fields c f) found o i q))
         where
-          go : {y : Option ℕ} → Numbered (sum_below (own_fields s) c) (own_fields s c) (some i) y → At (i - from) ≡ found_of y
+          go : {y : Option ℕ} → Numbered (sum_below (own_fields s) c) (own_fields s c) (some i) y → Some (i - from) ≡ found_of y
           go (number_at {k = k} p l) = let z : i - from ≡ k = omega arith in rw z
 
-  pub place_interface : {i : ℕ} → d ≡ is_interface i → Nothing ≡ found_of (field_number (fields_of (program_of s) t) f)
-  place_interface e = rw (type_interface h e)
-
-  pub place_neither : d ≡ is-neither → Nothing ≡ found_of (field_number (fields_of (program_of s) t) f)
-  place_neither e = go (declaration_at (program_of s) t) (type_neither h e)
-    where
-      go : (x : Declaration) → Memberless x → Nothing ≡ found_of (field_number (fields_from x) f)
-      go a_unit m = refl
-      go (an_interface i) m = absurd m
-      go (a_class c) m = absurd m
-      go an_int m = refl
-      go no_type m = refl
+  -- Any other type has no fields.
+  pub place_none : ((c : ℕ) → d ≡ is_class c → ⊥) → None ≡ found_of (field_number (fields_of (program_of s) t) f)
+  place_none n = sym (but_class (λ x. found_of (field_number (fields_from x) f)) None refl (λ i. refl) refl refl h n)

@@ -4,21 +4,21 @@ use mathlib.Core.List.{List}
 use mathlib.Core.Option.{Option, none, some, map}
 use Prim.Native.Nat.{ℕ, ◌<◌}
 use native.Mathlib.Omega.{arith}
-use Rattle.script.specs.declared.Found.{Found}
-use Rattle.script.specs.declared.Found.TheVariants.{At, Nothing}
+use Rattle.std.specs.declared.option.Option.{Option as CodeOption}
+use Rattle.std.specs.declared.option.Option.TheVariants.{Some, None}
 use Rattle.script.specs.declared.Section.TheVariants.{Methods as methods, Nodes as nodes}
 use Rattle.script.specs.Lists.{sum_below}
 use Rattle.script.specs.Section.{count_of, record_word}
-use Rattle.script.specs.Syntax.{Point, point_of, Method, Declaration, a_unit, an_interface, a_class, an_int, no_type, declaration_at}
+use Rattle.script.specs.Syntax.{Point, point_of, Method}
 use Rattle.script.specs.Reading.{view_at, expr_at, own_methods, method_at, class_at, program_of}
 use Rattle.script.specs.Statements.{WithinLayout}
 use Rattle.sections.specs.Laid.{found_of}
 use Rattle.script.proofs.Reading.{build_point, expr_at_lem, in_order}
 use Rattle.subtypes.specs.declared.Declared.{Declared}
-use Rattle.subtypes.specs.declared.Declared.TheVariants.{Interface as is_interface, Class as is_class, Neither as is-neither}
-use Rattle.subtypes.specs.Subtypes.{Memberless, DeclaredAs}
+use Rattle.subtypes.specs.declared.Declared.TheVariants.{Class as is_class}
+use Rattle.subtypes.specs.Subtypes.{DeclaredAs}
 use Rattle.members.specs.Lookup.{own_named}
-use Rattle.subtypes.proofs.SubtypeLaws.{class_there, type_interface, type_class, type_neither}
+use Rattle.subtypes.proofs.SubtypeLaws.{class_there, type_class, but_class}
 use Rattle.members.proofs.LookupLaws.{named_run, own_there}
 use Rattle.typing.specs.Members.{defined_from, defined_in}
 use Rattle.classes.specs.Defined.{MethodIs, no_method, method_found_at}
@@ -29,32 +29,23 @@ module _ {s : List ℕ} {t : ℕ} {d : Declared} (h : DeclaredAs s t d) (m : ℕ
   unfolding class_at method_at
   defined_own {c} e = rw (type_class h e) (named_run (method_at s) (λ (x : Method). x.signature.name) m (sum_below (own_methods s) c) (own_methods s c))
 
-  pub record_own : WithinLayout s → {c : ℕ} → d ≡ is_class c → (found : Found) → found ≡ found_of (own_named s methods c m) → MethodIs s t m found
+  pub record_own : WithinLayout s → {c : ℕ} → d ≡ is_class c → (found : CodeOption ℕ) → found ≡ found_of (own_named s methods c m) → MethodIs s t m found
   record_own w {c} e found o = rw o (go (own_named s methods c m) refl)
     where
       go : (x : Option ℕ) → own_named s methods c m ≡ x → MethodIs s t m (found_of x)
       go none q = no_method (defined_own e ∙ ap (map (method_at s)) q)
       go (some j) q = method_found_at (own_there w methods c m j found (class_there h e).0 o (o ∙ ap found_of q)) (defined_own e ∙ ap (map (method_at s)) q)
 
-  pub record_interface : {i : ℕ} → d ≡ is_interface i → MethodIs s t m Nothing
-  record_interface e = no_method (rw (type_interface h e))
-
-  pub record_neither : d ≡ is-neither → MethodIs s t m Nothing
-  record_neither e = no_method (go (declaration_at (program_of s) t) (type_neither h e))
-    where
-      go : (x : Declaration) → Memberless x → defined_from m x ≡ none
-      go a_unit y = refl
-      go (an_interface i) y = absurd y
-      go (a_class c) y = absurd y
-      go an_int y = refl
-      go no_type y = refl
+  -- Any other type defines none.
+  pub record_none : ((c : ℕ) → d ≡ is_class c → ⊥) → MethodIs s t m None
+  record_none n = no_method (but_class (λ x. defined_from m x) none refl (λ i. refl) refl refl h n)
 
 -- What the code's answer says.
-pub defined_none : {s : List ℕ} {t m : ℕ} {r : Found} → MethodIs s t m r → r ≡ Nothing → defined_in (program_of s) t m ≡ none
+pub defined_none : {s : List ℕ} {t m : ℕ} {r : CodeOption ℕ} → MethodIs s t m r → r ≡ None → defined_in (program_of s) t m ≡ none
 defined_none (no_method e) q = e
 defined_none (method_found_at l e) q = absurd (let z : ◌≡◌ {A = ℕ} 0 1 = cc in omega arith)
 
-pub defined_at : {s : List ℕ} {t m : ℕ} {r : Found} {j : ℕ} → MethodIs s t m r → r ≡ At j → (j < count_of s methods) × (defined_in (program_of s) t m ≡ some (method_at s j))
+pub defined_at : {s : List ℕ} {t m : ℕ} {r : CodeOption ℕ} {j : ℕ} → MethodIs s t m r → r ≡ Some j → (j < count_of s methods) × (defined_in (program_of s) t m ≡ some (method_at s j))
 defined_at (no_method e) q = absurd (let z : ◌≡◌ {A = ℕ} 0 1 = cc in omega arith)
 defined_at {j = j} (method_found_at {j = i} l e) q = let z : i ≡ j = cc in rw (← z) (l, e)
 

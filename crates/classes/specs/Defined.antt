@@ -1,8 +1,8 @@
 -- What a Run asks of a class: the number of a field, and the method of a name.
 use Rattle.std.specs.Prelude.{ℕ, suc, ◌<◌, ◌≡◌, cond, List, [], ◌∷◌, eqb}
 use Rattle.std.proofs.Math.Option.{Option, none, some, map}
-use Rattle.script.specs.declared.Found.{Found}
-use Rattle.script.specs.declared.Found.TheVariants.{At, Nothing}
+use Rattle.std.specs.declared.option.Option.{Option as CodeOption}
+use Rattle.std.specs.declared.option.Option.TheVariants.{Some, None}
 use Rattle.script.specs.declared.Section.TheVariants.{Methods as methods}
 use Rattle.script.specs.Section.{count_of}
 use Rattle.script.specs.Syntax.{Slot}
@@ -15,6 +15,6 @@ field_number [] f = none
 field_number (d ∷ ds) f = cond (eqb d.name f) (some 0) (map suc (field_number ds f))
 
 -- methods(C)(m), appendix A.3, as the code says it: the record of the method that the type t defines, or nothing where it defines none.
-pub data MethodIs (s : List ℕ) (t m : ℕ) : Found → Type 0 where
-  no_method : defined_in (program_of s) t m ≡ none → MethodIs s t m Nothing
-  method_found_at : {j : ℕ} → j < count_of s methods → defined_in (program_of s) t m ≡ some (method_at s j) → MethodIs s t m (At j)
+pub data MethodIs (s : List ℕ) (t m : ℕ) : CodeOption ℕ → Type 0 where
+  no_method : defined_in (program_of s) t m ≡ none → MethodIs s t m None
+  method_found_at : {j : ℕ} → j < count_of s methods → defined_in (program_of s) t m ≡ some (method_at s j) → MethodIs s t m (Some j)

@@ -17,7 +17,7 @@ use moves::{Effect, fails};
 use tree::Fold;
 
 // "kinds 3, 4, 5 and 7 descend into their first-run part and leave a frame"
-pub fn leave_frame(block: &mut [u8], i: usize, f: Frame, a: u16, env: u16) -> Effect
+pub fn leave_frame(block: &mut [u8; Limits::BLOCK], i: usize, f: Frame, a: u16, env: u16) -> Effect
     requires { SomeState block.old i }
     ensures { (x : Rest) (st : Stores) (a₀ : ℕ) (fs : List Frame) →
         StateAt block.old i x st (running a₀ env fs) →
@@ -31,7 +31,14 @@ pub fn leave_frame(block: &mut [u8], i: usize, f: Frame, a: u16, env: u16) -> Ef
 }
 
 // "A fork becomes a join that keeps its frames, its last part and the bindings for it, which both asyncs also start with"
-pub fn become_join(block: &mut [u8], i: usize, env: u16, a: u16, b: u16, c: u16) -> Effect
+pub fn become_join(
+    block: &mut [u8; Limits::BLOCK],
+    i: usize,
+    env: u16,
+    a: u16,
+    b: u16,
+    c: u16,
+) -> Effect
     requires { SomeState block.old i }
     ensures { (d : Config) (x : Rest) (st : Stores) (a₀ : ℕ) (fs : List Frame) →
         Represents block.old d →
@@ -47,14 +54,13 @@ pub fn become_join(block: &mut [u8], i: usize, env: u16, a: u16, b: u16, c: u16)
 
 // "A join with both sides finished goes on as the left thread, at the last part and with the frames kept; with a failed side it becomes failed and all beneath
 // is dropped."
-pub fn fold_join(block: &mut [u8], i: usize) -> Effect
+pub fn fold_join(block: &mut [u8; Limits::BLOCK], i: usize) -> Effect
     requires { SomeState block.old i }
     ensures { (x : Rest) (st : Stores) (fs : List Frame) (a e : ℕ) (left right : machine.Tree) →
         StateAt block.old i x st (join fs a e left right) →
         Performs block.old i x (fold st fs a e (phase left) (phase right)) block.new result }
 {
-    let how = state::fold_at(block, i);
-    match how {
+    match state::fold_at(block, i) {
         Fold::Still => Effect::Still,
         Fold::GoesOn => {
             state::rejoin(block, i);

@@ -10,10 +10,12 @@ use lib.ListN.{length, get_or, take, set}
 use Rattle.script.proofs.Tests.{true_false}
 use Rattle.grammar.specs.Tokens.{Spelling, name_token}
 use Rattle.grammar.specs.Files.{rank_in, declared_role}
-use Rattle.spellings.specs.Table.{name_from, TableHolds}
-use Rattle.numbering.specs.Numbers.{names_at, numbered, TokenArrays}
+use Rattle.std.specs.Prelude.{Some, None}
+use Rattle.spellings.specs.declared.table.NameTable.{NameTable}
+use Rattle.spellings.specs.Table.{name_from, OfNames, PlaceAmong}
+use Rattle.numbering.specs.Numbers.{names_at, numbered}
 use Rattle.numbering.specs.Chains.{FirstFrom}
-use Rattle.declarations.specs.Declaring.{FirstOf, one_added_if, declared_in, again_at, type_named, nowhere_at, TypedTo, TypeAsked, TypesAsked}
+use Rattle.declarations.specs.Declaring.{FirstOf, FirstFound, one_added_if, declared_in, again_at, type_named, nowhere_at, TypedTo, TypeAsked, TypesAsked}
 use Rattle.numbering.proofs.Chains.{skipped}
 use Rattle.numbering.proofs.NumberLaws.{numbered_past, numbered_with, roles_more, names_more, roles_length, as_many}
 
@@ -62,7 +64,7 @@ module _ (roles values : List ℕ) (n : ℕ) (room : n ≤ length roles) where
       at_most true u = omega arith
       at_most false u = omega arith
 
-  -- TokenArrays before the next declaration are none.
+  -- Tokens before the next declaration are none.
   counting_on :
       {seen from i : ℕ}
       → FirstFrom (λ k. declared_role (get_or roles k 0)) from n i
@@ -74,8 +76,8 @@ module _ (roles values : List ℕ) (n : ℕ) (room : n ≤ length roles) where
   counting_first f = counting_on f counting_none
 
   module _ (seen i : ℕ) (so_far : Counting roles values n seen i) (h : i < n) (d : declared_role (get_or roles i 0) ≡ true) where
-    pub counting_stop : (get_or values i 0 ≡ seen → ⊥) → FirstOf (again_at roles values) n i
-    counting_stop p = first_stop i h so_far.none_before (rw (d, ← so_far.seen_is, ne_eqb (get_or values i 0) seen p))
+    pub counting_stop : (get_or values i 0 ≡ seen → ⊥) → FirstFound (again_at roles values) n (Some i)
+    counting_stop p = (first_stop i h so_far.none_before (rw (d, ← so_far.seen_is, ne_eqb (get_or values i 0) seen p)), h)
 
     pub counting_next :
         {next : ℕ}
@@ -103,16 +105,16 @@ module _ (text roles offsets values : List ℕ) (i : ℕ) (a : i < length roles)
       (sym (numbered_with type_named names (get_or roles i 0) (name_token (name_from text (get_or offsets i 0))) p (take i roles) (names_at text (take i offsets)) before (as_many text roles offsets i a b)
       ∙ rw (roles_length text roles offsets i a b)))
 
-module _ (text roles offsets values firsts links : List ℕ) (i : ℕ) (room : TokenArrays text roles offsets values firsts links (i + 1)) (p : type_named (get_or roles i 0) ≡ true)
-    (names : List Spelling) (e count : ℕ) (q : e ≡ rank_in names (name_from text (get_or offsets i 0))) (l : length names ≡ count) where
-  pub type_known : e < count → TypeAsked names text roles offsets values i (set values i e) true
-  type_known h =
+module _ (text roles offsets values : List ℕ) (i : ℕ) (a : i < length roles) (b : i < length offsets) (p : type_named (get_or roles i 0) ≡ true)
+    (names : List Spelling) (count : ℕ) (l : length names ≡ count) where
+  pub type_known : (e : ℕ) → PlaceAmong count (rank_in names (name_from text (get_or offsets i 0))) (Some e) → TypeAsked names text roles offsets values i (set values i e) true
+  type_known e h =
       record {
-        says = rw (p, lt-ltb (rank_in names (name_from text (get_or offsets i 0))) (length names) (omega arith));
-        valued = λ z. typed_with text roles offsets values i (omega (arith, room.in_roles)) (omega (arith, room.in_offsets)) names e p q;
+        says = rw (p, lt-ltb (rank_in names (name_from text (get_or offsets i 0))) (length names) (omega (arith, h.0, h.1)));
+        valued = λ z. typed_with text roles offsets values i a b names e p h.0;
       }
 
-  pub type_nowhere : count ≤ e → TypeAsked names text roles offsets values i values false
+  pub type_nowhere : PlaceAmong count (rank_in names (name_from text (get_or offsets i 0))) None → TypeAsked names text roles offsets values i values false
   type_nowhere h =
       record {
         says = rw (p, le-ltb (rank_in names (name_from text (get_or offsets i 0))) (length names) (omega arith));
@@ -120,22 +122,19 @@ module _ (text roles offsets values firsts links : List ℕ) (i : ℕ) (room : T
       }
 
 -- What the search along the names of types keeps, at any token.
-pub record Asking (text roles offsets firsts links heads : List ℕ) (n count : ℕ) (before values : List ℕ) (i : ℕ) : Type 0 where
+pub record Asking {N : ℕ} (text roles offsets : List ℕ) (t : NameTable N) (n : ℕ) (before values : List ℕ) (i : ℕ) : Type 0 where
   pub upto : i ≤ n
   pub values_long : length values ≡ length before
   pub asked :
-      (names : List Spelling)
-      → TableHolds text firsts links heads names
-      → length names ≡ count
-      → ((k : ℕ) → k < i → nowhere_at names text roles offsets k ≡ false) × TypedTo names text roles offsets before i values
+      OfNames text t (λ names. ((k : ℕ) → k < i → nowhere_at names text roles offsets k ≡ false) × TypedTo names text roles offsets before i values)
 
-module _ (text roles offsets firsts links heads : List ℕ) (n count : ℕ) (before : List ℕ) (room : TokenArrays text roles offsets before firsts links n) where
+module _ {N : ℕ} (text roles offsets : List ℕ) (t : NameTable N) (n : ℕ) (before : List ℕ) (a : n ≤ length roles) (b : n ≤ length offsets) where
   asking_past :
       (values : List ℕ) (i : ℕ)
       → i < n
       → type_named (get_or roles i 0) ≡ false
-      → Asking text roles offsets firsts links heads n count before values i
-      → Asking text roles offsets firsts links heads n count before values (i + 1)
+      → Asking text roles offsets t n before values i
+      → Asking text roles offsets t n before values (i + 1)
   asking_past values i h p so_far =
       record {
         upto = omega arith;
@@ -143,44 +142,43 @@ module _ (text roles offsets firsts links heads : List ℕ) (n count : ℕ) (bef
         asked =
             λ names k l. (
               below_more (λ j. nowhere_at names text roles offsets j ≡ false) i (so_far.asked names k l).0 (rw p),
-              typed_past text roles offsets values i (omega (arith, room.in_roles)) (omega (arith, room.in_offsets)) names p before (so_far.asked names k l).1,
+              typed_past text roles offsets values i (omega arith) (omega arith) names p before (so_far.asked names k l).1,
             );
       }
 
-  -- TokenArrays before the next name of a type are none.
+  -- Tokens before the next name of a type are none.
   asking_on :
       {values : List ℕ} {from i : ℕ}
       → FirstFrom (λ k. type_named (get_or roles k 0)) from n i
-      → Asking text roles offsets firsts links heads n count before values from
-      → Asking text roles offsets firsts links heads n count before values i × (i < n → type_named (get_or roles i 0) ≡ true)
-  asking_on {values} f w = (skipped (Asking text roles offsets firsts links heads n count before values) f (asking_past values) w, f.there)
+      → Asking text roles offsets t n before values from
+      → Asking text roles offsets t n before values i × (i < n → type_named (get_or roles i 0) ≡ true)
+  asking_on {values} f w = (skipped (Asking text roles offsets t n before values) f (asking_past values) w, f.there)
 
-  pub asking_first : {i : ℕ} → FirstFrom (λ k. type_named (get_or roles k 0)) 0 n i → Asking text roles offsets firsts links heads n count before before i × (i < n → type_named (get_or roles i 0) ≡ true)
+  pub asking_first : {i : ℕ} → FirstFrom (λ k. type_named (get_or roles k 0)) 0 n i → Asking text roles offsets t n before before i × (i < n → type_named (get_or roles i 0) ≡ true)
   unfolding numbered
   asking_first f = asking_on f (record { upto = omega arith; values_long = refl; asked = λ names h l. (λ k b. absurd (omega arith), refl) })
 
-  module _ (values : List ℕ) (i : ℕ) (so_far : Asking text roles offsets firsts links heads n count before values i) where
-    pub asking_end : n ≤ i → (names : List Spelling) → TableHolds text firsts links heads names → length names ≡ count → TypesAsked names text roles offsets before n values n
+  module _ (values : List ℕ) (i : ℕ) (so_far : Asking text roles offsets t n before values i) where
+    pub asking_end : n ≤ i → OfNames text t (λ names. TypesAsked names text roles offsets before n values None)
     asking_end h names k l =
         let w = so_far.asked names k l in
         let e : i ≡ n = omega (arith, so_far.upto) in
-        record { first = first_end n i so_far.upto h w.0; valued = λ z. rw e at w.1 }
+        record { first = (first_end n i so_far.upto h w.0, tt); valued = λ z. rw e at w.1 }
 
-    module _ (h : i < n) (values' : List ℕ) (b : Bool)
-        (told : (names : List Spelling) → TableHolds text firsts links heads names → length names ≡ count → TypeAsked names text roles offsets values i values' b) where
-      pub asking_stop : not b ≡ true → (names : List Spelling) → TableHolds text firsts links heads names → length names ≡ count → TypesAsked names text roles offsets before n values' i
+    module _ (h : i < n) (values' : List ℕ) (yes : Bool) (told : OfNames text t (λ names. TypeAsked names text roles offsets values i values' yes)) where
+      pub asking_stop : not yes ≡ true → OfNames text t (λ names. TypesAsked names text roles offsets before n values' (Some i))
       asking_stop p names k l =
           record {
-            first = first_stop i h (so_far.asked names k l).0 (sym (told names k l).says ∙ p);
-            valued = λ z. absurd (omega arith);
+            first = (first_stop i h (so_far.asked names k l).0 (sym (told names k l).says ∙ p), h);
+            valued = λ z. cc;
           }
 
       pub asking_next :
           {next : ℕ}
-          → not b ≡ false
+          → not yes ≡ false
           → length values' ≡ length values
           → FirstFrom (λ k. type_named (get_or roles k 0)) (i + 1) n next
-          → Asking text roles offsets firsts links heads n count before values' next × (next < n → type_named (get_or roles next 0) ≡ true)
+          → Asking text roles offsets t n before values' next × (next < n → type_named (get_or roles next 0) ≡ true)
       asking_next p e f =
           asking_on f
           (record {
@@ -189,6 +187,6 @@ module _ (text roles offsets firsts links heads : List ℕ) (n count : ℕ) (bef
             asked =
                 λ names k l. (
                   below_more (λ j. nowhere_at names text roles offsets j ≡ false) i (so_far.asked names k l).0 (sym (told names k l).says ∙ p),
-                  (told names k l).valued (not-false b p) before (so_far.asked names k l).1,
+                  (told names k l).valued (not-false yes p) before (so_far.asked names k l).1,
                 );
           })

@@ -8,10 +8,11 @@ use mathlib.Core.Option.{none, some}
 use native.Mathlib.Omega.{arith}
 use native.Mathlib.Numerals.{add-one}
 use borrow.Author.Count.{below_more}
-use borrow.Author.Tests.{eq-eqb, ne_eqb, lt-ltb, le-ltb, ltb-true, ltb-false}
+use borrow.Author.Tests.{eq-eqb, ne_eqb, lt-ltb, le-ltb}
 use lib.Dec.{eqb, ltb}
 use lib.ListN.{length, get_or, take, length-map, get_or-map}
 use lib.Seq.{get_or-take, length-take-le}
+use Rattle.std.specs.Prelude.{min, Option as CodeOption, Some, None}
 use Rattle.script.specs.Asking.{Decides, holds, fails}
 use Rattle.script.proofs.Tests.{true_false, yes_said, decides_as}
 use Rattle.script.proofs.Lists.{lt_or_le}
@@ -21,7 +22,7 @@ use Rattle.grammar.specs.Faults.{Marked, marked_by, first_fault, declared_among,
 use Rattle.spellings.specs.Table.{name_from, grown}
 use Rattle.spellings.proofs.Places.{Among, place_le}
 use Rattle.numbering.specs.Numbers.{names_at, numbered, names_to}
-use Rattle.declarations.specs.Declaring.{FirstOf, fault_below, one_added_if, declared_in, again_at, type_named, nowhere_at, TypesAsked, marks_to, Declarations}
+use Rattle.declarations.specs.Declaring.{FirstOf, FirstFound, place_or, one_added_if, declared_in, again_at, type_named, nowhere_at, TypesAsked, marks_to, Declarations}
 use Rattle.numbering.proofs.Distinct.{distinct_has, distinct_from, grown_has, grown_keeps, place_grown, place_own, length_new}
 use Rattle.numbering.proofs.NumberLaws.{roles_more, names_more, roles_length, as_many, to_past, to_with, numbered_at}
 use Rattle.declarations.proofs.Asking.{declared_with}
@@ -122,17 +123,13 @@ module _ (text roles offsets : List ℕ) (n : ℕ) (a : n ≤ length roles) (b :
         let e : r + 1 + suc m ≡ r + 1 + m + 1 = omega arith in
         rw e (fault_step (r + 1 + m) (omega arith) ∙ rw (fault_some r m (omega arith) f t))
 
-    pub fault_found : (r : ℕ) → FirstOf (λ k. test (marks_to text roles offsets k) (mark k)) n r → first_fault (λ x m y. test x m) [] (marks_to text roles offsets n) ≡ fault_below n r
-    fault_found r f = go (ltb r n) refl
-      where
-        go : (q : Bool) → ltb r n ≡ q → first_fault (λ x m y. test x m) [] (marks_to text roles offsets n) ≡ fault_below n r
-        go true e =
-            let h : r < n = ltb-true r n e in
-            let s : r + 1 + (n - (r + 1)) ≡ n = omega arith in
-            rw (e, ← s) (fault_some r (n - (r + 1)) (omega arith) (λ k. f.before k (omega arith)) (f.there h))
-        go false e =
-            let h : r ≡ n = omega (arith, ltb-false r n e, f.within) in
-            rw e (fault_none n (omega arith) (λ k l. f.before k (omega arith) (omega arith)))
+    pub fault_found : (r : ℕ) → r < n → FirstOf (λ k. test (marks_to text roles offsets k) (mark k)) n r → first_fault (λ x m y. test x m) [] (marks_to text roles offsets n) ≡ some r
+    fault_found r h f =
+        let s : r + 1 + (n - (r + 1)) ≡ n = omega arith in
+        rw (← s) (fault_some r (n - (r + 1)) (omega arith) (λ k. f.before k (omega arith)) (f.there h))
+
+    pub no_fault : FirstOf (λ k. test (marks_to text roles offsets k) (mark k)) n n → first_fault (λ x m y. test x m) [] (marks_to text roles offsets n) ≡ none
+    no_fault f = fault_none n (omega arith) (λ k l. f.before k (omega arith) l)
 
   -- Names that are known stay so, at their places.
   names_stay : (k : ℕ) (z : Spelling) → Among (known k) z → (m : ℕ) → k + m ≤ n → Among (known (k + m)) z × (rank_in (known (k + m)) z ≡ rank_in (known k) z)
@@ -244,31 +241,64 @@ module _ (text roles offsets : List ℕ) (n : ℕ) (a : n ≤ length roles) (b :
         ∙ (numbered_at declared_role (known n) (name_token (name_from text 0)) (take n roles) (names_at text (take n offsets)) before k many (omega (arith, length-take-le n roles a)) (omega arith)
         ∙ rw (get_or-take n roles k 0 h, d, name_at_lem k h))
 
-    module _ (values' : List ℕ) (r s : ℕ) (told : FirstOf (again_at roles values) n r) (asked : TypesAsked (known n) text roles offsets values n values' s) where
-      again_first : FirstOf again n r
-      again_first = first_as (again_same values value_at_lem) told
+    module _ (values' : List ℕ) (r s : CodeOption ℕ) (asked-again : FirstFound (again_at roles values) n r) (asked : TypesAsked (known n) text roles offsets values n values' s) where
+      again_first : FirstOf again n (place_or n r)
+      again_first = first_as (again_same values value_at_lem) asked-again.0
 
-      nowhere_first : FirstOf (λ k. nowhere_test (marks_to text roles offsets n) (mark k)) n s
-      nowhere_first = first_as (λ k h f. nowhere_same k) asked.first
+      nowhere_first : FirstOf (λ k. nowhere_test (marks_to text roles offsets n) (mark k)) n (place_or n s)
+      nowhere_first = first_as (λ k h f. nowhere_same k) asked.first.0
 
       abbrev faulty : List Marked → Marked → Bool
       faulty x m = again_test x m || nowhere_test (marks_to text roles offsets n) m
 
-      -- The lower of the two places is that of the first fault, and n stands for none.
-      pub declared_again : r < s → Declarations text roles offsets before n values' r
+      -- The lower of the two places is that of the first fault.
+      pub declared_again : (a : ℕ) → place_or n r ≡ a → a < n → a < place_or n s → Declarations text roles offsets before n values' (Some a)
       unfolding declaration_fault
-      declared_again h =
+      declared_again a e w h =
           record {
-            within = told.within;
-            fault = fault_found faulty r (lower_first again_first nowhere_first h);
-            valued = λ e. absurd (omega (arith, asked.first.within));
+            within = w;
+            fault = fault_found faulty a w (lower_first (rw e at again_first) nowhere_first h);
+            valued = λ z. cc;
           }
 
-      pub declared_nowhere : s ≤ r → Declarations text roles offsets before n values' s
+      pub declared_nowhere : (b : ℕ) → place_or n s ≡ b → b < n → b ≤ place_or n r → Declarations text roles offsets before n values' (Some b)
       unfolding declaration_fault
-      declared_nowhere h =
+      declared_nowhere b e w h =
           record {
-            within = asked.first.within;
-            fault = fault_found faulty s (lower_second again_first nowhere_first h);
-            valued = λ e. rw (← is) (asked.valued e);
+            within = w;
+            fault = fault_found faulty b w (lower_second again_first (rw e at nowhere_first) h);
+            valued = λ z. cc;
           }
+
+      pub declared_once : r ≡ None → s ≡ None → Declarations text roles offsets before n values' None
+      unfolding declaration_fault
+      declared_once p q =
+          record {
+            within = tt;
+            fault = no_fault faulty (lower_second (rw p at again_first) (rw q at nowhere_first) (omega arith));
+            valued = λ e. rw (← is) (asked.valued q);
+          }
+
+-- Of two places the lower is told.
+module _ (text roles offsets : List ℕ) (n : ℕ) (a : n ≤ length roles) (b : n ≤ length offsets) (before values : List ℕ) (room : n ≤ length before)
+    (is : values ≡ numbered declared_role (names_to declared_role text roles offsets n) (take n roles) (names_at text (take n offsets)) before)
+    (values' : List ℕ) (r s : CodeOption ℕ) (f : FirstFound (again_at roles values) n r)
+    (g : TypesAsked (names_to declared_role text roles offsets n) text roles offsets values n values' s) where
+  pub told_both : (x y z : ℕ) → r ≡ Some x → s ≡ Some y → z ≡ min x y → Declarations text roles offsets before n values' (Some z)
+  told_both x y z p q e =
+      ⊎_elim
+      (λ (l : x < y). let q' : z ≡ x = omega arith in rw q' (declared_again text roles offsets n a b before values room is values' r s f g x (rw p refl) (rw p at f.1) (rw q l)))
+      (λ (l : y ≤ x). let q' : z ≡ y = omega arith in rw q' (declared_nowhere text roles offsets n a b before values room is values' r s f g y (rw q refl) (rw q at g.first.1) (rw p l)))
+      (lt_or_le x y)
+
+  pub told_again : (x : ℕ) → r ≡ Some x → s ≡ None → Declarations text roles offsets before n values' (Some x)
+  told_again x p q = declared_again text roles offsets n a b before values room is values' r s f g x (rw p refl) (rw p at f.1) (rw q (rw p at f.1))
+
+  pub told_nowhere : r ≡ None → Declarations text roles offsets before n values' s
+  told_nowhere p = go s refl
+    where
+      go : (v : CodeOption ℕ) → s ≡ v → Declarations text roles offsets before n values' v
+      go (Some y) q =
+          let l : y < n = rw q at g.first.1 in
+          declared_nowhere text roles offsets n a b before values room is values' r s f g y (rw q refl) l (rw p (omega (arith, l)))
+      go None q = declared_once text roles offsets n a b before values room is values' r s f g p q

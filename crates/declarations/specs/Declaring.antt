@@ -1,5 +1,5 @@
 -- Declarations: which names of types are declared again, and which nowhere.
-use Rattle.std.specs.Prelude.{ℕ, ◌+◌, ◌≤◌, ◌≡◌, Bool, true, false, not, ◌&&◌, List, [], ◌∷◌, eqb, ltb, length, get_or, take}
+use Rattle.std.specs.Prelude.{ℕ, ◌+◌, ◌<◌, ◌≡◌, Bool, true, false, not, ◌&&◌, List, [], ◌∷◌, eqb, ltb, length, get_or, take, Option as CodeOption, None, Some}
 use Rattle.std.proofs.Math.Option.{Option, none, some}
 use Rattle.grammar.specs.Tokens.{Spelling}
 use Rattle.grammar.specs.Files.{rank_in, declared_role}
@@ -13,13 +13,24 @@ use Rattle.numbering.specs.declared.Sort.TheVariants.{Types}
 abbrev pub FirstOf : (ℕ → Bool) → ℕ → ℕ → Type 0
 FirstOf test n r = FirstFrom test 0 n r
 
-abbrev pub some_if : Bool → ℕ → Option ℕ
-some_if true r = some r
-some_if false r = none
+-- What was found stands among n.
+abbrev pub Below : ℕ → CodeOption ℕ → Type 0
+Below n None = Unit {0}
+Below n (Some r) = r < n
 
--- The same as an answer that may be none.
-abbrev pub fault_below : ℕ → ℕ → Option ℕ
-fault_below n r = some_if (ltb r n) r
+-- Where a search ended, which is n if nothing was found.
+abbrev pub place_or : ℕ → CodeOption ℕ → ℕ
+place_or n None = n
+place_or n (Some r) = r
+
+-- The first of n that passes a test, or none.
+abbrev pub FirstFound : (ℕ → Bool) → ℕ → CodeOption ℕ → Type 0
+FirstFound test n r = FirstOf test n (place_or n r) × Below n r
+
+-- What was found, as the definitions say it.
+abbrev pub told : CodeOption ℕ → Option ℕ
+told None = none
+told (Some r) = some r
 
 abbrev pub one_added_if : Bool → ℕ → ℕ
 one_added_if true n = n + 1
@@ -52,20 +63,20 @@ pub record TypeAsked (names : List Spelling) (text roles offsets values : List �
   pub valued : r ≡ true → (before : List ℕ) → TypedTo names text roles offsets before i values → TypedTo names text roles offsets before (i + 1) values'
 
 -- All are asked, up to the first that is declared nowhere.
-pub record TypesAsked (names : List Spelling) (text roles offsets before : List ℕ) (n : ℕ) (values : List ℕ) (r : ℕ) : Type 0 where
-  pub first : FirstOf (nowhere_at names text roles offsets) n r
-  pub valued : r ≡ n → TypedTo names text roles offsets before n values
+pub record TypesAsked (names : List Spelling) (text roles offsets before : List ℕ) (n : ℕ) (values : List ℕ) (r : CodeOption ℕ) : Type 0 where
+  pub first : FirstFound (nowhere_at names text roles offsets) n r
+  pub valued : r ≡ None → TypedTo names text roles offsets before n values
 
 -- The first n tokens with their roles, each taken as a name.
 abbrev pub marks_to : List ℕ → List ℕ → List ℕ → ℕ → List Marked
 marks_to text roles offsets n = marked_by (take n roles) (names_at text (take n offsets))
 
 -- 35: "a type name is declared nowhere or again", and what tells types apart if none is.
-pub record Declarations (text roles offsets before : List ℕ) (n : ℕ) (values : List ℕ) (r : ℕ) : Type 0 where
-  pub within : r ≤ n
-  pub fault : declaration_fault (marks_to text roles offsets n) ≡ fault_below n r
+pub record Declarations (text roles offsets before : List ℕ) (n : ℕ) (values : List ℕ) (r : CodeOption ℕ) : Type 0 where
+  pub within : Below n r
+  pub fault : declaration_fault (marks_to text roles offsets n) ≡ told r
   pub valued :
-      r ≡ n
+      r ≡ None
       → let names = names_to declared_role text roles offsets n in
       values
       ≡ numbered type_named names (take n roles) (names_at text (take n offsets))

@@ -1,134 +1,92 @@
 // Error 35: a name of a type that is declared again, or nowhere.
 #![tactic(auto)]
 
-ghost use Rattle.std.specs.Prelude.{◌≡◌, true, List, [], ◌+◌, ◌≤◌, length, get_or};
-ghost use Rattle.grammar.specs.Tokens.{Spelling};
-ghost use Rattle.grammar.specs.Files.{declared_role};
-ghost use Rattle.tokens.specs.Kinds.{byte_kinds};
-ghost use Rattle.spellings.specs.Table.{TableFilled, TableHolds};
-ghost use Rattle.numbering.specs.Numbers.{TokenArrays};
-ghost use Rattle.numbering.specs.Chains.{LinkedSort, ChainsAre};
-ghost use Rattle.declarations.specs.Declaring.{FirstOf, again_at, type_named, TypeAsked, TypesAsked, Declarations};
+ghost use Rattle.std.specs.Prelude.{◌≡◌, true, [], ◌<◌, ◌≤◌, length, get_or};
+ghost use Rattle.spellings.specs.Table.{TableFilled, Holds, OfNames};
+ghost use Rattle.declarations.specs.Declaring.{FirstFound, again_at, type_named, TypeAsked, TypesAsked, Declarations};
 
-use numbering::{Firsts, Sort, next_in, number_names};
+use numbering::{Linked, Sort, number_names};
+use spellings::NameTable;
+use tokens::Tokens;
 
-// The first of n tokens that declares a name declared before, or n. The names that are declared have been numbered.
-fn first_again(roles: &[u8], values: &[u16], n: usize, chain: &[u16], first: usize) -> usize
-    requires n_in_bounds { (n ≤ length roles.now) × (n ≤ length values.now) }
-    requires linked_sort { LinkedSort declared_role roles.now n chain.now first }
-    ensures { FirstOf (again_at roles.now values.now) n result }
+// A link tells the next token of a sort, so there is no range for a `for` to go through.
+// The first token that declares a name declared before it. The names that are declared have been numbered.
+fn first_again(linked: &Linked, values: &[u16]) -> Option<usize>
+    requires { length linked.now.tokens.roles.now ≤ length values.now }
+    ensures { FirstFound (again_at linked.now.tokens.roles.now values.now) (length linked.now.tokens.roles.now) result }
 {
     let mut seen = 0;
-    let mut i = first;
-    while i < n {
+    let mut i = linked.firsts.of(Sort::Declared);
+    while i < linked.tokens.roles.len() {
         if values[i] as usize != seen {
-            return i;
+            return Some(i);
         }
         seen += 1;
-        i = next_in(chain, i, n);
+        i = linked.next_in(i);
     }
-    n
+    None
 }
 
 // Gives token i, which names a type, the number of its declaration, or answers no.
-fn type_token(
-    kinds: &[u8; 256],
-    text: &[u8],
-    roles: &[u8],
-    offsets: &[u16],
+fn type_token<const N: usize>(
+    tokens: &Tokens,
     i: usize,
     values: &mut [u16],
-    firsts: &[u16],
-    links: &[u16],
-    heads: &[u32],
-    count: usize,
+    table: &NameTable<N>,
 ) -> bool
-    requires token_arrays { TokenArrays text.now roles.now offsets.now values.old firsts.now links.now (i + 1) }
-    requires table_filled { TableFilled text.now firsts.now links.now heads.now count }
-    requires i_value { (type_named (get_or roles.now i 0) ≡ true) × (kinds.now ≡ byte_kinds) }
-    ensures { (names : List Spelling) → TableHolds text.now firsts.now links.now heads.now names → length names ≡ count
-        → TypeAsked names text.now roles.now offsets.now values.old i values.new result }
+    requires i_in_bounds { (i < length tokens.now.roles.now) × (i < length values.old) }
+    requires i_value { type_named (get_or tokens.now.roles.now i 0) ≡ true }
+    requires table_filled { TableFilled tokens.now.text.bytes.now table.now }
+    ensures { OfNames tokens.now.text.bytes.now table.now (λ names.
+        TypeAsked names tokens.now.text.bytes.now tokens.now.roles.now tokens.now.offsets.now values.old i values.new result) }
 {
-    let e = spellings::find(kinds, text, firsts, links, heads, count, offsets[i]);
-    if e < count {
+    if let Some(e) = table.find(&tokens.text, tokens.offsets[i]) {
         values[i] = e as u16;
         return true;
     }
     false
 }
 
-// The first of n tokens that names a type declared nowhere, or n. The table holds the declared names.
-fn first_nowhere(
-    kinds: &[u8; 256],
-    text: &[u8],
-    roles: &[u8],
-    offsets: &[u16],
-    n: usize,
-    chain: &[u16],
-    first: usize,
+// Along the links again.
+// The first token that names a type declared nowhere. The table holds the declared names.
+fn first_nowhere<const N: usize>(
+    linked: &Linked,
     values: &mut [u16],
-    firsts: &[u16],
-    links: &[u16],
-    heads: &[u32],
-    count: usize,
-) -> usize
-    requires token_arrays { TokenArrays text.now roles.now offsets.now values.old firsts.now links.now n }
-    requires table_filled { TableFilled text.now firsts.now links.now heads.now count }
-    requires linked_sort { LinkedSort type_named roles.now n chain.now first × (kinds.now ≡ byte_kinds) }
-    ensures { (names : List Spelling) → TableHolds text.now firsts.now links.now heads.now names → length names ≡ count
-        → TypesAsked names text.now roles.now offsets.now values.old n values.new result }
+    table: &NameTable<N>,
+) -> Option<usize>
+    requires room { length linked.now.tokens.roles.now ≤ length values.old }
+    requires table_filled { TableFilled linked.now.tokens.text.bytes.now table.now }
+    ensures { OfNames linked.now.tokens.text.bytes.now table.now (λ names.
+        TypesAsked names linked.now.tokens.text.bytes.now linked.now.tokens.roles.now linked.now.tokens.offsets.now values.old
+        (length linked.now.tokens.roles.now) values.new result) }
 {
-    let mut i = first;
-    while i < n {
-        if !type_token(
-            kinds, text, roles, offsets, i, values, firsts, links, heads, count,
-        ) {
-            return i;
+    let mut i = linked.firsts.of(Sort::Types);
+    while i < linked.tokens.roles.len() {
+        if !type_token(&linked.tokens, i, values, table) {
+            return Some(i);
         }
-        i = next_in(chain, i, n);
+        i = linked.next_in(i);
     }
-    n
+    None
 }
 
-// The first of n tokens at fault, or n. Then the declared names and the names of types have their values, and the table holds the declared names.
-pub fn declaration_fault(
-    kinds: &[u8; 256],
-    text: &[u8],
-    roles: &[u8],
-    offsets: &[u16],
-    n: usize,
-    chain: &[u16],
-    f: Firsts,
+// The first token at fault. If there is none, the declared names and the names of types have their values, and the table holds the declared names.
+pub fn declaration_fault<const N: usize>(
+    linked: &Linked,
     values: &mut [u16],
-    firsts: &mut [u16],
-    links: &mut [u16],
-    heads: &mut [u32],
-) -> usize
-    requires token_arrays { TokenArrays text.now roles.now offsets.now values.old firsts.old links.old n }
-    requires table_holds { TableHolds text.now firsts.old links.old heads.old [] }
-    requires chains_are { ChainsAre roles.now n chain.now f × (kinds.now ≡ byte_kinds) }
-    ensures { Declarations text.now roles.now offsets.now values.old n values.new result }
+    table: &mut NameTable<N>,
+) -> Option<usize>
+    requires room { (length linked.now.tokens.roles.now ≤ length values.old) × (length linked.now.tokens.roles.now ≤ N) }
+    requires table_holds { Holds linked.now.tokens.text.bytes.now table.old [] × (table.old.count ≡ 0) }
+    ensures { Declarations linked.now.tokens.text.bytes.now linked.now.tokens.roles.now linked.now.tokens.offsets.now values.old
+        (length linked.now.tokens.roles.now) values.new result }
 {
-    let count = number_names(
-        kinds,
-        text,
-        roles,
-        offsets,
-        n,
-        chain,
-        f.declared,
-        Sort::Declared,
-        values,
-        firsts,
-        links,
-        heads,
-    );
-    let again = first_again(roles, values, n, chain, f.declared);
-    let nowhere = first_nowhere(
-        kinds, text, roles, offsets, n, chain, f.types, values, firsts, links, heads, count,
-    );
-    if again < nowhere {
-        return again;
+    number_names(linked, Sort::Declared, values, table);
+    let again = first_again(linked, values);
+    let nowhere = first_nowhere(linked, values, table);
+    match (again, nowhere) {
+        (Some(a), Some(b)) => Some(a.min(b)),
+        (Some(a), None) => Some(a),
+        (None, b) => b,
     }
-    nowhere
 }

@@ -2,7 +2,7 @@
 use mathlib.Core.Path.{◌≡◌, refl, sym, ap, ◌∙◌}
 use mathlib.Core.Bool.{Bool, true, false, cond, not}
 use mathlib.Core.List.{List, [], ◌∷◌}
-use mathlib.Core.Logic.{⊎_elim}
+use mathlib.Core.Logic.{◌≢◌, ⊎_elim}
 use mathlib.Core.Option.{Option, none, some, none-ne-some}
 use Prim.Native.Nat.{ℕ, zero, suc, ◌+◌, ◌<◌, ◌≤◌}
 use native.Mathlib.Omega.{arith}
@@ -13,6 +13,10 @@ use Rattle.limits.specs.Limits.{BLOCK, POSITIONS}
 use Rattle.script.specs.declared.Section.TheVariants.{Nodes as nodes}
 use Rattle.script.specs.Section.{count_of, node_word}
 use Rattle.script.specs.Syntax.{Point, Node, n_null, n_var, n_select, n_update, n_call, n_bind, n_new, n_cast, n_fork, n_lock, n_constant, n_add}
+use Rattle.script.specs.declared.Kind.{Kind}
+use Rattle.script.specs.declared.Kind.TheVariants.{Null as null_kind, Variable as var_kind, Select as select_kind, Update as update_kind, Call as call_kind, Let as bind_kind}
+use Rattle.script.specs.declared.Kind.TheVariants.{New as new_kind, Cast as cast_kind, Fork as fork_kind, Lock as lock_kind, Constant as constant_kind}
+use Rattle.script.specs.declared.Kind.TheVariants.{Sum as add_kind, Unknown as unknown_kind}
 use Rattle.script.specs.Reading.{kind_of, node_of, view_at}
 use Rattle.script.proofs.Lists.{lt_or_le}
 use Rattle.script.specs.Statements.{WithinLayout}
@@ -22,7 +26,7 @@ use Rattle.machine.specs.declared.Frame.{Frame}
 use Rattle.machine.specs.declared.Ending.TheVariants.{Finished as finishes, Failed as fails, Deadlocked as deadlocks}
 use Rattle.machine.specs.Config as machine
 use Rattle.machine.specs.Config.{Code, code_of, Stores, running, returning, failed, join, Config}
-use Rattle.machine.specs.Machine.{scope, find, one_if, Places, limits, spare, Outcome, still, full, moved, shut_and_enter, lock_target, phase, fold, move_at, move, Path, here, left, right, size, locate, choice, able, can_move, part, At, at_root, at_left, at_right}
+use Rattle.machine.specs.Machine.{scope, find, one_if, Places, limits, spare, Outcome, still, full, moved, shut_and_enter, lock_target, phase, fold, move_at, move, Path, here, size, locate, choice, able, can_move, part, At, at_root, at_left, at_right}
 use Rattle.machine.specs.WellFormed.{TreeOk, running_ok}
 use Rattle.machine.specs.Ends.{Waits, waits, ending}
 use Rattle.machine.specs.Runs.{any_able, look}
@@ -33,7 +37,7 @@ use Rattle.block.specs.declared.Area.TheVariants.{Positions}
 use Rattle.block.specs.Layout.{counted}
 use Rattle.block.specs.Block.{waiting}
 use Rattle.representation.specs.Preorder.{frames_above, in_tree}
-use Rattle.representation.proofs.Preorder.{named_below, named, part_moves}
+use Rattle.representation.proofs.Preorder.{named_below, part_moves}
 use Rattle.tree.specs.declared.Cell.{Cell}
 use Rattle.tree.specs.declared.Cell.TheVariants.{Failed, Running, Returning, Join}
 use Rattle.tree.specs.declared.Entry.{Entry}
@@ -45,9 +49,11 @@ use Rattle.state.specs.Represents.{Rest, StateAt, SomeState}
 use Rattle.state.specs.Positions.{entry_at}
 use Rattle.state.proofs.Seeing.{seen_length, seen_few, seen_entry, seen_waiting, some_state}
 use Rattle.state.proofs.Glue.{around, seen_there, positions_many}
-use Rattle.enabled.specs.declared.Looked.{Looked}
-use Rattle.enabled.specs.declared.Looked.TheVariants.{GoesOn, Ends}
-use Rattle.locking.specs.declared.Access.{Access}
+use Rattle.machine.specs.declared.Ending.{Ending}
+use Rattle.std.specs.declared.option.Option.{Option as CodeOption}
+use Rattle.std.specs.declared.option.Option.TheVariants.{Some, None}
+use Rattle.locking.specs.declared.Access.{Access as LockAccess}
+use Rattle.locking.specs.declared.Access.TheVariants.{Stays as StaysOut, Null as NullThere, Open as OpenThere, Held as HeldHere}
 use Rattle.moves.specs.Performs.{AtPosition}
 use Rattle.locking.specs.Entered.{entered}
 use Rattle.enabled.specs.Looks.{Standing, look_of}
@@ -55,12 +61,21 @@ use Rattle.moves.proofs.Positions.{same_part, ChosenPart, chosen_at, root_told, 
 use Rattle.moves.proofs.Ready.{seen_chain}
 
 -- a lock, by what the thread finds there; one that is open can be entered, or a full store stops it
-pub lock_able : (st : Stores) (fs : List Frame) (a env k : ℕ) {due : Outcome} {r q : Access} → due ≡ entered st fs a env k r → r ≡ q → able (entered st fs a env k q) ≡ able due
-lock_able st fs a env k e h = sym (ap able (e ∙ ap (entered st fs a env k) h))
+pub lock_stays : (st : Stores) (fs : List Frame) (a env k : ℕ) {due : Outcome} {r : LockAccess} → due ≡ entered st fs a env k r → r ≡ StaysOut → false ≡ able due
+lock_stays st fs a env k e h = sym (ap able (e ∙ ap (entered st fs a env k) h))
 
-pub open_able : (st : Stores) (fs : List Frame) (a env o k : ℕ) → able (shut_and_enter st fs a env o k) ≡ true
+open_able : (st : Stores) (fs : List Frame) (a env o k : ℕ) → able (shut_and_enter st fs a env o k) ≡ true
 open_able st fs a env o zero = refl
 open_able st fs a env o (suc k) = refl
+
+not_stays : (st : Stores) (fs : List Frame) (a env k : ℕ) (r : LockAccess) → r ≢ StaysOut → true ≡ able (entered st fs a env k r)
+not_stays st fs a env k StaysOut h = absurd (h refl)
+not_stays st fs a env k NullThere h = refl
+not_stays st fs a env k (OpenThere o) h = sym (open_able st fs a env o k)
+not_stays st fs a env k HeldHere h = refl
+
+pub lock_able : (st : Stores) (fs : List Frame) (a env k : ℕ) {due : Outcome} {r : LockAccess} → due ≡ entered st fs a env k r → r ≢ StaysOut → true ≡ able due
+lock_able st fs a env k {r = r} e h = rw e (not_stays st fs a env k r h)
 
 -- a node of another kind is no lock
 abbrev is_lock : Node → Bool
@@ -77,28 +92,27 @@ is_lock (n_lock x a) = true
 is_lock (n_constant z) = false
 is_lock (n_add x y) = false
 
-no_lock : (k a b c : ℕ) → (k ≡ 9 → ⊥) → is_lock (node_of (kind_of k) a b c) ≡ false
-unfolding kind_of
-no_lock zero a b c h = refl
-no_lock (suc zero) a b c h = refl
-no_lock (suc (suc zero)) a b c h = refl
-no_lock (suc (suc (suc zero))) a b c h = refl
-no_lock (suc (suc (suc (suc zero)))) a b c h = refl
-no_lock (suc (suc (suc (suc (suc zero))))) a b c h = refl
-no_lock (suc (suc (suc (suc (suc (suc zero)))))) a b c h = refl
-no_lock (suc (suc (suc (suc (suc (suc (suc zero))))))) a b c h = refl
-no_lock (suc (suc (suc (suc (suc (suc (suc (suc zero)))))))) a b c h = refl
-no_lock (suc (suc (suc (suc (suc (suc (suc (suc (suc zero))))))))) a b c h = absurd (h refl)
-no_lock (suc (suc (suc (suc (suc (suc (suc (suc (suc (suc zero)))))))))) a b c h = refl
-no_lock (suc (suc (suc (suc (suc (suc (suc (suc (suc (suc (suc zero))))))))))) a b c h = refl
-no_lock (suc (suc (suc (suc (suc (suc (suc (suc (suc (suc (suc (suc k)))))))))))) a b c h = refl
+no_lock : (k : Kind) (a b c : ℕ) → k ≢ lock_kind → is_lock (node_of k a b c) ≡ false
+no_lock null_kind a b c h = refl
+no_lock var_kind a b c h = refl
+no_lock select_kind a b c h = refl
+no_lock update_kind a b c h = refl
+no_lock call_kind a b c h = refl
+no_lock bind_kind a b c h = refl
+no_lock new_kind a b c h = refl
+no_lock cast_kind a b c h = refl
+no_lock fork_kind a b c h = refl
+no_lock lock_kind a b c h = absurd (h refl)
+no_lock constant_kind a b c h = refl
+no_lock add_kind a b c h = refl
+no_lock unknown_kind a b c h = refl
 
-other_kind : (s : List ℕ) (a k : ℕ) → k ≡ node_word s a 0 → (k ≡ 9 → ⊥) → is_lock (view_at s a) ≡ false
+other_kind : (s : List ℕ) (a : ℕ) (k : Kind) → k ≡ kind_of (node_word s a 0) → k ≢ lock_kind → is_lock (view_at s a) ≡ false
 unfolding view_at
 other_kind s a k e h = rw (sym e) (no_lock k (node_word s a 1) (node_word s a 2) (node_word s a 3) h)
 
-lock_node : (s : List ℕ) (a k : ℕ) → k ≡ node_word s a 0 → k ≡ 9 → view_at s a ≡ n_lock (node_word s a 1) (node_word s a 2)
-unfolding view_at kind_of
+lock_node : (s : List ℕ) (a : ℕ) (k : Kind) → k ≡ kind_of (node_word s a 0) → k ≡ lock_kind → view_at s a ≡ n_lock (node_word s a 1) (node_word s a 2)
+unfolding view_at
 lock_node s a k e h = rw (sym e ∙ h)
 
 -- the part at a place of a tree that stays, stays
@@ -172,12 +186,12 @@ module _ {s b : List ℕ} (x : Standing s b) where
     moves_unless : (StaysHere (code_of s) x.config.stores above u → ⊥) → true ≡ can_move (code_of s) limits x.config n
     moves_unless f = able_unless (choice (code_of s) limits x.config n) (λ e. f (stays_there ((still_exactly x.accepted limits x.formed n).0 e)))
 
-  module _ {n a env : ℕ} {p : Path} {rest : Rest} {fs : List Frame} (h : AtPosition b n x.config p (running a env fs) rest) (kind : ℕ) (e : kind ≡ node_word s a 0) where
+  module _ {n a env : ℕ} {p : Path} {rest : Rest} {fs : List Frame} (h : AtPosition b n x.config p (running a env fs) rest) (kind : Kind) (e : kind ≡ kind_of (node_word s a 0)) where
     -- a thread at a lock can move if the lock can, and at any other node it can
-    pub other_moves : (kind ≡ 9 → ⊥) → true ≡ can_move (code_of s) limits x.config n
+    pub other_moves : kind ≢ lock_kind → true ≡ can_move (code_of s) limits x.config n
     other_moves k = moves_unless h (λ y. let z : ◌≡◌ {A = ℕ} 0 1 = ap one_if (sym (other_kind s a kind e k) ∙ stays_lock (code_of s) x.config.stores y) in omega arith)
 
-    pub lock_moves : kind ≡ 9 → {r : Bool} (y : ℕ) → y ≡ node_word s a 1
+    pub lock_moves : kind ≡ lock_kind → {r : Bool} (y : ℕ) → y ≡ node_word s a 1
         → ((d k : ℕ) → r ≡ able (lock_target x.config.stores (above h) fs d env k (find (scope x.config.stores.bindings env) y))) → r ≡ can_move (code_of s) limits x.config n
     lock_moves k y m g = rw (← by_part h, lock_node s a kind e k, ← m) (g (node_word s a 2) (room h).frames)
 
@@ -204,12 +218,12 @@ module _ {s b : List ℕ} (x : Standing s b) where
       running_there e = here_told stood (root_told stood e)
 
       -- what the look at a thread at a node asks, and that at a join
-      pub running_asks : {a env : ℕ} → WithinLayout s → cell ≡ Running a env → WithinLayout s × SomeState b n × Chain b env × (a < count_of s nodes)
+      pub running_asks : {a env : ℕ} → WithinLayout s → cell ≡ Running a env → SomeState b n × Chain b env × (a < count_of s nodes)
       running_asks {a} {env} w e =
           let h = running_there e in
           let st = x.config.stores in
           let ok = running_points (code_of s) st (part_ok x.config.tree stood.place x.formed.formed.tree h.there).1 in
-          (w, some_state h.seen, seen_chain h.seen w x.formed.formed.stores.bindings env ok.0, ok.1)
+          (some_state h.seen, seen_chain h.seen w x.formed.formed.stores.bindings env ok.0, ok.1)
 
       pub join_asks : SomeState b n
       join_asks = some_state stood.is.seen
@@ -285,7 +299,7 @@ module _ {s b : List ℕ} (x : Standing s b) where
   abbrev any_one : Bool
   any_one = any_able (code_of s) limits x.config (size x.config.tree)
 
-  abbrev said : Looked
+  abbrev said : CodeOption Ending
   said = look_of (look (code_of s) limits x.config)
 
   module _ (q : Phase) {y : Entry} (is : y ≡ entry_at b 0) (told : PhaseIs y q) where
@@ -296,14 +310,14 @@ module _ {s b : List ℕ} (x : Standing s b) where
     unfolding look
     looks e g = rw (root_phase e, g)
 
-    pub looks_finished : q ≡ Finished → Ends finishes ≡ said
+    pub looks_finished : q ≡ Finished → Some finishes ≡ said
     looks_finished e = looks e refl
 
-    pub looks_failed : q ≡ Broken → Ends fails ≡ said
+    pub looks_failed : q ≡ Broken → Some fails ≡ said
     looks_failed e = looks e refl
 
-    pub looks_on : {r : Bool} → q ≡ Busy → r ≡ any_one → r ≡ true → GoesOn ≡ said
+    pub looks_on : {r : Bool} → q ≡ Busy → r ≡ any_one → r ≡ true → None ≡ said
     looks_on e g h = looks e (sym h ∙ g)
 
-    pub looks_deadlocked : {r : Bool} → q ≡ Busy → r ≡ any_one → r ≡ false → Ends deadlocks ≡ said
+    pub looks_deadlocked : {r : Bool} → q ≡ Busy → r ≡ any_one → r ≡ false → Some deadlocks ≡ said
     looks_deadlocked e g h = looks e (sym h ∙ g)

@@ -1,12 +1,13 @@
 -- The flags that Offer sets, one after the other.
-use mathlib.Core.Path.{◌≡◌, sym, ap, ◌∙◌}
-use mathlib.Core.Bool.{Bool}
+use mathlib.Core.Path.{◌≡◌, refl, sym, ap, ◌∙◌}
+use mathlib.Core.Bool.{Bool, true, false}
 use mathlib.Core.List.{List}
 use Prim.Native.Nat.{ℕ, ◌+◌, ◌<◌, ◌≤◌}
 use native.Mathlib.Omega.{arith}
 use borrow.Author.Count.{below_more}
 use lib.ListN.{length, get_or, set, length-set}
 use lib.Seq.{get_or-set_same, get_or-set_other, ext_get_or}
+use Rattle.std.specs.Int.{from_bool}
 use Rattle.limits.specs.Limits.{FLAGS}
 use Rattle.script.specs.Lists.{run}
 use Rattle.script.proofs.Lists.{length_run, get_d_run}
@@ -14,6 +15,11 @@ use Rattle.machine.specs.Config.{code_of}
 use Rattle.machine.specs.Machine.{one_if, limits, can_move}
 use Rattle.enabled.specs.Looks.{Standing}
 use Rattle.calls.specs.Calls.{flags_of}
+
+-- a flag's byte
+pub byte_is : (can : Bool) → from_bool can ≡ one_if can
+byte_is true = refl
+byte_is false = refl
 
 -- The first n flags are set, those of the block b.
 pub record Marked (s b flags : List ℕ) (n : ℕ) : Type 0 where

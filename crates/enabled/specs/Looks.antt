@@ -7,8 +7,8 @@ use Rattle.machine.specs.Machine.{limits}
 use Rattle.machine.specs.Accepted.{AcceptedCode}
 use Rattle.machine.specs.WellFormed.{WellFormed}
 use Rattle.state.specs.Represents.{Represents}
-use Rattle.enabled.specs.declared.Looked.{Looked}
-use Rattle.enabled.specs.declared.Looked.TheVariants.{GoesOn, Ends}
+use Rattle.std.specs.declared.option.Option.{Option as CodeOption}
+use Rattle.std.specs.declared.option.Option.TheVariants.{Some, None}
 
 -- The block b is a well-formed configuration of the accepted script s.
 pub record Standing (s b : List ℕ) : Type 0 where
@@ -19,6 +19,6 @@ pub record Standing (s b : List ℕ) : Type 0 where
   pub formed : WellFormed (code_of s) limits type config
 
 -- What Run sees when it looks, as the code says it.
-abbrev pub look_of : Option Ending → Looked
-look_of none = GoesOn
-look_of (some k) = Ends k
+abbrev pub look_of : Option Ending → CodeOption Ending
+look_of none = None
+look_of (some k) = Some k

@@ -7,10 +7,3 @@ mod marks;
 pub use looks::{can_move, look};
 use machine::Ending;
 pub use marks::mark;
-
-// What Run sees when it looks: the run goes on, or has ended.
-#[derive(Clone, Copy)]
-pub enum Looked {
-    GoesOn,
-    Ends(Ending),
-}

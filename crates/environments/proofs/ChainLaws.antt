@@ -16,8 +16,9 @@ use Rattle.soundness.proofs.Stores.{scope_older, scope_newest, scope_empty}
 use Rattle.block.specs.declared.Area.TheVariants.{Bindings}
 use Rattle.block.specs.Layout.{word_in, NAME, BOUND, LINK}
 use Rattle.block.specs.Values.{value_in}
-use Rattle.environments.specs.declared.Lookup.TheVariants.{Unbound, Bound}
-use Rattle.environments.specs.Chains.{binding_count, binding_at, newest, bindings_in, Chain, lookup_of}
+use Rattle.std.specs.declared.option.Option.{Option as CodeOption}
+use Rattle.std.specs.declared.option.Option.TheVariants.{Some, None}
+use Rattle.environments.specs.Chains.{binding_count, binding_at, newest, bindings_in, Chain, Nearest, bound_at, unbound, lookup_of}
 
 pub length_newest : {A : Type 0} (f : ℕ → A) (n : ℕ) → length (newest f n) ≡ n
 length_newest f zero = refl
@@ -64,18 +65,13 @@ module _ {b : List ℕ} {env x : ℕ} (ch : Chain b env) where
         let s : suc (e - 1) ≡ e = omega arith in
         w.same ∙ ap (λ (l : List Binding). find l x) (ap (scope (bindings_in b)) (sym s) ∙ chain_link b env (e - 1) ch (omega (arith, w.within)))
 
-    pub found :
-        (name : ℕ) (v : Value)
-        → name ≡ word_in b Bindings (e - 1) NAME
-        → name ≡ x
-        → v ≡ value_in (word_in b Bindings (e - 1)) BOUND
-        → Bound v ≡ lookup_of (find (scope (bindings_in b) env) x)
+    pub found : (name : ℕ) → name ≡ word_in b Bindings (e - 1) NAME → name ≡ x → Nearest b env x (Some (e - 1))
     unfolding named
-    found name v n h k =
+    found name n h =
         let here : find (binding_at b (e - 1) ∷ scope (bindings_in b) (binding_at b (e - 1)).link) x ≡ some (binding_at b (e - 1)) =
         rw (eq-eqb (word_in b Bindings (e - 1) NAME) x (sym n ∙ h))
         in
-        ap Bound k ∙ sym (ap lookup_of (step ∙ here))
+        bound_at {i = e - 1} (omega (arith, w.within)) (step ∙ here)
 
     pub reached : e - 1 < BINDINGS
     reached = omega (arith, w.within, ch.few)
@@ -91,9 +87,25 @@ module _ {b : List ℕ} {env x : ℕ} (ch : Chain b env) where
           same = step ∙ rw (ne_eqb (word_in b Bindings (e - 1) NAME) x (λ m. h (n ∙ m)), l);
         }
 
-  pub not_found : {e : ℕ} → Walked b env x e → (0 < e → ⊥) → Unbound ≡ lookup_of (find (scope (bindings_in b) env) x)
+  pub not_found : {e : ℕ} → Walked b env x e → (0 < e → ⊥) → Nearest b env x None
   unfolding named
   not_found {e} w h =
       let z : e ≡ 0 = omega arith in
       let nothing : find (scope (bindings_in b) e) x ≡ none = rw z (ap (λ (l : List Binding). find l x) (scope_empty (bindings_in b))) in
-      sym (ap lookup_of (w.same ∙ nothing))
+      unbound (w.same ∙ nothing)
+
+-- What the nearest binding says.
+module _ {b : List ℕ} {env x : ℕ} where
+  pub nearest_none : {r : CodeOption ℕ} → Nearest b env x r → r ≡ None → find (scope (bindings_in b) env) x ≡ none
+  nearest_none (bound_at l e) q = absurd (let z : ◌≡◌ {A = ℕ} 0 1 = cc in omega arith)
+  nearest_none (unbound e) q = e
+
+  pub nearest_at : {r : CodeOption ℕ} {i : ℕ} → Nearest b env x r → r ≡ Some i → (i < binding_count b) × (find (scope (bindings_in b) env) x ≡ some (binding_at b i))
+  nearest_at {i = i} (bound_at {i = j} l e) q = let z : i ≡ j = cc in rw z (l, e)
+  nearest_at (unbound e) q = absurd (let z : ◌≡◌ {A = ℕ} 0 1 = cc in omega arith)
+
+  pub no_value : {r : CodeOption ℕ} → Nearest b env x r → r ≡ None → None ≡ lookup_of (find (scope (bindings_in b) env) x)
+  no_value h q = rw (nearest_none h q)
+
+  pub value_at : {r : CodeOption ℕ} {i : ℕ} → Nearest b env x r → r ≡ Some i → (v : Value) → v ≡ value_in (word_in b Bindings i) BOUND → Some v ≡ lookup_of (find (scope (bindings_in b) env) x)
+  value_at h q v e = rw ((nearest_at h q).1, e)

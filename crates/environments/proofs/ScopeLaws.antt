@@ -6,22 +6,20 @@ use mathlib.Core.Option
 use mathlib.Core.Option.{Option, none, some}
 use Prim.Native.Nat.{ℕ, suc, ◌-◌, ◌<◌, ◌≤◌}
 use native.Mathlib.Omega.{arith}
-use borrow.Author.Tests.{eq-eqb}
 use lib.Dec.{eqb}
 use Rattle.limits.specs.Limits.{BINDINGS}
-use Rattle.words.specs.Word.{WORD}
 use Rattle.script.specs.Lists.{named}
 use Rattle.script.specs.Syntax.{Slot}
-use Rattle.script.specs.declared.Found.TheVariants.{At, Nothing}
+use Rattle.std.specs.declared.option.Option.{Option as CodeOption}
+use Rattle.std.specs.declared.option.Option.TheVariants.{Some, None}
 use Rattle.sections.specs.Laid.{found_of}
 use Rattle.typing.specs.Members.{type_in}
 use Rattle.machine.specs.Config.{Binding}
 use Rattle.machine.specs.Machine.{scope, slot, find, context}
 use Rattle.block.specs.declared.Area.TheVariants.{Bindings}
 use Rattle.block.specs.Layout.{word_in, NAME, TYPE, LINK}
-use Rattle.environments.specs.declared.Lookup.TheVariants.{Unbound}
-use Rattle.environments.specs.Chains.{binding_count, binding_at, bindings_in, Chain, lookup_of}
-use Rattle.environments.proofs.ChainLaws.{chain_link, Walked, not_found}
+use Rattle.environments.specs.Chains.{binding_count, binding_at, bindings_in, Chain, Nearest}
+use Rattle.environments.proofs.ChainLaws.{chain_link, nearest_at, nearest_none}
 
 -- the type under a name is the one of the nearest binding
 abbrev type_of : Option Binding → Option ℕ
@@ -37,25 +35,16 @@ type_found (b ∷ l) x = go (eqb b.name x) (type_found l x)
     go true h = refl
     go false h = h
 
--- a walk that looks for x has found it, or the chain has ended
-module _ {b : List ℕ} {env x : ℕ} (ch : Chain b env) {e : ℕ} (w : Walked b env x e) where
-  pub type_here : 0 < e → (name t : ℕ) → name ≡ word_in b Bindings (e - 1) NAME → name ≡ x → t ≡ word_in b Bindings (e - 1) TYPE
-      → At t ≡ found_of (type_in (context (bindings_in b) env) x)
-  unfolding named
-  type_here more name t n h k =
-      let s : suc (e - 1) ≡ e = omega arith in
-      let here : find (binding_at b (e - 1) ∷ scope (bindings_in b) (binding_at b (e - 1)).link) x ≡ some (binding_at b (e - 1)) =
-      rw (eq-eqb (word_in b Bindings (e - 1) NAME) x (sym n ∙ h))
-      in
-      let walked = ap (λ (l : List Binding). find l x) (ap (scope (bindings_in b)) (sym s) ∙ chain_link b env (e - 1) ch (omega (arith, w.within))) in
-      ap At k ∙ sym (ap found_of (type_found (scope (bindings_in b) env) x ∙ ap type_of (w.same ∙ walked ∙ here)))
+-- what the nearest binding says of the type
+module _ {b : List ℕ} {env x : ℕ} {r : CodeOption ℕ} (h : Nearest b env x r) where
+  type_as : type_in (context (bindings_in b) env) x ≡ type_of (find (scope (bindings_in b) env) x)
+  type_as = type_found (scope (bindings_in b) env) x
 
-  pub no_type : (0 < e → ⊥) → Nothing ≡ found_of (type_in (context (bindings_in b) env) x)
-  no_type h = go (find (scope (bindings_in b) env) x) (not_found ch w h) ∙ sym (ap found_of (type_found (scope (bindings_in b) env) x))
-    where
-      go : (o : Option Binding) → Unbound ≡ lookup_of o → Nothing ≡ found_of (type_of o)
-      go none k = refl
-      go (some d) k = absurd (let z : ◌≡◌ {A = ℕ} 0 1 = cc in omega arith)
+  pub type_at : {i : ℕ} → r ≡ Some i → (t : ℕ) → t ≡ word_in b Bindings i TYPE → Some t ≡ found_of (type_in (context (bindings_in b) env) x)
+  type_at q t e = rw (type_as, (nearest_at h q).1, e)
+
+  pub no_type : r ≡ None → None ≡ found_of (type_in (context (bindings_in b) env) x)
+  no_type q = rw (type_as, nearest_none h q)
 
 -- Two walks in step, along the chains of e and f, have come to i and j.
 pub record InStep (b : List ℕ) (e f i j : ℕ) : Type 0 where
@@ -107,10 +96,3 @@ pub slot_same : (b : List ℕ) (i j x y t u : ℕ)
     → x ≡ word_in b Bindings i NAME → y ≡ word_in b Bindings j NAME → x ≡ y → t ≡ word_in b Bindings i TYPE → u ≡ word_in b Bindings j TYPE → t ≡ u
     → slot (binding_at b i) ≡ slot (binding_at b j)
 slot_same b i j x y t u ex ey h et eu k = rw (← ex, ← ey, ← et, ← eu, h, k)
-
--- the type that is found is a word
-pub small_type : {w : ℕ} → w < WORD → (t : ℕ) → At w ≡ At t → t < WORD
-small_type {w} h t e = let z : w ≡ t = cc in rw z at h
-
-pub small_none : (t : ℕ) → Nothing ≡ At t → t < WORD
-small_none t e = absurd (let z : ◌≡◌ {A = ℕ} 0 1 = cc in omega arith)

@@ -13,8 +13,8 @@ use Rattle.script.specs.Lists.{named}
 use Rattle.script.specs.Syntax.{Slot}
 use Rattle.slices.specs.Zero.{AllZero}
 use Rattle.typing.specs.Members.{type_in}
-use Rattle.names.specs.declared.Rank.{Rank}
-use Rattle.names.specs.declared.Rank.TheVariants.{Unnamed, At}
+use Rattle.std.specs.declared.option.Option.{Option as CodeOption}
+use Rattle.std.specs.declared.option.Option.TheVariants.{Some, None}
 use Rattle.names.specs.Ranks.{RankOf}
 use Rattle.names.specs.Filling.{RankIs}
 use Rattle.names.specs.Facts.{Facts}
@@ -27,12 +27,12 @@ use Rattle.environments.specs.Chains.{binding_count, binding_at, bindings_in, Ch
 use Rattle.environments.proofs.ChainLaws.{chain_link}
 
 -- A variable's type is noted: it has no rank, or the word at its rank stands, or is 0 and is stored over.
-pub noted_absent : {s facts : List ℕ} (table : List ℕ) (name t : ℕ) (r : Rank) → RankIs s facts name r → r ≡ Unnamed → TypeStored s facts table name t table
+pub noted_absent : {s facts : List ℕ} (table : List ℕ) (name t : ℕ) (r : CodeOption ℕ) → RankIs s facts name r → r ≡ None → TypeStored s facts table name t table
 noted_absent {s} {facts} table name t r g e =
     let h : (k : ℕ) → RankOf s facts name k → ⊥ = rw e at g in
     record { size = refl; here = λ k j. absurd (h k j); elsewhere = λ x k j n. refl }
 
-pub ranked_at : {s facts : List ℕ} (name i : ℕ) (r : Rank) → RankIs s facts name r → r ≡ At i → RankOf s facts name i
+pub ranked_at : {s facts : List ℕ} (name i : ℕ) (r : CodeOption ℕ) → RankIs s facts name r → r ≡ Some i → RankOf s facts name i
 ranked_at name i r g e = rw e at g
 
 module _ {s facts : List ℕ} (f : Facts s facts) (table : List ℕ) (name t i : ℕ) (h : RankOf s facts name i) where

@@ -8,11 +8,13 @@ use Rattle.typing.specs.Members.{type_in}
 use Rattle.names.specs.Ranks.{RankOf}
 use Rattle.inference.specs.Tables.{bound_word}
 use Rattle.machine.specs.Config.{Binding}
+use Rattle.machine.specs.Machine.{scope, find}
 use Rattle.block.specs.declared.Area.TheVariants.{Bindings}
 use Rattle.block.specs.Layout.{counted, word_in, TYPE, LINK}
 use Rattle.block.specs.Decode.{binding_in}
-use Rattle.environments.specs.declared.Lookup.{Lookup}
-use Rattle.environments.specs.declared.Lookup.TheVariants.{Unbound, Bound}
+use Rattle.machine.specs.declared.Value.{Value}
+use Rattle.std.specs.declared.option.Option.{Option as CodeOption}
+use Rattle.std.specs.declared.option.Option.TheVariants.{Some, None}
 
 -- How many bindings a block says that it has, and the one with number i: "(name, type, value, the binding beneath)".
 abbrev pub binding_count : List ℕ → ℕ
@@ -37,9 +39,14 @@ pub record Chain (b : List ℕ) (e : ℕ) : Type 0 where
   pub within : e ≤ binding_count b
 
 -- What a look-up answers, as the code says it.
-abbrev pub lookup_of : Option Binding → Lookup
-lookup_of none = Unbound
-lookup_of (some x) = Bound x.value
+abbrev pub lookup_of : Option Binding → CodeOption Value
+lookup_of none = None
+lookup_of (some x) = Some x.value
+
+-- The number of the nearest binding of the variable x in the environment e, as the code says it.
+pub data Nearest (b : List ℕ) (e x : ℕ) : CodeOption ℕ → Type 0 where
+  bound_at : {i : ℕ} → i < binding_count b → find (scope (bindings_in b) e) x ≡ some (binding_at b i) → Nearest b e x (Some i)
+  unbound : find (scope (bindings_in b) e) x ≡ none → Nearest b e x None
 
 -- Every binding's type is less than the last word, so that one more than it is a word.
 abbrev pub Typed : List ℕ → Type 0

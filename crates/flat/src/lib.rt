@@ -5,7 +5,8 @@ ghost use Rattle.std.specs.Prelude.{◌≡◌, ◌*◌};
 ghost use Rattle.grammar.specs.Roles as roles_spec;
 ghost use Rattle.flat.specs.Flat as flat_spec;
 
-// Deeds, and the points and closers beside them. `specs/Flat.antt` says what each one is.
+// Deeds, and the points and closers beside them. `specs/Flat.antt` says what each one is. They are numbers and no enums: it numbers them, and the judge's table
+// packs them into the bits of an entry, which is read at each token.
 pub const STUCK: u8 = 0;
 
 pub const OCCURS: u8 = 2;
@@ -30,6 +31,7 @@ pub const TOP: u8 = 0;
 
 pub const TOP_C: u8 = 14;
 
+// `Roles::BINDING` of token_words is the same number: neither crate needs the other, and both are equal to the one definition in grammar's Roles.
 // Roles are below this number, in which a variable's binding is counted: the parameter's is 1, another's 2.
 pub const BINDING: u8 = 32;
 

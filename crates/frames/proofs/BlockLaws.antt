@@ -15,7 +15,7 @@ use Rattle.parts.specs.Parts.{config_read}
 use Rattle.frames.specs.Expecting.{frames_in}
 use Rattle.awaited.specs.Awaited.{ScopedBlock}
 
-module _ {s starts facts table b : List ℕ} (y : ScopedBlock s starts facts table b) where
+module _ {s b : List ℕ} (y : ScopedBlock s b) where
   held : (encode (config_read s b) ≡ b) × Fits (field_count s) (config_read s b)
   held = encode_decode (field_count s) b (config_read s b) (in_order_decodes (field_count s) b y.in_order)
 

@@ -17,8 +17,8 @@ use Rattle.block.specs.declared.Area.TheVariants.{Frames}
 use Rattle.block.specs.Layout.{counted}
 use Rattle.block.specs.Block.{Parts, parts_of, laid}
 use Rattle.environments.specs.Chains.{bindings_in}
-use Rattle.awaited.specs.declared.Expects.{Expects}
-use Rattle.awaited.specs.declared.Expects.TheVariants.{No, Wants}
+use Rattle.std.specs.declared.option.Option.{Option as CodeOption}
+use Rattle.std.specs.declared.option.Option.TheVariants.{Some, None}
 use Rattle.awaited.specs.declared.Waits.{Waits}
 use Rattle.awaited.specs.Awaited.{expects_of, wants_of, ScopedBlock}
 use Rattle.parts.specs.Parts.{config_read}
@@ -26,11 +26,11 @@ use Rattle.frames.specs.Expecting.{AwaitsAs, CastsAs, frame_step, frames_in, fra
 use Rattle.frames.proofs.BlockLaws.{in_block, frames_many}
 
 -- what an answer says
-pub is_none : (o : Option Want) (r : Expects) → r ≡ expects_of o → r ≡ No → o ≡ none
+pub is_none : (o : Option Want) (r : CodeOption Want) → r ≡ expects_of o → r ≡ None → o ≡ none
 is_none none r e f = refl
 is_none (some w) r e f = absurd (let z : ◌≡◌ {A = ℕ} 0 1 = cc in omega arith)
 
-pub is_some : (o : Option Want) (r : Expects) (v : Want) → r ≡ expects_of o → r ≡ Wants v → o ≡ some v
+pub is_some : (o : Option Want) (r : CodeOption Want) (v : Want) → r ≡ expects_of o → r ≡ Some v → o ≡ some v
 is_some none r v e f = absurd (let z : ◌≡◌ {A = ℕ} 0 1 = cc in omega arith)
 is_some (some w) r v e f = let z : w ≡ v = cc in ap some z
 
@@ -50,7 +50,14 @@ module _ (s : Code) (bs : List Binding) (w : Want) where
   expects_none [] gs h = h
   expects_none (f ∷ fs) gs h = expects_more f (fs ++ gs) ∙ ap (λ (o : Option Want). given o (λ v. frame_step s bs f v)) (expects_none fs gs h)
 
-module _ {s starts facts table b : List ℕ} (y : ScopedBlock s starts facts table b) where
+-- nothing is expected above a frame that waits for nothing, and what is expected above one that waits so
+pub waits_nothing : (s : List ℕ) (v : Want) (w : CodeOption Waits) (r : CodeOption Want) → w ≡ None → r ≡ None → r ≡ expects_of (wants_of (code_of s) v w)
+waits_nothing s v w r e f = rw (e, f)
+
+pub waits_so : (s : List ℕ) (v : Want) (w : CodeOption Waits) (x : Waits) (r : CodeOption Want) → w ≡ Some x → r ≡ expects_of (wants_of (code_of s) v (Some x)) → r ≡ expects_of (wants_of (code_of s) v w)
+waits_so s v w x r e h = rw e h
+
+module _ {s b : List ℕ} (y : ScopedBlock s b) where
   pub frame_place : (i : ℕ) → i < counted b Frames → i < FRAMES
   frame_place i l = omega (arith, (y.in_order.areas Frames).few)
 
@@ -59,7 +66,7 @@ module _ {s starts facts table b : List ℕ} (y : ScopedBlock s starts facts tab
     frame_known : f ≡ get_or (frames_in s b) i (awaits 0 0)
     frame_known = read (parts_of (config_read s b)) (in_block y) (omega (arith, frames_many y))
 
-    module _ (v : Want) (w : Waits) (r : Expects) (er : r ≡ expects_of (wants_of (code_of s) v w)) where
+    module _ (v : Want) (w : CodeOption Waits) (r : CodeOption Want) (er : r ≡ expects_of (wants_of (code_of s) v w)) where
       pub frame_awaits : (n e : ℕ) → f ≡ awaits n e → AwaitsAs s b n e w
           → r ≡ expects_of (frame_step (code_of s) (bindings_in b) (get_or (frames_in s b) i (awaits 0 0)) v)
       frame_awaits n e k h = rw (← frame_known, k, h v) er
@@ -68,7 +75,7 @@ module _ {s starts facts table b : List ℕ} (y : ScopedBlock s starts facts tab
           → r ≡ expects_of (frame_step (code_of s) (bindings_in b) (get_or (frames_in s b) i (awaits 0 0)) v)
       frame_casts n k h = rw (← frame_known, k, h v) er
 
-    pub frame_locks : (v : Want) (o : ℕ) → f ≡ locks o → Wants v ≡ expects_of (frame_step (code_of s) (bindings_in b) (get_or (frames_in s b) i (awaits 0 0)) v)
+    pub frame_locks : (v : Want) (o : ℕ) → f ≡ locks o → Some v ≡ expects_of (frame_step (code_of s) (bindings_in b) (get_or (frames_in s b) i (awaits 0 0)) v)
     frame_locks v o k = rw (← frame_known, k)
 
 -- The walk over n frames from number `from` on has passed k of them, with the table as it was before.
@@ -80,7 +87,7 @@ pub record Climbed (s b before table : List ℕ) (from n : ℕ) (want : Want) (k
 pub climb_begun : (s b table : List ℕ) (from n : ℕ) (want : Want) → Climbed s b table table from n want 0 want
 climb_begun s b table from n want = record { within = omega arith; same = refl; so_far = refl }
 
-module _ {s starts facts before table b : List ℕ} (y : ScopedBlock s starts facts before b) {from n : ℕ} (l : from + n ≤ counted b Frames) {want : Want} {k : ℕ} {w : Want} (x : Climbed s b before table from n want k w) where
+module _ {s before table b : List ℕ} (y : ScopedBlock s b) {from n : ℕ} (l : from + n ≤ counted b Frames) {want : Want} {k : ℕ} {w : Want} (x : Climbed s b before table from n want k w) where
   module _ (h : k < n) where
     pub climb_place : from + k < counted b Frames
     climb_place = omega arith
@@ -97,11 +104,11 @@ module _ {s starts facts before table b : List ℕ} (y : ScopedBlock s starts fa
         (expects_more (code_of s) (bindings_in b) want (get_or (frames_in s b) (from + k) (awaits 0 0)) (reverse (take k fs))
         ∙ ap (λ (o : Option Want). given o (λ v. frame_step (code_of s) (bindings_in b) (get_or (frames_in s b) (from + k) (awaits 0 0)) v)) x.so_far)
 
-    module _ (r : Expects) (er : r ≡ expects_of (frame_step (code_of s) (bindings_in b) (get_or (frames_in s b) (from + k) (awaits 0 0)) w)) where
-      pub climb_more : {after : List ℕ} → after ≡ table → (v : Want) → r ≡ Wants v → Climbed s b before after from n want (k + 1) v
+    module _ (r : CodeOption Want) (er : r ≡ expects_of (frame_step (code_of s) (bindings_in b) (get_or (frames_in s b) (from + k) (awaits 0 0)) w)) where
+      pub climb_more : {after : List ℕ} → after ≡ table → (v : Want) → r ≡ Some v → Climbed s b before after from n want (k + 1) v
       climb_more e v f = record { within = omega arith; same = e ∙ x.same; so_far = next ∙ is_some (frame_step (code_of s) (bindings_in b) (get_or (frames_in s b) (from + k) (awaits 0 0)) w) r v er f }
 
-      pub climb_stopped : r ≡ No → No ≡ expects_of (expects (code_of s) (bindings_in b) want (frames_from s b from n))
+      pub climb_stopped : r ≡ None → None ≡ expects_of (expects (code_of s) (bindings_in b) want (frames_from s b from n))
       climb_stopped f =
           let fs : List Frame = drop from (frames_in s b) in
           let rest : List Frame = take (n - (k + 1)) (drop (k + 1) fs) in
@@ -112,5 +119,5 @@ module _ {s starts facts before table b : List ℕ} (y : ScopedBlock s starts fa
           let none_here = next ∙ is_none (frame_step (code_of s) (bindings_in b) (get_or (frames_in s b) (from + k) (awaits 0 0)) w) r er f in
           rw (e, expects_none (code_of s) (bindings_in b) want (reverse rest) (reverse (take (k + 1) fs)) none_here)
 
-  pub climb_done : (k < n → ⊥) → Wants w ≡ expects_of (expects (code_of s) (bindings_in b) want (frames_from s b from n))
+  pub climb_done : (k < n → ⊥) → Some w ≡ expects_of (expects (code_of s) (bindings_in b) want (frames_from s b from n))
   climb_done h = let e : n ≡ k = omega (arith, x.within) in rw (e, x.so_far)

@@ -29,8 +29,8 @@ use Rattle.representation.proofs.Places.{frame_at}
 use Rattle.representation.proofs.InOrder.{sum_same}
 use Rattle.representation.proofs.Ordered.{frame_number, at_in}
 use Rattle.environments.specs.Chains.{bindings_in}
-use Rattle.awaited.specs.declared.Expects.{Expects}
-use Rattle.awaited.specs.declared.Expects.TheVariants.{No, Wants}
+use Rattle.std.specs.declared.option.Option.{Option as CodeOption}
+use Rattle.std.specs.declared.option.Option.TheVariants.{Some, None}
 use Rattle.awaited.specs.Awaited.{expects_of, ScopedBlock}
 use Rattle.parts.specs.Parts.{config_read}
 use Rattle.frames.specs.Expecting.{frames_in, frames_from, frames_before, place_at, node_meets_test, position_test}
@@ -38,7 +38,7 @@ use Rattle.frames.proofs.BlockLaws.{in_block, storable, frames_many}
 use Rattle.frames.proofs.FrameLaws.{is_none, is_some}
 use Rattle.values.proofs.ReadLaws.{bindings_read}
 
-module _ {s starts facts table b : List ℕ} (y : ScopedBlock s starts facts table b) where
+module _ {s b : List ℕ} (y : ScopedBlock s b) where
   pub places_many : counted b Positions ≡ length (preorder (config_read s b).tree)
   places_many =
       ap (λ (x : List ℕ). counted x Positions) (in_block y)
@@ -113,7 +113,7 @@ module _ (s : Code) (st : Stores) (v : Want) where
   node_fits (join fs a e l r) u k j f = rw f
 
 -- one law for each answer
-module _ {s starts facts table b : List ℕ} (y : ScopedBlock s starts facts table b) (i : ℕ) (h : i < counted b Positions) (v : Want) (kind : ℕ) (ek : kind ≡ word_in b Positions i 0) where
+module _ {s b : List ℕ} (y : ScopedBlock s b) (i : ℕ) (h : i < counted b Positions) (v : Want) (kind : ℕ) (ek : kind ≡ word_in b Positions i 0) where
   abbrev Tests : Bool → Type 0
   Tests m = m ≡ position_test (code_of s) (config_read s b).stores v (place_at s b i)
 
@@ -123,17 +123,17 @@ module _ {s starts facts table b : List ℕ} (y : ScopedBlock s starts facts tab
   pub place_failed : kind ≡ 3 → Tests true
   place_failed k = failed_fits (code_of s) (config_read s b).stores v (place_at s b i) (sym kind_is ∙ k)
 
-  module _ (k : kind ≡ 3 → ⊥) (from n : ℕ) (begins : from ≡ frames_before b i) (many : n ≡ word_in b Positions i WAITING) (r : Expects)
+  module _ (k : kind ≡ 3 → ⊥) (from n : ℕ) (begins : from ≡ frames_before b i) (many : n ≡ word_in b Positions i WAITING) (r : CodeOption Want)
       (er : r ≡ expects_of (expects (code_of s) (bindings_in b) v (frames_from s b from n))) where
     answer : r ≡ expects_of (expects (code_of s) (config_read s b).stores.bindings v (waiting (place_at s b i)))
     answer = rw (bindings_read (field_count s) b, ← frames_own y i h from n begins many) er
 
-    pub place_misfit : r ≡ No → Tests false
+    pub place_misfit : r ≡ None → Tests false
     place_misfit f =
         frames_misfit (code_of s) (config_read s b).stores v (place_at s b i) (λ z. k (kind_is ∙ z))
         (is_none (expects (code_of s) (config_read s b).stores.bindings v (waiting (place_at s b i))) r answer f)
 
-    module _ (u : Want) (f : r ≡ Wants u) where
+    module _ (u : Want) (f : r ≡ Some u) where
       wanted : expects (code_of s) (config_read s b).stores.bindings v (waiting (place_at s b i)) ≡ some u
       wanted = is_some (expects (code_of s) (config_read s b).stores.bindings v (waiting (place_at s b i))) r u answer f
 

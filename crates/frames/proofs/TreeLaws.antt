@@ -90,7 +90,7 @@ pub pass_begun : (s b table : List ℕ) (w : Want) → Passed s b table table w 
 unfolding sum_below
 pass_begun s b table w = record { within = omega arith; same = refl; begins = refl; expected = refl; each = λ k h. absurd (omega arith) }
 
-module _ {s starts facts before table b : List ℕ} (y : ScopedBlock s starts facts before b) {w want : Want} {from i : ℕ} (x : Passed s b before table w from i want) where
+module _ {s before table b : List ℕ} (y : ScopedBlock s b) {w want : Want} {from i : ℕ} (x : Passed s b before table w from i want) where
   pub pass_room : i < counted b Positions → (n : ℕ) → n ≡ word_in b Positions i WAITING → from + n ≤ FRAMES
   pass_room h n en = omega (arith, frames_within y i h from n x.begins en, (y.in_order.areas Frames).few)
 

@@ -16,6 +16,7 @@ use Rattle.block.specs.Layout.{word_in, WAITING}
 use Rattle.block.specs.Block.{preorder, frames_of}
 use Rattle.parts.specs.Parts.{config_read}
 use Rattle.environments.specs.Chains.{bindings_in}
+use Rattle.std.specs.declared.option.Option.{Option as CodeOption}
 use Rattle.awaited.specs.declared.Waits.{Waits}
 use Rattle.awaited.specs.Awaited.{wants_of}
 
@@ -27,10 +28,10 @@ abbrev pub casts_step : Code → Point → Want → Option Want
 casts_step s n v = only (ltb n s.size) (given (cast_type (s.view n)) (λ t. wants s t v t))
 
 -- What the frame of a node that awaits, and of a cast, waits for, whatever is expected beneath it.
-abbrev pub AwaitsAs : List ℕ → List ℕ → Point → ℕ → Waits → Type 0
+abbrev pub AwaitsAs : List ℕ → List ℕ → Point → ℕ → CodeOption Waits → Type 0
 AwaitsAs s b n e r = (v : Want) → awaits_step (code_of s) (bindings_in b) n e v ≡ wants_of (code_of s) v r
 
-abbrev pub CastsAs : List ℕ → Point → Waits → Type 0
+abbrev pub CastsAs : List ℕ → Point → CodeOption Waits → Type 0
 CastsAs s n r = (v : Want) → casts_step (code_of s) n v ≡ wants_of (code_of s) v r
 
 abbrev pub frame_step : Code → List Binding → Frame → Want → Option Want

@@ -8,6 +8,7 @@ ghost use Rattle.state.specs.Represents.{SomeState};
 ghost use Rattle.state.specs.Positions.{entries_in};
 ghost use Rattle.held.specs.Holding.{is_lock, LockWithin, Held};
 
+use limits::Limits;
 use machine::Frame;
 use state::{beneath_at, frames_before};
 
@@ -15,47 +16,39 @@ use state::{beneath_at, frames_before};
 fn locks(f: Frame, o: u16) -> bool
     ensures { result ≡ is_lock o f }
 {
-    match f {
-        Frame::Awaits(_, _) => false,
-        Frame::Casts(_) => false,
-        Frame::Locks(p) => o == p,
-    }
+    matches!(f, Frame::Locks(p) if o == p)
 }
 
 // Is one of the frames from `from` up to `to` a lock frame of object o?
-fn lock_within(block: &[u8], from: usize, to: usize, o: u16) -> bool
-    requires { (length block.now ≡ BLOCK) × (to ≤ FRAMES) }
+fn lock_within(block: &[u8; Limits::BLOCK], from: usize, to: usize, o: u16) -> bool
+    requires { to ≤ FRAMES }
     ensures { LockWithin block.now from to o result }
 {
-    let mut i = from;
-    while i < to {
+    for i in from..to {
         let f = areas::frame(block, i);
         if locks(f, o) {
             return true;
         }
-        i += 1;
     }
     false
 }
 
 // Where the joins begin of which the thread at `i` is the leftmost thread.
-fn leftmost_from(block: &[u8], i: usize) -> usize
-    requires { (length block.now ≡ BLOCK) × (i ≤ counted block.now Positions) × (counted block.now Positions ≤ POSITIONS) }
+fn leftmost_from(block: &[u8; Limits::BLOCK], i: usize) -> usize
+    requires { (i ≤ counted block.now Positions) × (counted block.now Positions ≤ POSITIONS) }
     ensures { Leftmost (entries_in block.now) i result }
 {
-    let mut k = i;
-    while 0 < k {
-        if beneath_at(block, k - 1) == 0 {
-            return k;
+    for k in (0..i).rev() {
+        if beneath_at(block, k) == 0 {
+            return k + 1;
         }
-        k -= 1;
     }
-    k
+    0
 }
 
 // Does the thread at position i hold object o? The frames that it will resume stand together: those of the joins of which it is the leftmost thread, and its
 // own.
-pub fn holds(block: &[u8], i: usize, o: u16) -> bool
+pub fn holds(block: &[u8; Limits::BLOCK], i: usize, o: u16) -> bool
     requires { SomeState block.now i }
     ensures { Held block.now i o result }
 {

@@ -14,3 +14,16 @@ after_no (fails n) e q = n q
 
 pub refused : {P Q : Type 0} {r : Bool} → (Q → P) → Decides P r → not r ≡ true → Decides Q false
 refused part d e = fails (λ q. after_no d e (part q))
+
+-- Of two parts the second is asked only after a yes to the first.
+pub both_asked : {P Q : Type 0} {p q v : Bool} → Decides P p → p ≡ true → Decides Q q → v ≡ q → Decides (P × Q) v
+both_asked d e (holds q) z = rw z (holds (says_yes d e, q))
+both_asked d e (fails n) z = rw z (fails (λ x. n x.1))
+
+pub first_refused : {P Q : Type 0} {p v : Bool} → Decides P p → p ≡ false → v ≡ p → Decides (P × Q) v
+first_refused (holds p) e z = absurd (true_false e)
+first_refused (fails n) e z = rw z (fails (λ x. n x.0))
+
+pub said_no : {P : Type 0} {r : Bool} → Decides P r → r ≡ false → P → ⊥
+said_no (holds p) e q = true_false e
+said_no (fails n) e q = n q

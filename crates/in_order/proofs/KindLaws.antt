@@ -4,19 +4,19 @@ use mathlib.Core.Bool.{Bool, true, false, not}
 use mathlib.Core.List.{List}
 use Prim.Native.Nat.{ℕ, ◌<◌, ◌≤◌}
 use native.Mathlib.Omega.{arith}
+use native.Mathlib.Decide.{ℕ_discrete}
 use lib.ListN.{length}
 use Rattle.limits.specs.Limits.{CLASS_FIELDS}
 use Rattle.script.specs.Lists.{sum_below}
-use Rattle.script.specs.Syntax.{Declaration, a_unit, an_interface, a_class, an_int, no_type, declaration_at}
-use Rattle.script.specs.Reading.{own_fields, field_at, class_at, program_of}
+use Rattle.script.specs.Reading.{own_fields, field_at, class_at}
 use Rattle.script.specs.Asking.{Decides, holds, fails}
 use Rattle.script.specs.Statements.{WithinLayout}
 use Rattle.script.proofs.Lists.{length_run}
 use Rattle.script.proofs.Tests.{decides_as}
 use Rattle.subtypes.specs.declared.Declared.{Declared}
-use Rattle.subtypes.specs.declared.Declared.TheVariants.{Interface as is_interface, Class as is_class, Neither as is-neither}
-use Rattle.subtypes.specs.Subtypes.{Memberless, DeclaredAs}
-use Rattle.subtypes.proofs.SubtypeLaws.{class_there, type_interface, type_class, type_neither}
+use Rattle.subtypes.specs.declared.Declared.TheVariants.{Class as is_class}
+use Rattle.subtypes.specs.Subtypes.{DeclaredAs}
+use Rattle.subtypes.proofs.SubtypeLaws.{class_there, type_class, but_class}
 use Rattle.typing.specs.Members.{fields_from}
 use Rattle.machine.specs.Machine.{field_count}
 use Rattle.block.specs.declared.Area.TheVariants.{Objects, Positions, Frames}
@@ -27,23 +27,13 @@ use Rattle.in_order.proofs.Answers.{after_yes, refused}
 
 -- The fields of a type: only a class has some.
 module _ {s : List ℕ} {t : ℕ} {d : Declared} (h : DeclaredAs s t d) where
-  pub interface_fields : {i : ℕ} → d ≡ is_interface i → (0 ≡ field_count s t) × (0 ≤ CLASS_FIELDS)
-  interface_fields e = (rw (type_interface h e), omega arith)
-
   pub class_fields : {c : ℕ} (n : ℕ) → WithinLayout s → d ≡ is_class c → n ≡ own_fields s c → (n ≡ field_count s t) × (n ≤ CLASS_FIELDS)
   unfolding class_at
   class_fields {c} n w e q =
       (rw (type_class h e) (q ∙ sym (length_run (field_at s) (sum_below (own_fields s) c) (own_fields s c))), omega (arith, w.names_are.1.0 c (class_there h e).0))
 
-  pub no_fields : d ≡ is-neither → (0 ≡ field_count s t) × (0 ≤ CLASS_FIELDS)
-  no_fields e = (go (declaration_at (program_of s) t) (type_neither h e), omega arith)
-    where
-      go : (x : Declaration) → Memberless x → 0 ≡ length (fields_from x)
-      go a_unit m = refl
-      go (an_interface i) m = absurd m
-      go (a_class c) m = absurd m
-      go an_int m = refl
-      go no_type m = refl
+  pub no_fields : ((c : ℕ) → d ≡ is_class c → ⊥) → (0 ≡ field_count s t) × (0 ≤ CLASS_FIELDS)
+  no_fields n = (sym (but_class (λ x. length (fields_from x)) 0 refl (λ i. refl) refl refl h n), omega arith)
 
 -- An object.
 module _ (fields : ℕ → ℕ) (b : List ℕ) (i shut : ℕ) (p : shut ≡ word_in b Objects i SHUT) where
@@ -139,11 +129,8 @@ module _ (b : List ℕ) (i kind : ℕ) (p : kind ≡ word_in b Frames i KIND) wh
   awaits_known k = holds (is_awaits (sym p ∙ k))
 
   module _ {r : Bool} where
-    pub casts_asked : kind ≡ CASTS → Decides (Unused (word_in b Frames i) ENV (width Frames)) r → Decides (FrameOk (word_in b Frames i)) r
-    casts_asked k = decides_as (is_casts (sym p ∙ k)) (λ o. no_env o (λ e. omega (arith, p, k, e)))
-
-    pub locks_asked : kind ≡ LOCKS → Decides (Unused (word_in b Frames i) ENV (width Frames)) r → Decides (FrameOk (word_in b Frames i)) r
-    locks_asked k = decides_as (is_locks (sym p ∙ k)) (λ o. no_env o (λ e. omega (arith, p, k, e)))
+    pub opens_or_casts : CASTS ≤ kind → kind ≤ LOCKS → Decides (Unused (word_in b Frames i) ENV (width Frames)) r → Decides (FrameOk (word_in b Frames i)) r
+    opens_or_casts l h = decides_as (λ u. elim (ℕ_discrete kind CASTS) [ yes k ↦ is_casts (sym p ∙ k) u | no n ↦ is_locks (omega (arith, p, n)) u ]) (λ o. no_env o (λ e. omega (arith, p, l, e)))
 
   pub unknown_frame : (kind ≡ AWAITS → ⊥) → (kind ≡ CASTS → ⊥) → (kind ≡ LOCKS → ⊥) → Decides (FrameOk (word_in b Frames i)) false
   unknown_frame n m o = fails (λ ok. o (p ∙ known_frame ok (λ e. n (p ∙ e)) (λ e. m (p ∙ e))))

@@ -31,23 +31,28 @@ module _ (w : ℕ → ℕ) (j kind low high : ℕ) (kind_is : kind ≡ w j)
   no_high true o = refl
   no_high false o = refl
 
-  pub high_there : (kind ≡ INT → ⊥) → (high ≡ 0 → ⊥) → Decides (ValueOk w j) false
-  high_there n h = fails (λ ok. h (high_is.0 ∙ its_word n ok 2 (omega arith) ∙ no_high (eqb kind REF) (w (j + 1))))
+  -- an object, or a null, has no high word
+  no_number : (kind ≡ INT → ⊥) → ValueOk w j → high ≡ 0
+  no_number n ok = high_is.0 ∙ its_word n ok 2 (omega arith) ∙ no_high (eqb kind REF) (w (j + 1))
 
-  pub an_object : high ≡ 0 → kind ≡ REF → Decides (ValueOk w j) true
-  an_object h k = holds (three_ok w j (ref low) low-is.1 (sym kind_is ∙ k) (sym low-is.0) (sym high_is.0 ∙ h))
+  pub an_object : kind ≡ REF → Decides (ValueOk w j) (eqb high 0)
+  an_object k = decides_as (λ h. three_ok w j (ref low) low-is.1 (sym kind_is ∙ k) (sym low-is.0) (sym high_is.0 ∙ h)) (no_number (λ n. omega arith)) (decides_eq high 0)
 
   pub no_kind : (kind ≡ INT → ⊥) → (kind ≡ REF → ⊥) → (kind ≡ NULL → ⊥) → Decides (ValueOk w j) false
   no_kind n m h =
       let z : j + 0 ≡ j = omega arith in
       fails (λ ok. h (kind_is ∙ rw (z, ne_eqb kind REF m) at (its_word n ok 0 (omega arith))))
 
-  pub a_null : high ≡ 0 → kind ≡ NULL → Decides (ValueOk w j) (eqb low 0)
-  a_null h k =
-      decides_as
-      (λ l. three_ok w j nil _ (sym kind_is ∙ k) (sym low-is.0 ∙ l) (sym high_is.0 ∙ h))
-      (λ ok. low-is.0 ∙ rw k at (its_word (λ n. omega arith) ok 1 (omega arith)))
-      (decides_eq low 0)
+  module _ (k : kind ≡ NULL) where
+    low_none : ValueOk w j → low ≡ 0
+    low_none ok = low-is.0 ∙ rw k at (its_word (λ n. omega arith) ok 1 (omega arith))
+
+    pub a_null : low ≡ 0 → Decides (ValueOk w j) (eqb high 0)
+    a_null l =
+        decides_as (λ h. three_ok w j nil _ (sym kind_is ∙ k) (sym low-is.0 ∙ l) (sym high_is.0 ∙ h)) (no_number (λ n. omega arith)) (decides_eq high 0)
+
+    pub low_there : (low ≡ 0 → ⊥) → Decides (ValueOk w j) (eqb low 0)
+    low_there n = rw (ne_eqb low 0 n) (fails (λ ok. n (low_none ok)))
 
 -- the fields of an object
 module _ {w : ℕ → ℕ} where

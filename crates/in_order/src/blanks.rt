@@ -6,10 +6,11 @@ ghost use Rattle.block.specs.Layout.{WORDS, width, most, counted, word_in};
 ghost use Rattle.representation.specs.InOrder.{Unused, Blank, words_of};
 
 use block::{Area, begins_of, most_of, width_of};
+use limits::Limits;
 
 // Are the words of the block from `from` up to `to` 0?
-pub fn zeros(block: &[u8], from: usize, to: usize) -> bool
-    requires { (length block.now ≡ BLOCK) × (to ≤ WORDS) }
+pub fn zeros(block: &[u8; Limits::BLOCK], from: usize, to: usize) -> bool
+    requires { to ≤ WORDS }
     ensures { Decides (Unused (words_of block.now) from to) result }
 {
     if to <= from {
@@ -21,8 +22,8 @@ pub fn zeros(block: &[u8], from: usize, to: usize) -> bool
 }
 
 // Are the words of record i of an area from `from` up to `to` 0?
-pub fn unused(block: &[u8], a: Area, i: usize, from: usize, to: usize) -> bool
-    requires { (length block.now ≡ BLOCK) × (i < most a) × (from ≤ width a) × (to ≤ width a) }
+pub fn unused(block: &[u8; Limits::BLOCK], a: Area, i: usize, from: usize, to: usize) -> bool
+    requires { (i < most a) × (from ≤ width a) × (to ≤ width a) }
     ensures { Decides (Unused (word_in block.now a i) from to) result }
 {
     let first = begins_of(a);
@@ -32,8 +33,8 @@ pub fn unused(block: &[u8], a: Area, i: usize, from: usize, to: usize) -> bool
 }
 
 // Are the words of the records of an area that are not counted 0?
-pub fn blank(block: &[u8], a: Area) -> bool
-    requires { (length block.now ≡ BLOCK) × (counted block.now a ≤ most a) }
+pub fn blank(block: &[u8; Limits::BLOCK], a: Area) -> bool
+    requires { counted block.now a ≤ most a }
     ensures { Decides (Blank block.now a) result }
 {
     let n = areas::count(block, a);

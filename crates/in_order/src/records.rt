@@ -12,26 +12,26 @@ use crate::blanks::unused;
 use crate::values::{fields_in_order, value_in_order};
 use areas::{count, word};
 use block::{Area, Layout};
+use limits::Limits;
 use script::Section;
 use sections::own_count;
 use subtypes::{Declared, declared_as};
 
+// The bytes and that they are within layout, and no Script: that would ask callers for its runs as well, of which nothing here is read.
 // How many fields a class type has. Question 8 was answered: at most 8.
 fn field_count(s: &[u8], t: u16) -> usize
     requires { WithinLayout s.now }
     ensures { (result ≡ field_count s.now t) × (result ≤ CLASS_FIELDS) }
 {
-    let d = declared_as(s, t);
-    match d {
-        Declared::Interface(_) => 0,
-        Declared::Class(c) => own_count(s, Section::Fields, c),
-        Declared::Neither => 0,
-    }
+    let Declared::Class(c) = declared_as(s, t) else {
+        return 0;
+    };
+    own_count(s, Section::Fields, c)
 }
 
 // Is object i open or shut, with a value for each field of its class and 0 for each field that its class does not have?
-fn object_in_order(s: &[u8], block: &[u8], i: usize) -> bool
-    requires { WithinLayout s.now × (length block.now ≡ BLOCK) × (i < OBJECTS) }
+fn object_in_order(s: &[u8], block: &[u8; Limits::BLOCK], i: usize) -> bool
+    requires { WithinLayout s.now × (i < OBJECTS) }
     ensures { Decides (ObjectOk (field_count s.now) (word_in block.now Objects i)) result }
 {
     let shut = word(block, Area::Objects, i, Layout::SHUT);
@@ -48,56 +48,46 @@ fn object_in_order(s: &[u8], block: &[u8], i: usize) -> bool
 }
 
 // Is position i of a known kind, with a value where it has one and 0 for each word without a meaning for that kind?
-fn position_in_order(block: &[u8], i: usize) -> bool
-    requires { (length block.now ≡ BLOCK) × (i < POSITIONS) }
+fn position_in_order(block: &[u8; Limits::BLOCK], i: usize) -> bool
+    requires { i < POSITIONS }
     ensures { Decides (PositionOk (word_in block.now Positions i)) result }
 {
-    let kind = word(block, Area::Positions, i, Layout::KIND);
-    if kind == Layout::RUNNING {
-        return unused(block, Area::Positions, i, Layout::RESULT, Layout::WAITING);
-    }
-    if kind == Layout::RETURNING {
-        if !value_in_order(block, Area::Positions, i, Layout::RESULT) {
-            return false;
+    match word(block, Area::Positions, i, Layout::KIND) {
+        Layout::RUNNING | Layout::JOIN => {
+            unused(block, Area::Positions, i, Layout::RESULT, Layout::WAITING)
         }
-        return unused(block, Area::Positions, i, Layout::NODE, Layout::RESULT);
-    }
-    if kind == Layout::FAILED {
-        return unused(
+        Layout::RETURNING => {
+            value_in_order(block, Area::Positions, i, Layout::RESULT)
+                && unused(block, Area::Positions, i, Layout::NODE, Layout::RESULT)
+        }
+        Layout::FAILED => unused(
             block,
             Area::Positions,
             i,
             Layout::NODE,
             Layout::POSITION_WIDTH,
-        );
+        ),
+        _ => false,
     }
-    if kind == Layout::JOIN {
-        return unused(block, Area::Positions, i, Layout::RESULT, Layout::WAITING);
-    }
-    false
 }
 
 // Is frame i of a known kind, with 0 for the last word where it has no meaning?
-fn frame_in_order(block: &[u8], i: usize) -> bool
-    requires { (length block.now ≡ BLOCK) × (i < FRAMES) }
+fn frame_in_order(block: &[u8; Limits::BLOCK], i: usize) -> bool
+    requires { i < FRAMES }
     ensures { Decides (FrameOk (word_in block.now Frames i)) result }
 {
-    let kind = word(block, Area::Frames, i, Layout::KIND);
-    if kind == Layout::AWAITS {
-        return true;
+    match word(block, Area::Frames, i, Layout::KIND) {
+        Layout::AWAITS => true,
+        Layout::CASTS | Layout::LOCKS => {
+            unused(block, Area::Frames, i, Layout::ENV, Layout::FRAME_WIDTH)
+        }
+        _ => false,
     }
-    if kind == Layout::CASTS {
-        return unused(block, Area::Frames, i, Layout::ENV, Layout::FRAME_WIDTH);
-    }
-    if kind == Layout::LOCKS {
-        return unused(block, Area::Frames, i, Layout::ENV, Layout::FRAME_WIDTH);
-    }
-    false
 }
 
 // Is record i of an area in order?
-fn record_in_order(s: &[u8], block: &[u8], a: Area, i: usize) -> bool
-    requires { WithinLayout s.now × (length block.now ≡ BLOCK) × (i < most a) }
+fn record_in_order(s: &[u8], block: &[u8; Limits::BLOCK], a: Area, i: usize) -> bool
+    requires { WithinLayout s.now × (i < most a) }
     ensures { Decides (RecordOk (field_count s.now) a (word_in block.now a i)) result }
 {
     match a {
@@ -109,17 +99,15 @@ fn record_in_order(s: &[u8], block: &[u8], a: Area, i: usize) -> bool
 }
 
 // Is each record of an area in order?
-pub fn records_in_order(s: &[u8], block: &[u8], a: Area) -> bool
-    requires { WithinLayout s.now × (length block.now ≡ BLOCK) × (counted block.now a ≤ most a) }
+pub fn records_in_order(s: &[u8], block: &[u8; Limits::BLOCK], a: Area) -> bool
+    requires { WithinLayout s.now × (counted block.now a ≤ most a) }
     ensures { Decides (RecordsOk (field_count s.now) block.now a (counted block.now a)) result }
 {
     let n = count(block, a);
-    let mut i = 0;
-    while i < n {
+    for i in 0..n {
         if !record_in_order(s, block, a, i) {
             return false;
         }
-        i += 1;
     }
     true
 }

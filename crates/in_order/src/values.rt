@@ -9,37 +9,29 @@ ghost use Rattle.representation.specs.InOrder.{FieldsInOrder};
 
 use areas::word;
 use block::{Area, Layout};
+use limits::Limits;
 
 // Are the words of record i of an area from word j on those of a value? Any two words are those of a number, an object has no high word, and null is 0.
-pub fn value_in_order(block: &[u8], a: Area, i: usize, j: usize) -> bool
-    requires { (length block.now ≡ BLOCK) × (i < most a) × (j + VALUE ≤ width a) }
+pub fn value_in_order(block: &[u8; Limits::BLOCK], a: Area, i: usize, j: usize) -> bool
+    requires { (i < most a) × (j + VALUE ≤ width a) }
     ensures { Decides (ValueOk (word_in block.now a i) j) result }
 {
-    let kind = word(block, a, i, j);
     let low = word(block, a, i, j + 1);
     let high = word(block, a, i, j + 2);
-    if kind == Layout::INT {
-        return true;
+    match word(block, a, i, j) {
+        Layout::INT => true,
+        Layout::REF => high == 0,
+        Layout::NULL => low == 0 && high == 0,
+        _ => false,
     }
-    if high != 0 {
-        return false;
-    }
-    if kind == Layout::REF {
-        return true;
-    }
-    if kind != Layout::NULL {
-        return false;
-    }
-    low == 0
 }
 
 // Has each of the first n fields of object i a value?
-pub fn fields_in_order(block: &[u8], i: usize, n: usize) -> bool
-    requires { (length block.now ≡ BLOCK) × (i < OBJECTS) × (n ≤ CLASS_FIELDS) }
+pub fn fields_in_order(block: &[u8; Limits::BLOCK], i: usize, n: usize) -> bool
+    requires { (i < OBJECTS) × (n ≤ CLASS_FIELDS) }
     ensures { Decides (FieldsInOrder (word_in block.now Objects i) n) result }
 {
-    let mut k = 0;
-    while k < n {
+    for k in 0..n {
         if !value_in_order(
             block,
             Area::Objects,
@@ -48,7 +40,6 @@ pub fn fields_in_order(block: &[u8], i: usize, n: usize) -> bool
         ) {
             return false;
         }
-        k += 1;
     }
     true
 }

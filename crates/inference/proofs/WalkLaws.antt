@@ -7,29 +7,30 @@ use native.Mathlib.Omega.{arith}
 use lib.ListN.{length, get_or, set, length-set}
 use lib.Seq.{get_or-set_other}
 use Rattle.limits.specs.Limits.{INTERFACES, CLASSES, METHODS}
-use Rattle.script.specs.declared.Question.{Question}
 use Rattle.script.specs.declared.Section.TheVariants.{Interfaces as interfaces, Classes as classes, Methods as methods}
 use Rattle.script.specs.Lists.{run, sum_below, named}
 use Rattle.script.specs.Section.{count_of, record_word}
-use Rattle.script.specs.Syntax.{Point}
 use Rattle.script.specs.Reading.{expr_at, own_methods, method_at, class_at, program_of}
 use Rattle.script.specs.Statements.{WithinLayout}
 use Rattle.script.specs.Regular.{IsType}
 use Rattle.script.proofs.Lists.{sum_more}
 use Rattle.script.proofs.Declarations.{length_interfaces, length_classes}
-use Rattle.typing.specs.declared.Answer.{Answer}
-use Rattle.typing.specs.declared.Answer.TheVariants.{Typed, Faulty}
+use Rattle.std.specs.declared.result.Result.TheVariants.{Ok, Err}
+use Rattle.typing.specs.declared.Fault.{Fault}
+use Rattle.typing.specs.Answers.{Answer}
+use Rattle.names.specs.Facts.{Facts}
+use Rattle.members.specs.Code.{Blank}
 use Rattle.typing.specs.Members.{type_in}
 use Rattle.typing.specs.Environments.{body_env}
 use Rattle.typing.specs.Typing.{and_then, Body, bodies_from, bodies_of, walk}
 use Rattle.typing.specs.Published.{WF-ENV}
 use Rattle.names.specs.Ranks.{of_this, of_parameter}
 use Rattle.inference.specs.Tables.{EnvIs}
-use Rattle.inference.specs.Walk.{NodeInEnv, Checked, Inferred, EmptyEnv, bodies_in, body_answer, WalksAs}
+use Rattle.inference.specs.Walk.{NodeInEnv, Checked, Inferred, bodies_in, body_answer, WalksAs}
 use Rattle.inference.proofs.InferLaws.{env_bind, word_back, type_small}
 
 -- A body is checked with two variables, which are bound and unbound again.
-module _ {s starts facts env : List ℕ} (b : EmptyEnv s starts facts env) where
+module _ {s facts env : List ℕ} (w : WithinLayout s) (known : Facts s facts) (b : Blank env) where
   no_variable : EnvIs s facts env []
   unfolding type_in named
   no_variable = record { types = WF-ENV (λ x m. absurd (Memᴰ.not-nil m)); holds = λ {x} {k} h. b.zeros.zero k }
@@ -50,25 +51,22 @@ module _ {s starts facts env : List ℕ} (b : EmptyEnv s starts facts env) where
 
   module _ (class m : ℕ) (i : IsType (program_of s) class) (h : m < count_of s methods) where
     param_type : IsType (program_of s) (record_word s methods m 1)
-    param_type = rw (length_interfaces s, length_classes s) (b.within.types_are.1.1.1.0 m h).0
+    param_type = rw (length_interfaces s, length_classes s) (w.types_are.1.1.1.0 m h).0
 
     pub param_small : (param : ℕ) → param ≡ record_word s methods m 1 → param ≤ INTERFACES + CLASSES + 1
-    param_small param e = rw e (type_small b.within (record_word s methods m 1) param_type)
+    param_small param e = rw e (type_small w (record_word s methods m 1) param_type)
 
     body_env_lem : EnvIs s facts (set (set env 0 (class + 1)) 1 (record_word s methods m 1 + 1)) (body_env class (method_at s m).signature)
     unfolding method_at
     body_env_lem =
-        env_bind (env_bind no_variable 0 0 class b.known.ranked of_this (omega (arith, b.size)) i) 1 1 (record_word s methods m 1) b.known.ranked of_parameter
+        env_bind (env_bind no_variable 0 0 class known of_this (omega (arith, b.size)) i) 1 1 (record_word s methods m 1) known of_parameter
         (rw (length-set env 0 (class + 1)) (omega (arith, b.size))) param_type
 
-    pub body_at_lem : (param body : ℕ) → param ≡ record_word s methods m 1 → body ≡ record_word s methods m 3 → NodeInEnv s starts facts (set (set env 0 (class + 1)) 1 (param + 1)) body
+    pub body_at_lem : (param body : ℕ) → param ≡ record_word s methods m 1 → body ≡ record_word s methods m 3 → NodeInEnv s facts (set (set env 0 (class + 1)) 1 (param + 1)) body
     body_at_lem param body ep eb =
         record {
-          within = b.within;
-          runs = b.runs;
-          known = b.known;
           size = rw (length-set (set env 0 (class + 1)) 1 (param + 1), length-set env 0 (class + 1)) b.size;
-          there = rw eb (b.within.nodes_are.0 m h);
+          there = rw eb (w.nodes_are.0 m h);
           variables = body_env class (method_at s m).signature;
           environment = rw ep body_env_lem;
         }
@@ -81,20 +79,17 @@ module _ {s starts facts env : List ℕ} (b : EmptyEnv s starts facts env) where
     body_checked param result body r ep er eb c = rw (er, eb) at (c (body_env class (method_at s m).signature) (rw ep body_env_lem))
 
   -- The start is inferred with no variable.
-  pub start_at : {env₁ : List ℕ} → env₁ ≡ env → NodeInEnv s starts facts env₁ 0
+  pub start_at : {env₁ : List ℕ} → env₁ ≡ env → NodeInEnv s facts env₁ 0
   start_at e =
       record {
-        within = b.within;
-        runs = b.runs;
-        known = b.known;
         size = rw e b.size;
-        there = b.within.counts_are.a_node;
+        there = w.counts_are.a_node;
         variables = [];
         environment = rw e no_variable;
       }
 
-  pub blank_still : {env₁ : List ℕ} → env₁ ≡ env → EmptyEnv s starts facts env₁
-  blank_still e = rw e b
+pub blank_still : {env env₁ : List ℕ} → Blank env → env₁ ≡ env → Blank env₁
+blank_still b e = rw e b
 
 -- A class's type is a type, and its methods are records of the script.
 pub class_type_lem : (s : List ℕ) (i c : ℕ) → i ≡ count_of s interfaces → c < count_of s classes → IsType (program_of s) (i + 1 + c)
@@ -131,13 +126,13 @@ module _ {s env₀ env : List ℕ} {c class end m : ℕ} (i : MethodsLeft s env�
     unfolding run walk
     method_next l = let k : end - m ≡ suc (end - (m + 1)) = omega arith in rw (i.left l, k, e)
 
-    pub methods_more : (t : ℕ) {env₁ : List ℕ} → r ≡ Typed t → env₁ ≡ env → MethodsLeft s env₀ env₁ c class end (m + 1)
+    pub methods_more : (t : ℕ) {env₁ : List ℕ} → r ≡ Ok t → env₁ ≡ env → MethodsLeft s env₀ env₁ c class end (m + 1)
     methods_more t k e₁ = record { same = e₁ ∙ i.same; left = λ l. rw k at (method_next l) }
 
-    pub method_faulty : (q : Question) (n : Point) → r ≡ Faulty q n → WalksAs s (bodies_in (count_of s interfaces + 1 + c) (class_at s c).methods) r
-    method_faulty q n k l = rw (method_next l, k)
+    pub method_faulty : (q : Fault) → r ≡ Err q → WalksAs s (bodies_in (count_of s interfaces + 1 + c) (class_at s c).methods) (Err q)
+    method_faulty q k l = rw (method_next l, k)
 
-  pub methods_all : end ≤ m → WalksAs s (bodies_in (count_of s interfaces + 1 + c) (class_at s c).methods) (Typed 0)
+  pub methods_all : end ≤ m → WalksAs s (bodies_in (count_of s interfaces + 1 + c) (class_at s c).methods) (Ok 0)
   unfolding run
   methods_all h l = let k : end - m ≡ 0 = omega arith in rw (i.left l, k)
 
@@ -162,12 +157,12 @@ module _ {s env₀ env : List ℕ} {c : ℕ} (i : ClassesLeft s env₀ env c) wh
         let n : count_of s interfaces + 1 + (c + 1) ≡ count_of s interfaces + 1 + c + 1 = omega arith in
         rw (i.left, k, n) (e _)
 
-    pub classes_more : (t : ℕ) {env₁ : List ℕ} → r ≡ Typed t → env₁ ≡ env → ClassesLeft s env₀ env₁ (c + 1)
+    pub classes_more : (t : ℕ) {env₁ : List ℕ} → r ≡ Ok t → env₁ ≡ env → ClassesLeft s env₀ env₁ (c + 1)
     classes_more t k e₁ = record { same = e₁ ∙ i.same; left = rw k at class_next }
 
-    pub class_faulty : (q : Question) (n : Point) → r ≡ Faulty q n → r ≡ walk (program_of s) (bodies_of (program_of s))
-    class_faulty q n k = rw (class_next, k)
+    pub class_faulty : (q : Fault) → r ≡ Err q → Err q ≡ walk (program_of s) (bodies_of (program_of s))
+    class_faulty q k = rw (class_next, k)
 
-  pub classes_all : {starts facts : List ℕ} (r : Answer) → EmptyEnv s starts facts env₀ → count_of s classes ≤ c → Inferred s facts env (expr_at s 0) r → r ≡ walk (program_of s) (bodies_of (program_of s))
+  pub classes_all : {facts : List ℕ} (r : Answer) → WithinLayout s → Facts s facts → Blank env₀ → count_of s classes ≤ c → Inferred s facts env (expr_at s 0) r → r ≡ walk (program_of s) (bodies_of (program_of s))
   unfolding run bodies_from walk program_of
-  classes_all r b h e = let k : count_of s classes - c ≡ 0 = omega arith in rw (i.left, k) (e [] (rw i.same (no_variable b)))
+  classes_all r w f b h e = let k : count_of s classes - c ≡ 0 = omega arith in rw (i.left, k) (e [] (rw i.same (no_variable w f b)))

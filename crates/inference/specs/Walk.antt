@@ -5,30 +5,21 @@ use Rattle.script.specs.declared.Section.TheVariants.{Nodes as nodes}
 use Rattle.script.specs.Section.{count_of, node_word}
 use Rattle.script.specs.Syntax.{Point, Expr, Slot, Method, Program}
 use Rattle.script.specs.Reading.{program_of}
-use Rattle.script.specs.Statements.{WithinLayout}
-use Rattle.slices.specs.Zero.{AllZero}
-use Rattle.typing.specs.declared.Answer.{Answer}
-use Rattle.typing.specs.declared.Answer.TheVariants.{Typed}
+use Rattle.std.specs.declared.result.Result.TheVariants.{Ok}
+use Rattle.typing.specs.Answers.{Answer}
 use Rattle.typing.specs.Environments.{of_lock, body_env}
 use Rattle.typing.specs.Members.{type_in}
 use Rattle.typing.specs.Typing.{and_then, or_faulty, use_no, unless_no, inferred, checked, Body, walk}
-use Rattle.subtypes.specs.Tables.{Starts}
 use Rattle.names.specs.Ranks.{RANKS, Names}
-use Rattle.names.specs.Facts.{Facts}
 use Rattle.inference.specs.Tables.{EnvIs}
 
 -- Node n, which names a variable at place j, with the table of an environment.
-pub record Target (s facts env : List ℕ) (n : Point) (j : ℕ) : Type 0 where
-  pub within : WithinLayout s
-  pub known : Facts s facts
+pub record Target (s env : List ℕ) (n : Point) (j : ℕ) : Type 0 where
   pub size : length env ≡ RANKS
   pub named : Names s n j (node_word s n (1 + j))
 
--- Node n, with the script's tables and an environment.
-pub record NodeInEnv (s starts facts env : List ℕ) (n : Point) : Type 0 where
-  pub within : WithinLayout s
-  pub runs : Starts s starts
-  pub known : Facts s facts
+-- Node n, with an environment.
+pub record NodeInEnv (s facts env : List ℕ) (n : Point) : Type 0 where
   pub size : length env ≡ RANKS
   pub there : n < count_of s nodes
   pub variables : List Slot
@@ -43,18 +34,10 @@ Checked s facts env e t r = (Γ : List Slot) → EnvIs s facts env Γ → r ≡ 
 
 -- What is answered before a lock's part: the type of its target x, where that may be locked.
 abbrev pub locked_type : Program → List Slot → Point → ℕ → Answer
-locked_type p Γ n x = or_faulty Variables n (type_in Γ x) (λ t. unless_no (use_no p n (of_lock t)) n (Typed t))
+locked_type p Γ n x = or_faulty Variables n (type_in Γ x) (λ t. unless_no (use_no p n (of_lock t)) n (Ok t))
 
 abbrev pub Lockable : List ℕ → List ℕ → List ℕ → Point → ℕ → Answer → Type 0
 Lockable s facts env n x r = (Γ : List Slot) → EnvIs s facts env Γ → r ≡ locked_type (program_of s) Γ n x
-
--- The script's tables, with no variable bound.
-pub record EmptyEnv (s starts facts env : List ℕ) : Type 0 where
-  pub within : WithinLayout s
-  pub runs : Starts s starts
-  pub known : Facts s facts
-  pub size : length env ≡ RANKS
-  pub zeros : AllZero env
 
 -- The bodies of these methods, in the class with type t, and the answer for one of them.
 abbrev pub bodies_in : ℕ → List Method → List Body

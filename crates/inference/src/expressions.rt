@@ -2,303 +2,271 @@
 ghost use Rattle.std.specs.Prelude.{◌≡◌, ◌+◌};
 ghost use Rattle.script.specs.Section.{node_word};
 ghost use Rattle.script.specs.Syntax.{var, select, add};
-ghost use Rattle.script.specs.Reading.{program_of, expr_at};
-ghost use Rattle.script.specs.Statements.{WithinLayout};
+ghost use Rattle.script.specs.declared.Kind.TheVariants.{Update as update_kind, Call as call_kind, Let as bind_kind};
+ghost use Rattle.script.specs.declared.Kind.TheVariants.{Cast as cast_kind, Fork as fork_kind, Lock as lock_kind};
+ghost use Rattle.script.specs.Reading.{kind_of, program_of, expr_at};
+ghost use Rattle.typing.specs.Typing.{fits};
 ghost use Rattle.typing.specs.declared.Aim.TheVariants.{Checks as checks};
-ghost use Rattle.subtypes.specs.Tables.{Starts};
 ghost use Rattle.inference.specs.Walk.{Target, NodeInEnv, Inferred, Checked, Lockable};
-ghost use Rattle.inference.specs.Given.{inferred_as, answer_as, no_null, given_by, GivenAs};
+ghost use Rattle.inference.specs.Given.{inferred_as, answer_as, given_by, GivenAs};
 
 use crate::Given;
-use members::{Member, field_type, method_of};
-use script::{Found, Question};
-use sections::node_word;
-use subtypes::{int_of, is_below};
-use typing::Answer;
+use members::{Code, field_type, method_of};
+use script::{Kind, Question};
+use sections::{kind_at, node_word};
+use subtypes::Script;
+use typing::Fault;
 
-// What is inferred for an expression that gives this: a null is inferred never.
-pub fn answer_of(g: Given) -> Answer
+// "Is each inferred type below the wanted one?" Where it is not, question 14 gets a no at node n.
+fn fits(yes: bool, n: u16, t: u16) -> Result<u16, Fault>
+    ensures { result ≡ fits yes n t }
+{
+    if yes {
+        return Ok(t);
+    }
+    Err(Fault {
+        question: Question::Fits,
+        node: n,
+    })
+}
+
+// What is inferred for an expression that gives this. 12. "Is no null inferred?"
+pub fn answer_of(g: Given) -> Result<u16, Fault>
     ensures { result ≡ inferred_as g }
 {
     match g {
-        Given::Typed(t, _) => Answer::Typed(t),
-        Given::Null(n) => Answer::Faulty(Question::Nulls, n),
-        Given::Faulty(q, n) => Answer::Faulty(q, n),
+        Given::Typed(t, _) => Ok(t),
+        Given::Null(node) => Err(Fault {
+            question: Question::Nulls,
+            node,
+        }),
     }
 }
 
-// 12. "Is no null inferred?": what a part gives that is inferred.
-fn no_null(g: Given) -> Given
-    ensures { result ≡ no_null g }
-{
-    match g {
-        Given::Typed(t, n) => Given::Typed(t, n),
-        Given::Null(n) => Given::Faulty(Question::Nulls, n),
-        Given::Faulty(q, n) => Given::Faulty(q, n),
-    }
-}
-
-// What node n gives by what is inferred for it, where it has no last part or gets a no before that.
-fn given_by(n: u16, r: Answer) -> Given
+// What node n gives by what is inferred for it, where it has no last part.
+fn given_by(n: u16, r: Result<u16, Fault>) -> Result<Given, Fault>
     ensures { result ≡ given_by n r }
 {
-    match r {
-        Answer::Typed(t) => Given::Typed(t, n),
-        Answer::Faulty(q, k) => Given::Faulty(q, k),
-    }
+    Ok(Given::Typed(r?, n))
 }
 
 // The type of the variable that node n names at place j.
-fn infer_var(s: &[u8], facts: &[u16], env: &[u16], n: u16, j: usize) -> Answer
-    requires { Target s.now facts.now env.now n j }
-    ensures { Inferred s.now facts.now env.now (var n (node_word s.now n (1 + j))) result }
+fn infer_var(code: &Code, env: &[u16], n: u16, j: usize) -> Result<u16, Fault>
+    requires { Target code.now.script.bytes.now env.now n j }
+    ensures { Inferred code.now.script.bytes.now code.now.facts.now env.now
+        (var n (node_word code.now.script.bytes.now n (1 + j))) result }
 {
-    let rank = facts[2 * n as usize + j] as usize;
+    let rank = code.facts[2 * n as usize + j] as usize;
     let word = env[rank];
     if word == 0 {
-        return Answer::Faulty(Question::Variables, n);
+        return Err(Fault {
+            question: Question::Variables,
+            node: n,
+        });
     }
-    Answer::Typed(word - 1)
+    Ok(word - 1)
 }
 
 // The type of the field that node n reads or writes.
-fn infer_select(s: &[u8], starts: &[u16], facts: &[u16], env: &[u16], n: u16) -> Answer
-    requires { Target s.now facts.now env.now n 0 × Starts s.now starts.now }
-    ensures { Inferred s.now facts.now env.now (select n (node_word s.now n 1) (node_word s.now n 2)) result }
+fn infer_select(code: &Code, env: &[u16], n: u16) -> Result<u16, Fault>
+    requires { Target code.now.script.bytes.now env.now n 0 }
+    ensures { Inferred code.now.script.bytes.now code.now.facts.now env.now
+        (select n (node_word code.now.script.bytes.now n 1) (node_word code.now.script.bytes.now n 2)) result }
 {
-    let target = infer_var(s, facts, env, n, 0);
-    let Answer::Typed(t) = target else {
-        return target;
-    };
-    let f = node_word(s, n, 2);
-    let Found::At(u) = field_type(s, starts, t, f) else {
-        return Answer::Faulty(Question::Members, n);
-    };
-    Answer::Typed(u as u16)
+    let t = infer_var(code, env, n, 0)?;
+    let f = node_word(code.script.bytes, n, 2);
+    field_type(&code.script, t, f).ok_or(Fault {
+        question: Question::Members,
+        node: n,
+    })
 }
 
 // A sum has type Int, where both its variables have a type and then both have this one.
-fn infer_add(s: &[u8], facts: &[u16], env: &[u16], n: u16) -> Answer
-    requires { Target s.now facts.now env.now n 0 × Target s.now facts.now env.now n 1 }
-    ensures { Inferred s.now facts.now env.now (add n (node_word s.now n 1) (node_word s.now n 2)) result }
+fn infer_add(code: &Code, env: &[u16], n: u16) -> Result<u16, Fault>
+    requires { Target code.now.script.bytes.now env.now n 0 × Target code.now.script.bytes.now env.now n 1 }
+    ensures { Inferred code.now.script.bytes.now code.now.facts.now env.now
+        (add n (node_word code.now.script.bytes.now n 1) (node_word code.now.script.bytes.now n 2)) result }
 {
-    let left = infer_var(s, facts, env, n, 0);
-    let Answer::Typed(t) = left else {
-        return left;
-    };
-    let right = infer_var(s, facts, env, n, 1);
-    let Answer::Typed(u) = right else {
-        return right;
-    };
-    let int = int_of(s);
-    if t != int {
-        return Answer::Faulty(Question::Fits, n);
-    }
-    if u != int {
-        return Answer::Faulty(Question::Fits, n);
-    }
-    Answer::Typed(int)
+    let t = infer_var(code, env, n, 0)?;
+    let u = infer_var(code, env, n, 1)?;
+    let int = code.script.int_of();
+    fits(t == int && u == int, n, int)
 }
 
 // The type of the variable that node n locks, which may be any but Int.
-fn lock_target(s: &[u8], facts: &[u16], env: &[u16], n: u16) -> Answer
-    requires { Target s.now facts.now env.now n 0 }
-    ensures { Lockable s.now facts.now env.now n (node_word s.now n 1) result }
+fn lock_target(code: &Code, env: &[u16], n: u16) -> Result<u16, Fault>
+    requires { Target code.now.script.bytes.now env.now n 0 }
+    ensures { Lockable code.now.script.bytes.now code.now.facts.now env.now n (node_word code.now.script.bytes.now n 1) result }
 {
-    let target = infer_var(s, facts, env, n, 0);
-    let Answer::Typed(t) = target else {
-        return target;
-    };
-    let int = int_of(s);
+    let t = infer_var(code, env, n, 0)?;
+    let int = code.script.int_of();
     if t == int {
-        return Answer::Faulty(Question::Members, n);
+        return Err(Fault {
+            question: Question::Members,
+            node: n,
+        });
     }
-    Answer::Typed(t)
+    Ok(t)
 }
 
 // A write has type Unit, after its value is checked against the field's type.
-#[cycle(check_check_part_infer_infer_call_infer_cast_infer_fork_infer_let_infer_lock_infer_update)]
-fn infer_update(s: &[u8], starts: &[u16], facts: &[u16], env: &mut [u16], n: u16) -> Answer
-    requires { NodeInEnv s.now starts.now facts.now env.old n × (node_word s.now n 0 ≡ 3) }
-    ensures inferred { Inferred s.now facts.now env.old (expr_at s.now n) result }
+#[cycle(walk)]
+fn infer_update(code: &Code, env: &mut [u16], n: u16) -> Result<u16, Fault>
+    requires { NodeInEnv code.now.script.bytes.now code.now.facts.now env.old n × (kind_of (node_word code.now.script.bytes.now n 0) ≡ update_kind) }
+    ensures inferred { Inferred code.now.script.bytes.now code.now.facts.now env.old (expr_at code.now.script.bytes.now n) result }
     ensures env_unchanged { env.new ≡ env.old }
 {
-    let field = infer_select(s, starts, facts, env, n);
-    let Answer::Typed(t) = field else {
-        return field;
-    };
-    let value = node_word(s, n, 3);
-    let r = check_part(s, starts, facts, env, value, t);
-    let Answer::Typed(_) = r else {
-        return r;
-    };
-    Answer::Typed(0)
+    let t = infer_select(code, env, n)?;
+    let value = node_word(code.script.bytes, n, 3);
+    check_part(code, env, value, t)?;
+    Ok(0)
 }
 
 // A call has the method's result type, after its argument is checked against the parameter's type.
-#[cycle(check_check_part_infer_infer_call_infer_cast_infer_fork_infer_let_infer_lock_infer_update)]
-fn infer_call(s: &[u8], starts: &[u16], facts: &[u16], env: &mut [u16], n: u16) -> Answer
-    requires { NodeInEnv s.now starts.now facts.now env.old n × (node_word s.now n 0 ≡ 4) }
-    ensures inferred { Inferred s.now facts.now env.old (expr_at s.now n) result }
+#[cycle(walk)]
+fn infer_call(code: &Code, env: &mut [u16], n: u16) -> Result<u16, Fault>
+    requires { NodeInEnv code.now.script.bytes.now code.now.facts.now env.old n × (kind_of (node_word code.now.script.bytes.now n 0) ≡ call_kind) }
+    ensures inferred { Inferred code.now.script.bytes.now code.now.facts.now env.old (expr_at code.now.script.bytes.now n) result }
     ensures env_unchanged { env.new ≡ env.old }
 {
-    let target = infer_var(s, facts, env, n, 0);
-    let Answer::Typed(t) = target else {
-        return target;
-    };
-    let m = node_word(s, n, 2);
-    let Member::Types(param, result) = method_of(s, starts, t, m) else {
-        return Answer::Faulty(Question::Members, n);
-    };
-    let argument = node_word(s, n, 3);
-    let r = check_part(s, starts, facts, env, argument, param);
-    let Answer::Typed(_) = r else {
-        return r;
-    };
-    Answer::Typed(result)
+    let t = infer_var(code, env, n, 0)?;
+    let m = node_word(code.script.bytes, n, 2);
+    let types = method_of(&code.script, t, m).ok_or(Fault {
+        question: Question::Members,
+        node: n,
+    })?;
+    let argument = node_word(code.script.bytes, n, 3);
+    check_part(code, env, argument, types.param)?;
+    Ok(types.result)
 }
 
 // A let gives what its last part does, in which its variable has the type of the first; the variable's old word is put back.
-#[cycle(check_check_part_infer_infer_call_infer_cast_infer_fork_infer_let_infer_lock_infer_update)]
-fn infer_let(s: &[u8], starts: &[u16], facts: &[u16], env: &mut [u16], n: u16) -> Given
-    requires { NodeInEnv s.now starts.now facts.now env.old n × (node_word s.now n 0 ≡ 5) }
-    ensures given_as { GivenAs s.now facts.now env.old (expr_at s.now n) result }
+#[cycle(walk)]
+fn infer_let(code: &Code, env: &mut [u16], n: u16) -> Result<Given, Fault>
+    requires { NodeInEnv code.now.script.bytes.now code.now.facts.now env.old n × (kind_of (node_word code.now.script.bytes.now n 0) ≡ bind_kind) }
+    ensures given_as { GivenAs code.now.script.bytes.now code.now.facts.now env.old (expr_at code.now.script.bytes.now n) result }
     ensures env_unchanged { env.new ≡ env.old }
 {
-    let value = node_word(s, n, 2);
-    let first = no_null(infer(s, starts, facts, env, value));
-    let Given::Typed(t, _) = first else {
-        return first;
-    };
-    let rank = facts[2 * n as usize] as usize;
+    let value = node_word(code.script.bytes, n, 2);
+    let t = infer_type(code, env, value)?;
+    let rank = code.facts[2 * n as usize] as usize;
     let outer = env[rank];
     env[rank] = t + 1;
-    let body = node_word(s, n, 3);
-    let last = infer(s, starts, facts, env, body);
+    let body = node_word(code.script.bytes, n, 3);
+    let last = infer(code, env, body);
     env[rank] = outer;
     last
 }
 
 // A cast has its type, after its operand is checked against it.
-#[cycle(check_check_part_infer_infer_call_infer_cast_infer_fork_infer_let_infer_lock_infer_update)]
-fn infer_cast(s: &[u8], starts: &[u16], facts: &[u16], env: &mut [u16], n: u16) -> Answer
-    requires { NodeInEnv s.now starts.now facts.now env.old n × (node_word s.now n 0 ≡ 7) }
-    ensures inferred { Inferred s.now facts.now env.old (expr_at s.now n) result }
+#[cycle(walk)]
+fn infer_cast(code: &Code, env: &mut [u16], n: u16) -> Result<u16, Fault>
+    requires { NodeInEnv code.now.script.bytes.now code.now.facts.now env.old n × (kind_of (node_word code.now.script.bytes.now n 0) ≡ cast_kind) }
+    ensures inferred { Inferred code.now.script.bytes.now code.now.facts.now env.old (expr_at code.now.script.bytes.now n) result }
     ensures env_unchanged { env.new ≡ env.old }
 {
-    let t = node_word(s, n, 1);
-    let operand = node_word(s, n, 2);
-    check_part(s, starts, facts, env, operand, t)
+    let t = node_word(code.script.bytes, n, 1);
+    let operand = node_word(code.script.bytes, n, 2);
+    check_part(code, env, operand, t)
 }
 
 // A fork gives what its last part does, where its asyncs share no variable and have types.
-#[cycle(check_check_part_infer_infer_call_infer_cast_infer_fork_infer_let_infer_lock_infer_update)]
-fn infer_fork(s: &[u8], starts: &[u16], facts: &[u16], env: &mut [u16], n: u16) -> Given
-    requires { NodeInEnv s.now starts.now facts.now env.old n × (node_word s.now n 0 ≡ 8) }
-    ensures given_as { GivenAs s.now facts.now env.old (expr_at s.now n) result }
+#[cycle(walk)]
+fn infer_fork(code: &Code, env: &mut [u16], n: u16) -> Result<Given, Fault>
+    requires { NodeInEnv code.now.script.bytes.now code.now.facts.now env.old n × (kind_of (node_word code.now.script.bytes.now n 0) ≡ fork_kind) }
+    ensures given_as { GivenAs code.now.script.bytes.now code.now.facts.now env.old (expr_at code.now.script.bytes.now n) result }
     ensures env_unchanged { env.new ≡ env.old }
 {
-    if facts[2 * n as usize] == 1 {
-        return Given::Faulty(Question::Sharing, n);
+    if code.facts[2 * n as usize] == 1 {
+        return Err(Fault {
+            question: Question::Sharing,
+            node: n,
+        });
     }
-    let a = node_word(s, n, 1);
-    let left = no_null(infer(s, starts, facts, env, a));
-    let Given::Typed(_, _) = left else {
-        return left;
-    };
-    let b = node_word(s, n, 2);
-    let right = no_null(infer(s, starts, facts, env, b));
-    let Given::Typed(_, _) = right else {
-        return right;
-    };
-    let c = node_word(s, n, 3);
-    infer(s, starts, facts, env, c)
+    let a = node_word(code.script.bytes, n, 1);
+    infer_type(code, env, a)?;
+    let b = node_word(code.script.bytes, n, 2);
+    infer_type(code, env, b)?;
+    let c = node_word(code.script.bytes, n, 3);
+    infer(code, env, c)
 }
 
 // A lock gives what its part does, where its variable has a type that may be locked.
-#[cycle(check_check_part_infer_infer_call_infer_cast_infer_fork_infer_let_infer_lock_infer_update)]
-fn infer_lock(s: &[u8], starts: &[u16], facts: &[u16], env: &mut [u16], n: u16) -> Given
-    requires { NodeInEnv s.now starts.now facts.now env.old n × (node_word s.now n 0 ≡ 9) }
-    ensures given_as { GivenAs s.now facts.now env.old (expr_at s.now n) result }
+#[cycle(walk)]
+fn infer_lock(code: &Code, env: &mut [u16], n: u16) -> Result<Given, Fault>
+    requires { NodeInEnv code.now.script.bytes.now code.now.facts.now env.old n × (kind_of (node_word code.now.script.bytes.now n 0) ≡ lock_kind) }
+    ensures given_as { GivenAs code.now.script.bytes.now code.now.facts.now env.old (expr_at code.now.script.bytes.now n) result }
     ensures env_unchanged { env.new ≡ env.old }
 {
-    let target = lock_target(s, facts, env, n);
-    let Answer::Typed(_) = target else {
-        return given_by(n, target);
-    };
-    let part = node_word(s, n, 2);
-    infer(s, starts, facts, env, part)
+    lock_target(code, env, n)?;
+    let part = node_word(code.script.bytes, n, 2);
+    infer(code, env, part)
 }
 
 // What node n gives.
-#[cycle(check_check_part_infer_infer_call_infer_cast_infer_fork_infer_let_infer_lock_infer_update)]
-pub fn infer(s: &[u8], starts: &[u16], facts: &[u16], env: &mut [u16], n: u16) -> Given
-    requires { NodeInEnv s.now starts.now facts.now env.old n }
-    ensures given_as { GivenAs s.now facts.now env.old (expr_at s.now n) result }
+#[cycle(walk)]
+pub fn infer(code: &Code, env: &mut [u16], n: u16) -> Result<Given, Fault>
+    requires { NodeInEnv code.now.script.bytes.now code.now.facts.now env.old n }
+    ensures given_as { GivenAs code.now.script.bytes.now code.now.facts.now env.old (expr_at code.now.script.bytes.now n) result }
     ensures env_unchanged { env.new ≡ env.old }
 {
-    let kind = node_word(s, n, 0);
-    match kind {
-        1 => given_by(n, infer_var(s, facts, env, n, 0)),
-        2 => given_by(n, infer_select(s, starts, facts, env, n)),
-        3 => given_by(n, infer_update(s, starts, facts, env, n)),
-        4 => given_by(n, infer_call(s, starts, facts, env, n)),
-        5 => infer_let(s, starts, facts, env, n),
-        6 => Given::Typed(node_word(s, n, 1), n),
-        7 => given_by(n, infer_cast(s, starts, facts, env, n)),
-        8 => infer_fork(s, starts, facts, env, n),
-        9 => infer_lock(s, starts, facts, env, n),
-        10 => Given::Typed(int_of(s), n),
-        11 => given_by(n, infer_add(s, facts, env, n)),
-        _ => Given::Null(n),
+    match kind_at(code.script.bytes, n) {
+        Kind::Variable => given_by(n, infer_var(code, env, n, 0)),
+        Kind::Select => given_by(n, infer_select(code, env, n)),
+        Kind::Update => given_by(n, infer_update(code, env, n)),
+        Kind::Call => given_by(n, infer_call(code, env, n)),
+        Kind::Let => infer_let(code, env, n),
+        Kind::New => Ok(Given::Typed(node_word(code.script.bytes, n, 1), n)),
+        Kind::Cast => given_by(n, infer_cast(code, env, n)),
+        Kind::Fork => infer_fork(code, env, n),
+        Kind::Lock => infer_lock(code, env, n),
+        Kind::Constant => Ok(Given::Typed(code.script.int_of(), n)),
+        Kind::Sum => given_by(n, infer_add(code, env, n)),
+        Kind::Null | Kind::Unknown => Ok(Given::Null(n)),
     }
 }
 
-// What an expression that gives this comes to where it is checked against t: a null has every type but Int, and so has what ends in one; any other has the
-// types that its own is below. Both are asked of its innermost last part.
-fn given_fits(s: &[u8], starts: &[u16], g: Given, t: u16) -> Answer
-    requires { WithinLayout s.now × Starts s.now starts.now }
-    ensures { result ≡ answer_as (program_of s.now) (checks t) g }
+// The type that is inferred for node n, which a null has not.
+#[cycle(walk)]
+pub fn infer_type(code: &Code, env: &mut [u16], n: u16) -> Result<u16, Fault>
+    requires { NodeInEnv code.now.script.bytes.now code.now.facts.now env.old n }
+    ensures inferred { Inferred code.now.script.bytes.now code.now.facts.now env.old (expr_at code.now.script.bytes.now n) result }
+    ensures env_unchanged { env.new ≡ env.old }
+{
+    answer_of(infer(code, env, n)?)
+}
+
+// Has an expression that gives this the type t? A null has every type but Int, and so has what ends in one; any other has the types that its own is below. Both
+// are asked of its innermost last part.
+fn given_fits(script: &Script, g: Given, t: u16) -> Result<u16, Fault>
+    ensures { result ≡ answer_as (program_of script.now.bytes.now) (checks t) g }
 {
     match g {
-        Given::Typed(u, last) => {
-            if !is_below(s, starts, u, t) {
-                return Answer::Faulty(Question::Fits, last);
-            }
-            Answer::Typed(t)
-        }
-        Given::Null(last) => {
-            if t == int_of(s) {
-                return Answer::Faulty(Question::Fits, last);
-            }
-            Answer::Typed(t)
-        }
-        Given::Faulty(q, k) => Answer::Faulty(q, k),
+        Given::Typed(u, last) => fits(script.is_below(u, t), last, t),
+        Given::Null(last) => fits(t != script.int_of(), last, t),
     }
 }
 
 // Has node n the type t?
-#[cycle(check_check_part_infer_infer_call_infer_cast_infer_fork_infer_let_infer_lock_infer_update)]
-pub fn check(s: &[u8], starts: &[u16], facts: &[u16], env: &mut [u16], n: u16, t: u16) -> Answer
-    requires { NodeInEnv s.now starts.now facts.now env.old n }
-    ensures checked { Checked s.now facts.now env.old (expr_at s.now n) t result }
+#[cycle(walk)]
+pub fn check(code: &Code, env: &mut [u16], n: u16, t: u16) -> Result<u16, Fault>
+    requires { NodeInEnv code.now.script.bytes.now code.now.facts.now env.old n }
+    ensures checked { Checked code.now.script.bytes.now code.now.facts.now env.old (expr_at code.now.script.bytes.now n) t result }
     ensures env_unchanged { env.new ≡ env.old }
 {
-    let g = infer(s, starts, facts, env, n);
-    given_fits(s, starts, g, t)
+    given_fits(&code.script, infer(code, env, n)?, t)
 }
 
 // The same of a node's part, which is most often a variable: its type is at hand, and no call is made for it.
-#[cycle(check_check_part_infer_infer_call_infer_cast_infer_fork_infer_let_infer_lock_infer_update)]
-fn check_part(s: &[u8], starts: &[u16], facts: &[u16], env: &mut [u16], n: u16, t: u16) -> Answer
-    requires { NodeInEnv s.now starts.now facts.now env.old n }
-    ensures checked { Checked s.now facts.now env.old (expr_at s.now n) t result }
+#[cycle(walk)]
+fn check_part(code: &Code, env: &mut [u16], n: u16, t: u16) -> Result<u16, Fault>
+    requires { NodeInEnv code.now.script.bytes.now code.now.facts.now env.old n }
+    ensures checked { Checked code.now.script.bytes.now code.now.facts.now env.old (expr_at code.now.script.bytes.now n) t result }
     ensures env_unchanged { env.new ≡ env.old }
 {
-    let kind = node_word(s, n, 0);
-    if kind != 1 {
-        return check(s, starts, facts, env, n, t);
-    }
-    let g = given_by(n, infer_var(s, facts, env, n, 0));
-    given_fits(s, starts, g, t)
+    let Kind::Variable = kind_at(code.script.bytes, n) else {
+        return check(code, env, n, t);
+    };
+    let u = infer_var(code, env, n, 0)?;
+    given_fits(&code.script, Given::Typed(u, n), t)
 }

@@ -9,22 +9,20 @@ use lib.Seq.{take-suc, take_all, append_snoc, length-take-le, set_at, get_or_at}
 use lib.IntN.{pos}
 use borrow.Author.Tests.{eq-eqb, ne_eqb}
 use Rattle.words.specs.Word.{bytes}
-use Rattle.limits.specs.Limits.{BLOCK, INTERFACES, CLASS_FIELDS}
+use Rattle.limits.specs.Limits.{BLOCK, CLASS_FIELDS}
 use Rattle.script.specs.declared.Section.TheVariants.{Fields as fields}
-use Rattle.script.specs.Lists.{run}
+use Rattle.script.specs.Lists.{run, sum_below}
 use Rattle.script.specs.Section.{count_of, record_word}
-use Rattle.script.specs.Syntax.{Slot, Program, Declaration, a_unit, an_interface, a_class, an_int, no_type, int_of, declaration_at}
+use Rattle.script.specs.Syntax.{Slot, Program, int_of}
 use Rattle.script.specs.Reading.{own_fields, field_at, class_at, program_of}
 use Rattle.script.specs.Statements.{WithinLayout}
 use Rattle.script.proofs.Lists.{length_run, get_d_run}
 use Rattle.typing.specs.Members.{fields_from, fields_of}
 use Rattle.subtypes.specs.declared.Declared.{Declared}
-use Rattle.subtypes.specs.declared.Declared.TheVariants.{Interface as is_interface, Class as is_class, Neither as is-neither}
-use Rattle.subtypes.specs.Tables.{Starts}
-use Rattle.subtypes.specs.Subtypes.{Memberless, DeclaredAs}
-use Rattle.members.specs.Lookup.{RunAt}
-use Rattle.subtypes.proofs.SubtypeLaws.{class_there, type_interface, type_class, type_neither}
-use Rattle.members.proofs.LookupLaws.{fields_run, own_ends}
+use Rattle.subtypes.specs.declared.Declared.TheVariants.{Class as is_class}
+use Rattle.subtypes.specs.Subtypes.{DeclaredAs}
+use Rattle.subtypes.proofs.SubtypeLaws.{class_there, type_class, but_class}
+use Rattle.members.proofs.LookupLaws.{own_ends}
 use Rattle.classes.proofs.FieldLaws.{fields_few}
 use Rattle.machine.specs.declared.Value.{Value}
 use Rattle.machine.specs.declared.Value.TheVariants.{Null as nil, Int as int}
@@ -162,21 +160,18 @@ module _ {s : List ℕ} {from count : ℕ} {b : List ℕ} {n : ℕ} where
           record { becomes = rw (← started_kept vs k (some_initials s from count k l) (null_initial s from count k l type number t m q)) h.becomes }
 
 -- the fields of a class are those of its run of records
-module _ {s starts : List ℕ} {t c : ℕ} {d : Declared} (w : WithinLayout s) (r : Starts s starts) (h : DeclaredAs s t d) (e : d ≡ is_class c) where
-  pub own_run : RunAt s fields c starts (INTERFACES + c)
-  own_run = fields_run w r c (class_there h e).0
-
-  module _ (from count : ℕ) (f : from ≡ get_or starts (INTERFACES + c) 0) (k : count ≡ own_fields s c) where
+module _ {s : List ℕ} {t c : ℕ} {d : Declared} (w : WithinLayout s) (h : DeclaredAs s t d) (e : d ≡ is_class c) where
+  module _ (from count : ℕ) (f : from ≡ sum_below (own_fields s) c) (k : count ≡ own_fields s c) where
     own_fields_lem : fields_of (program_of s) t ≡ run (field_at s) from count
     unfolding class_at
-    own_fields_lem = rw (type_class h e, f ∙ own_run.start, k)
+    own_fields_lem = rw (type_class h e, f, k)
 
     many_fields : length (fields_of (program_of s) t) ≡ count
     many_fields = ap length own_fields_lem ∙ length_run (field_at s) from count
 
     pub class_asks : {b : List ℕ} {n : ℕ} → NewObject b n (length (fields_of (program_of s) t))
         → (from + count ≤ count_of s fields) × (count ≤ CLASS_FIELDS) × NewObject b n count
-    class_asks x = (own_ends w own_run from count f k, omega (arith, fields_few w t, many_fields), rw many_fields at x)
+    class_asks x = (own_ends w fields c (class_there h e).0 from count f k, omega (arith, fields_few w t, many_fields), rw many_fields at x)
 
     pub class_started : {b e : List ℕ} {n : ℕ} → FieldsBecome b e n (replicate count nil) (initials_from s from count)
         → FieldsBecome b e n (replicate (length (fields_of (program_of s) t)) nil) (initials (program_of s) (fields_of (program_of s) t))
@@ -189,16 +184,5 @@ no_values p (d ∷ ds) e q c at is = absurd (let z : ◌≡◌ {A = ℕ} 0 1 = c
 
 pub none_started : {s : List ℕ} {t : ℕ} {d : Declared} {b : List ℕ} {n : ℕ} → DeclaredAs s t d → ((c : ℕ) → d ≡ is_class c → ⊥)
     → FieldsBecome b b n (replicate (length (fields_of (program_of s) t)) nil) (initials (program_of s) (fields_of (program_of s) t))
-none_started {s} {t} {d} h o = no_values (program_of s) (fields_of (program_of s) t) (go d refl)
-  where
-    memberless : (x : Declaration) → Memberless x → fields_from x ≡ []
-    memberless a_unit m = refl
-    memberless (an_interface i) m = absurd m
-    memberless (a_class c) m = absurd m
-    memberless an_int m = refl
-    memberless no_type m = refl
-
-    go : (x : Declared) → d ≡ x → fields_of (program_of s) t ≡ []
-    go (is_interface i) e = rw (type_interface h e)
-    go (is_class c) e = absurd (o c e)
-    go is-neither e = memberless (declaration_at (program_of s) t) (type_neither h e)
+none_started {s} {t} {d} h o =
+    no_values (program_of s) (fields_of (program_of s) t) (but_class fields_from [] refl (λ i. refl) refl refl h o)

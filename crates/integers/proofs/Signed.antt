@@ -5,15 +5,15 @@ use Prim.Native.Nat.{ℕ, zero, suc, ◌+◌, ◌*◌, ◌-◌, ◌<◌, ◌≤�
 use native.Mathlib.Omega.{arith}
 use lib.Dec.{ltb}
 use lib.IntN.{ℤ, pos, negsuc, ◌+ℤ◌, ◌-ℤ◌}
-use lib.Signed.{mag, lt_z}
+use lib.Signed.{lt_z}
 use borrow.Author.Tests.{ltb-true, ltb-false, lt-ltb, le-ltb, not-true, not-false}
 use mir.Syntax.{w32}
 use mir.Val.{SFits, to_z, of_z}
 use mir.ValLaws.{to_z-of_z}
 use Rattle.words.specs.Word.{WORD}
-use Rattle.words.specs.Integer.{HALF, LAST, InRange, range_test, integer, bits_of}
+use Rattle.words.specs.Integer.{HALF, LAST, InRange, range_test, complement, integer, bits_of}
 use Rattle.words.proofs.Integers.{range_exactly}
-use Rattle.integers.specs.declared.Sum.TheVariants.{Of, Outside}
+use Rattle.std.specs.declared.option.Option.TheVariants.{Some, None}
 use Rattle.integers.specs.Sum.{sum_of}
 
 -- What the machine reads back from the bits of a number is the number, if it fits.
@@ -26,32 +26,19 @@ read_is {z} f = to_z-of_z w32 z f
 pub read_small : {z : ℤ} → SFits w32 z → InRange (read z)
 read_small {z} f = rw (to_z-of_z w32 z f) f.sfits
 
--- a number of two words, by its sign
-pub integer_below : (low high : ℕ) → high * 65536 + low < HALF → pos (high * 65536 + low) ≡ integer low high
+-- a number of two words
+pub reads : (low high : ℕ) → to_z w32 (high * 65536 + low) ≡ integer low high
 unfolding integer
-integer_below low high h = let e : high * 65536 + low ≡ low + high * WORD = omega arith in rw (e, lt-ltb (low + high * WORD) HALF (omega arith))
+reads low high = let e : high * 65536 + low ≡ low + high * WORD = omega arith in rw e (go (ltb (low + high * WORD) HALF) refl)
+  where
+    go : (t : Bool) → ltb (low + high * WORD) HALF ≡ t → to_z w32 (low + high * WORD) ≡ complement (ltb (low + high * WORD) HALF) (low + high * WORD)
+    go true q = rw q
+    go false q = let d : 4294967296 - suc (low + high * WORD) ≡ LAST - (low + high * WORD) = omega arith in rw (q, d)
 
-pub integer_from : (low high : ℕ) → HALF ≤ high * 65536 + low → negsuc (LAST - (high * 65536 + low)) ≡ integer low high
-unfolding integer
-integer_from low high h = let e : high * 65536 + low ≡ low + high * WORD = omega arith in rw (e, le-ltb (low + high * WORD) HALF (omega arith))
-
--- -1 - k, of a number from 0 on and of one below 0
-pub minus_pos : (k : ℕ) → negsuc 0 -ℤ pos k ≡ negsuc k
-minus_pos zero = refl
-minus_pos (suc k) = let e : suc (0 + k) ≡ suc k = omega arith in ap negsuc e
-
-pub minus_neg : (z : ℤ) → lt_z z (pos 0) ≡ true → negsuc 0 -ℤ z ≡ pos (mag z)
-minus_neg (pos n) h = let k : n < 0 = ltb-true n 0 h in absurd (omega arith)
-minus_neg (negsuc n) h = let e : suc n - 1 ≡ n = omega arith in rw (le-ltb (suc n) 1 (omega arith)) (ap pos e)
-
--- the bits of both
-pub bits_neg : (z : ℤ) → lt_z z (pos 0) ≡ true → LAST - mag z ≡ bits_of z
-bits_neg (pos n) h = let k : n < 0 = ltb-true n 0 h in absurd (omega arith)
-bits_neg (negsuc n) h = refl
-
-pub pos_bits : (z : ℤ) → lt_z z (pos 0) ≡ false → z ≡ pos (bits_of z)
-pos_bits (pos n) h = refl
-pos_bits (negsuc n) h = let e : ◌≡◌ {A = ℕ} 0 1 = cc in absurd (omega arith)
+-- its bits
+pub bits_are : (z : ℤ) → of_z w32 z ≡ bits_of z
+bits_are (pos n) = refl
+bits_are (negsuc n) = let d : 4294967296 - suc n ≡ LAST - n = omega arith in d
 
 -- what is asked before x and y are added: a difference d in range, and whether the sum is not
 pub record Asked (x y d : ℤ) (t : Bool) : Type 0 where
@@ -111,11 +98,11 @@ module _ {x y : ℤ} (f : SFits w32 x) (g : SFits w32 y) {t : Bool} (a : t ≡ n
   pub plain : t ≡ not (range_test (x +ℤ y))
   plain = a ∙ rw (read_is f, read_is g)
 
-  pub outside_is : t ≡ true → Outside ≡ sum_of x y
+  pub outside_is : t ≡ true → None ≡ sum_of x y
   outside_is e = rw (not-true (range_test (x +ℤ y)) (sym plain ∙ e))
 
   pub sum_fits : t ≡ false → SFits w32 (read x +ℤ read y)
   sum_fits e = record { sfits = (range_exactly (read x +ℤ read y)).0 (not-false (range_test (read x +ℤ read y)) (sym a ∙ e)) }
 
-  pub sum_is : t ≡ false → Of (read (read x +ℤ read y)) ≡ sum_of x y
+  pub sum_is : t ≡ false → Some (read (read x +ℤ read y)) ≡ sum_of x y
   sum_is e = rw (read_is (sum_fits e), read_is f, read_is g, not-false (range_test (x +ℤ y)) (sym plain ∙ e))

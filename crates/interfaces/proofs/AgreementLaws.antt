@@ -10,10 +10,12 @@ use native.Mathlib.Omega.{arith}
 use native.Mathlib.Nat.{eq-or-lt_of_le, le_of_suc-le-suc}
 use lib.Dec.{eqb}
 use lib.ListN.{get_or}
-use borrow.Author.Tests.{eq-eqb, ne_eqb, lt-ltb, le-ltb}
+use borrow.Author.Tests.{lt-ltb, le-ltb}
 use Rattle.limits.specs.Limits.{INTERFACES}
-use Rattle.script.specs.declared.Found.{Found}
-use Rattle.script.specs.declared.Found.TheVariants.{At, Nothing}
+use Rattle.std.specs.Option.{unwrap_or, option_or}
+use Rattle.std.specs.declared.option.Option.{Option as CodeOption}
+use Rattle.std.specs.declared.option.Option.TheVariants.{Some, None}
+use Rattle.std.specs.declared.result.Result.TheVariants.{Ok, Err}
 use Rattle.script.specs.declared.Section.{Section}
 use Rattle.script.specs.declared.Section.TheVariants.{Interfaces as interfaces, Signatures as signatures}
 use Rattle.script.specs.Lists.{◌∈◌, run, sum_below}
@@ -23,7 +25,7 @@ use Rattle.script.specs.Reading.{own_signatures, signature_at, interface_at, pro
 use Rattle.script.specs.Asking.{Decides, first_out_of, place_or, lowest_in}
 use Rattle.script.specs.Questions.{all_of}
 use Rattle.script.specs.Statements.{WithinLayout}
-use Rattle.sections.specs.Laid.{found_of}
+use Rattle.sections.specs.Laid.{passed_of}
 use Rattle.script.proofs.Lists.{in_run, run_has, owner_of_lem}
 use Rattle.script.proofs.Tests.{true_false, decides, yes_said, no_said, decides_all}
 use Rattle.script.proofs.Declarations.{length_interfaces, interface_at_lem}
@@ -33,33 +35,14 @@ use Rattle.typing.specs.Published.{msigs_list}
 use Rattle.typing.specs.Check.{names_in, same_types, agree_test, join_test, joins_test}
 use Rattle.members.specs.Lookup.{MeaningIs, Meanings, join_of, join_by, FirstFault, LowestFault, place_in}
 use Rattle.typing.proofs.Members.{signature_name}
-use Rattle.interfaces.specs.Cover.{has_types}
+use Rattle.interfaces.specs.Cover.{FirstAt}
 use Rattle.subtypes.proofs.SubtypeLaws.{reads_list, reads_join, left_earlier, right_earlier}
 use Rattle.members.proofs.LookupLaws.{run_ends}
 use Rattle.members.proofs.MemberLaws.{no_word, word_at}
 
 -- no two signatures clash
-pub nothing_clashes : (o : Option ℕ) → o ≡ none → Nothing ≡ found_of o
+pub nothing_clashes : (o : Option ℕ) → o ≡ none → Ok tt ≡ passed_of o
 nothing_clashes o e = rw e
-
-module _ (s : List ℕ) (k : Section) (i count : ℕ) (e : count ≡ count_of s k) where
-  pub place_there : (at : ℕ) → i < count → at ≡ record_at s k i → At at ≡ found_of (place_in s k i)
-  place_there at h p = rw (lt-ltb i (count_of s k) (rw e at h), p)
-
-  pub place_missing : count ≤ i → Nothing ≡ found_of (place_in s k i)
-  place_missing h = rw (le-ltb i (count_of s k) (rw e at h))
-
-module _ (s : List ℕ) (k : Section) (i param result a : ℕ) (p : a ≡ record_word s k i 1) where
-  pub types_differ : (a ≡ param → ⊥) → false ≡ has_types s k i param result
-  types_differ n = rw (ne_eqb (record_word s k i 1) param (rw p at n))
-
-  pub types_equal : (b : ℕ) → a ≡ param → b ≡ record_word s k i 2 → eqb b result ≡ has_types s k i param result
-  types_equal b e q = rw (eq-eqb (record_word s k i 1) param (sym p ∙ e), q)
-
-pub types_same : (s : List ℕ) (i j param result : ℕ) {r : Bool} → param ≡ record_word s signatures j 1 → result ≡ record_word s signatures j 2
-    → r ≡ has_types s signatures i param result → r ≡ same_types (signature_at s i) (signature_at s j)
-unfolding signature_at
-types_same s i j param result p q e = rw (← p, ← q) e
 
 -- two meanings agree where one of them is missing
 agree_none : (o : Option Signature) → true ≡ agree_test o none
@@ -105,18 +88,30 @@ module _ (test : ℕ → Bool) (n i : ℕ) (before : (j : ℕ) → j < i → tes
       (λ (q : j < i). before j q)
       (eq-or-lt_of_le (le_of_suc-le-suc (let g : suc j ≤ suc i = omega arith in g)))
 
-  pub fault_here : (r : Bool) → i < n → r ≡ test i → r ≡ false → FirstFault test n i
-  fault_here r h e t = record { within = omega arith; passed = before; fault = λ k. sym e ∙ t }
+  pub fault_here : (r : Bool) → i < n → r ≡ test i → r ≡ false → FirstAt test n (Some i)
+  fault_here r h e t = (h, before, sym e ∙ t)
 
-  pub fault_nowhere : n ≤ i → FirstFault test n n
-  fault_nowhere h = record { within = omega arith; passed = λ j k. before j (omega arith); fault = λ k. absurd (omega arith) }
+  pub fault_nowhere : n ≤ i → FirstAt test n None
+  fault_nowhere h = λ j k. before j (omega arith)
 
--- The lowest record at fault, name by name.
+-- The lowest record at fault, name by name: one that was found for some names, or none, and then for one name more before it.
+abbrev pub Inside : ℕ → CodeOption ℕ → Type 0
+Inside n None = Unit {0}
+Inside n (Some r) = r < n
+
+pub record LowestOf (test : ℕ → ℕ → Bool) (names n : ℕ) (found : CodeOption ℕ) : Type 0 where
+  pub lowest : LowestFault test names n (unwrap_or found n)
+  pub inside : Inside n found
+
 module _ (test : ℕ → ℕ → Bool) (n : ℕ) where
-  pub no_names : LowestFault test 0 n n
-  no_names = record { within = omega arith; passed = λ k i h l. absurd (omega arith); fault = λ h. absurd (omega arith) }
+  pub no_names : LowestOf test 0 n None
+  no_names =
+      record {
+        lowest = record { within = omega arith; passed = λ k i h l. absurd (omega arith); fault = λ h. absurd (omega arith) };
+        inside = tt;
+      }
 
-  pub one_name_more : (k low r : ℕ) → LowestFault test k n low → FirstFault (test k) low r → LowestFault test (k + 1) n r
+  one_name_more : (k low r : ℕ) → LowestFault test k n low → FirstFault (test k) low r → LowestFault test (k + 1) n r
   one_name_more k low r a b =
       record {
         within = omega (arith, a.within, b.within);
@@ -128,6 +123,19 @@ module _ (test : ℕ → ℕ → Bool) (n : ℕ) where
             (λ (q : r ≡ low). let x = a.fault (omega arith) in (x.0, omega (arith, x.1), ap (test x.0) q ∙ x.2))
             (λ (q : r < low). (k, omega arith, b.fault q))
             (eq-or-lt_of_le b.within);
+      }
+
+  -- What is found before the last one takes its place.
+  pub name_next : (k upto : ℕ) (found next : CodeOption ℕ) → LowestOf test k n found → upto ≡ unwrap_or found n → FirstAt (test k) upto next → LowestOf test (k + 1) n (option_or next found)
+  name_next k upto found None a e b =
+      record {
+        lowest = one_name_more k (unwrap_or found n) (unwrap_or found n) a.lowest (record { within = omega arith; passed = rw e at b; fault = λ h. absurd (omega arith) });
+        inside = a.inside;
+      }
+  name_next k upto found (Some r) a e b =
+      record {
+        lowest = one_name_more k (unwrap_or found n) r a.lowest (record { within = omega (arith, b.0, e); passed = b.1; fault = λ h. b.2 });
+        inside = omega (arith, b.0, e, a.lowest.within);
       }
 
 -- the first record that fails a test
@@ -239,19 +247,26 @@ join_fails : (p : Program) (i : Interface) (m : ℕ) → m ∈ names_in p.interf
 join_fails p (lists gs) m h e = absurd (true_false e)
 join_fails p (extends a b) m h e = one_fails _ (names_in p.interfaces) m h e
 
-module _ {s : List ℕ} (w : WithinLayout s) (names k r : ℕ) (e : names ≡ count_of s signatures) (l : k ≤ names) (g : names ≤ k) (f : Found) where
+module _ {s : List ℕ} (w : WithinLayout s) (k : ℕ) (g : count_of s signatures ≤ k) where
   -- what passes for the name of every signature record passes for every name
   every_name : (test : ℕ → Bool) → ((j : ℕ) → j < k → test (record_word s signatures j 0) ≡ true) → (m : ℕ) → m ∈ names_in (program_of s).interfaces → test m ≡ true
   every_name test h m x = let n = name_at_lem w m x in ap test n.is ∙ h n.index (omega (arith, n.within))
 
-  -- The place of the lowest join at fault is the answer to question 9.
-  pub joins_no :
-      LowestFault (λ j. join_by s (record_word s signatures j 0)) k (count_of s interfaces) r → f ≡ found_of (place_in s interfaces r)
-      → f ≡ found_of (lowest_in s (joins_test s (program_of s)))
-  joins_no low q =
-      q ∙ ap found_of
-      (lowest_first (λ j. join_by s (record_word s signatures j 0)) k (count_of s interfaces) (λ i. join_test (program_of s) (interface_at s i))
-      (λ i a h. join_passes (program_of s) (interface_at s i) (every_name (λ m. join_by s m i) h))
-      (λ i j a b h. join_fails (program_of s) (interface_at s i) (record_word s signatures j 0) (name_in_lem w j (omega arith)) h)
-      s interfaces r refl low
-      ∙ sym (only_joins s (program_of s)))
+  module _ (upto : k ≤ count_of s signatures) where
+    -- The place of the lowest join at fault is the answer to question 9.
+    lowest_is : (r : ℕ) → LowestFault (λ j. join_by s (record_word s signatures j 0)) k (count_of s interfaces) r → place_in s interfaces r ≡ lowest_in s (joins_test s (program_of s))
+    lowest_is r low =
+        lowest_first (λ j. join_by s (record_word s signatures j 0)) k (count_of s interfaces) (λ i. join_test (program_of s) (interface_at s i))
+        (λ i a h. join_passes (program_of s) (interface_at s i) (every_name (λ m. join_by s m i) h))
+        (λ i j a b h. join_fails (program_of s) (interface_at s i) (record_word s signatures j 0) (name_in_lem w j (omega arith)) h)
+        s interfaces r refl low
+        ∙ sym (only_joins s (program_of s))
+
+    pub joins_no :
+        (r place : ℕ) → LowestOf (λ j. join_by s (record_word s signatures j 0)) k (count_of s interfaces) (Some r) → place ≡ record_at s interfaces r
+        → Err place ≡ passed_of (lowest_in s (joins_test s (program_of s)))
+    joins_no r place low e = rw (← lowest_is r low.lowest, lt-ltb r (count_of s interfaces) low.inside, e)
+
+    pub joins_yes :
+        LowestOf (λ j. join_by s (record_word s signatures j 0)) k (count_of s interfaces) None → Ok tt ≡ passed_of (lowest_in s (joins_test s (program_of s)))
+    joins_yes low = rw (← lowest_is (count_of s interfaces) low.lowest, le-ltb (count_of s interfaces) (count_of s interfaces) (omega arith))

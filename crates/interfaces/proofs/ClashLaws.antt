@@ -1,6 +1,6 @@
 -- What the code of question 9 answers: where all signatures of one name have the same types, every join has one meaning for a name.
 use mathlib.Core.Path.{◌≡◌, sym, ap, ◌∙◌}
-use mathlib.Core.Bool.{Bool, true, false, cond}
+use mathlib.Core.Bool.{Bool, true, false, cond, ◌&&◌}
 use mathlib.Core.List.{List}
 use mathlib.Core.Logic.{⊎_elim}
 use mathlib.Core.Option.{none}
@@ -24,29 +24,32 @@ use Rattle.script.proofs.Regular.{regular}
 use Rattle.typing.specs.Check.{joins_test}
 use Rattle.typing.specs.Published.{MsigIn, msigs_list, msigs_left, msigs_right, msigs_class}
 use Rattle.typing.specs.Refusals.{JoinIs, JoinsAre}
-use Rattle.interfaces.specs.Cover.{has_types, Agrees, Unclashed}
+use Rattle.interfaces.specs.Cover.{Agrees, Unclashed}
+use Rattle.members.specs.declared.Types.{Types}
+use Rattle.members.specs.Lookup.{types_in}
 use Rattle.typing.proofs.Types.{parent_types}
 use Rattle.typing.proofs.Joins.{OneMeaning}
 use Rattle.typing.proofs.Exact.{joins_lowest}
 use Rattle.members.proofs.LookupLaws.{run_ends}
 
 -- A signature agrees if its types are the same.
-pub agrees_typed : (s : List ℕ) (name param result j : ℕ) → has_types s signatures j param result ≡ true → Agrees s name param result j
-agrees_typed s name param result j h n =
-    let t = says_yes (decides_and (decides_eq (record_word s signatures j 1) param) (decides_eq (record_word s signatures j 2) result)) h in
-    (sym t.0, sym t.1)
+pub agrees_typed :
+    (s : List ℕ) (name j : ℕ) (x y : Types) (r : Bool) → x ≡ types_in s signatures j → r ≡ eqb x.param y.param && eqb x.result y.result → r ≡ true
+    → Agrees s name y.param y.result j
+agrees_typed s name j x y r e q h n =
+    let t = says_yes (decides_and (decides_eq x.param y.param) (decides_eq x.result y.result)) (sym q ∙ h) in
+    (sym t.0 ∙ ap (λ t. t.param) e, sym t.1 ∙ ap (λ t. t.result) e)
 
 -- All later signatures were gone through.
 pub unclashed :
-    (s : List ℕ) (i name param result n j : ℕ)
+    (s : List ℕ) (i name n j : ℕ) (types : Types)
     → name ≡ record_word s signatures i 0
-    → param ≡ record_word s signatures i 1
-    → result ≡ record_word s signatures i 2
+    → types ≡ types_in s signatures i
     → n ≡ count_of s signatures
     → n ≤ j
-    → ((k : ℕ) → k < j → i < k → Agrees s name param result k)
+    → ((k : ℕ) → k < j → i < k → Agrees s name types.param types.result k)
     → Unclashed s i
-unclashed s i name param result n j p q r e l all k h a = rw (p, q, r) at (all k (omega arith) a)
+unclashed s i name n j types p q e l all k h a = rw (p, q) at (all k (omega arith) a)
 
 -- the signatures that an interface lists are a run of the script's
 lists_run : (s : List ℕ) (i : ℕ) (gs : List Signature) → lists gs ≡ interface_at s i → gs ≡ run (signature_at s) (sum_below (own_signatures s) i) (own_signatures s i)

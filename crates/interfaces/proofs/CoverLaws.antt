@@ -1,6 +1,7 @@
 -- What the code of question 10 answers: a law for each return, with the callees' results as variables.
 use mathlib.Core.Path.{◌≡◌, refl, sym, ap, ◌∙◌}
-use mathlib.Core.Bool.{Bool, true, false}
+use mathlib.Core.Bool.{Bool, true, false, ◌&&◌}
+use lib.Dec.{eqb}
 use mathlib.Core.List.{List}
 use mathlib.Core.Logic.{⊎_elim}
 use mathlib.Core.Option.{map}
@@ -8,8 +9,8 @@ use Prim.Native.Nat.{ℕ, suc, ◌+◌, ◌-◌, ◌<◌, ◌≤◌}
 use native.Mathlib.Omega.{arith}
 use lib.ListN.{get_or, set, replicate, length-set, length-replicate}
 use Rattle.limits.specs.Limits.{INTERFACES}
-use Rattle.script.specs.declared.Found.{Found}
-use Rattle.script.specs.declared.Found.TheVariants.{At, Nothing}
+use Rattle.std.specs.declared.option.Option.{Option as CodeOption}
+use Rattle.std.specs.declared.option.Option.TheVariants.{Some, None}
 use Rattle.script.specs.declared.Section.TheVariants.{Interfaces as interfaces, Signatures as signatures, Classes as classes, Methods as methods}
 use Rattle.script.specs.Lists.{run, sum_below}
 use Rattle.script.specs.Section.{count_of, record_word}
@@ -25,8 +26,9 @@ use Rattle.script.proofs.Regular.{regular}
 use Rattle.typing.specs.Check.{class_test}
 use Rattle.typing.specs.Published.{msigs_list, msigs_left, msigs_right, DefIn, MsigsFunction}
 use Rattle.typing.specs.Refusals.{ClassIs}
-use Rattle.members.specs.Lookup.{own_named}
-use Rattle.interfaces.specs.Cover.{has_types, Defines, Covers, Covered}
+use Rattle.members.specs.declared.Types.{Types}
+use Rattle.members.specs.Lookup.{own_named, types_in}
+use Rattle.interfaces.specs.Cover.{Defines, Covers, Covered}
 use Rattle.typing.proofs.Members.{found_some, found_none, msig_from, msig_by, own_found}
 use Rattle.typing.proofs.Joins.{class_one, decides_class}
 use Rattle.subtypes.proofs.SubtypeLaws.{reads_list, reads_join, interface_declared, unmarked, marked_more}
@@ -44,8 +46,8 @@ decided_same (fails n) d = sym (no_said d n)
 
 -- The method of signature i's name that was found among those of class c, or none.
 module _ {s : List ℕ} (w : WithinLayout s) (c i name : ℕ) (h : c < count_of s classes) (p : name ≡ record_word s signatures i 0)
-    (found : Found) (o : found ≡ found_of (own_named s methods c name)) where
-  pub defines_none : found ≡ Nothing → Decides (Defines s c i) false
+    (found : CodeOption ℕ) (o : found ≡ found_of (own_named s methods c name)) where
+  pub defines_none : found ≡ None → Decides (Defines s c i) false
   unfolding signature_at
   defines_none q =
       fails
@@ -56,7 +58,7 @@ module _ {s : List ℕ} (w : WithinLayout s) (c i name : ℕ) (h : c < count_of 
       (signature_at s i)
       (d, sym p))
 
-  module _ (j : ℕ) (q : found ≡ At j) where
+  module _ (j : ℕ) (q : found ≡ Some j) where
     own_def : DefIn (method_at s j).signature (class_at s c).methods × ((method_at s j).signature.name ≡ name)
     own_def =
         found_some
@@ -72,17 +74,28 @@ module _ {s : List ℕ} (w : WithinLayout s) (c i name : ℕ) (h : c < count_of 
         class_one (program_of s) (regular s w) (suc (count_of s interfaces + c)) (class_at s c) e (signature_at s i) (method_at s j).signature
         (msig_by (a_class (class_at s c)) e d) (msig_by (a_class (class_at s c)) e own_def.0) (sym p ∙ sym own_def.1)
 
-    pub defines_typed : (a x : ℕ) {r : Bool} → a ≡ record_word s signatures i 1 → x ≡ record_word s signatures i 2 → r ≡ has_types s methods j a x → Decides (Defines s c i) r
+    pub defines_typed :
+        (x g : Types) {r : Bool} → x ≡ types_in s methods j → g ≡ types_in s signatures i → r ≡ eqb x.param g.param && eqb x.result g.result
+        → Decides (Defines s c i) r
     unfolding signature_at method_at
-    defines_typed a x a_is x-is e =
+    defines_typed x g x_is g_is e =
         rw e
         (decides_as
         (λ t. rw (same t) own_def.0)
-        (λ d. (sym (ap (λ g. g.param) (defined_same d)) ∙ sym a_is, sym (ap (λ g. g.result) (defined_same d)) ∙ sym x-is))
-        (decides_and (decides_eq (record_word s methods j 1) a) (decides_eq (record_word s methods j 2) x)))
+        (λ d. (
+          ap (λ t. t.param) x_is ∙ sym (ap (λ g. g.param) (defined_same d)) ∙ sym (ap (λ t. t.param) g_is),
+          ap (λ t. t.result) x_is ∙ sym (ap (λ g. g.result) (defined_same d)) ∙ sym (ap (λ t. t.result) g_is),
+        ))
+        (decides_and (decides_eq x.param g.param) (decides_eq x.result g.result)))
       where
-        same : (record_word s methods j 1 ≡ a) × (record_word s methods j 2 ≡ x) → signature_at s i ≡ (method_at s j).signature
-        same t = λ k. record { name = (sym p ∙ sym own_def.1) k; param = (sym a_is ∙ sym t.0) k; result = (sym x-is ∙ sym t.1) k }
+        same : (x.param ≡ g.param) × (x.result ≡ g.result) → signature_at s i ≡ (method_at s j).signature
+        same t =
+            λ k.
+            record {
+              name = (sym p ∙ sym own_def.1) k;
+              param = (sym (ap (λ t. t.param) g_is) ∙ sym t.0 ∙ ap (λ t. t.param) x_is) k;
+              result = (sym (ap (λ t. t.result) g_is) ∙ sym t.1 ∙ ap (λ t. t.result) x_is) k;
+            }
 
 -- The interface of record i is a list, whose signatures are gone through.
 module _ (s : List ℕ) (c i : ℕ) (h : i < count_of s interfaces) (n : record_word s interfaces i 0 ≡ 1 → ⊥) (from count : ℕ)

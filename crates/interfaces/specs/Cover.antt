@@ -1,16 +1,18 @@
 -- What the code of questions 9 and 10 goes by: signatures that agree, and what a class covers.
-use Rattle.std.specs.Prelude.{ℕ, suc, ◌<◌, ◌≡◌, Bool, ◌&&◌, List, eqb, length, get_or}
+use Rattle.std.specs.Prelude.{ℕ, suc, ◌<◌, ◌≡◌, Bool, true, false, List, length, get_or}
+use Rattle.std.specs.declared.option.Option.{Option}
+use Rattle.std.specs.declared.option.Option.TheVariants.{Some, None}
 use Rattle.limits.specs.Limits.{INTERFACES}
-use Rattle.script.specs.declared.Section.{Section}
 use Rattle.script.specs.declared.Section.TheVariants.{Signatures as signatures}
 use Rattle.script.specs.Section.{count_of, record_word}
 use Rattle.script.specs.Syntax.{Signature}
 use Rattle.script.specs.Reading.{signature_at, class_at, program_of}
 use Rattle.typing.specs.Published.{MsigIn, DefIn}
 
--- Has record i of section k, a signature or a method, these types?
-abbrev pub has_types : List ℕ → Section → ℕ → ℕ → ℕ → Bool
-has_types s k i param result = eqb (record_word s k i 1) param && eqb (record_word s k i 2) result
+-- Of the first n records this one is the first that fails a test, or none does.
+abbrev pub FirstAt : (ℕ → Bool) → ℕ → Option ℕ → Type 0
+FirstAt test n None = (i : ℕ) → i < n → test i ≡ true
+FirstAt test n (Some r) = (r < n) × ((i : ℕ) → i < r → test i ≡ true) × (test r ≡ false)
 
 -- Signature j has another name, or these types.
 abbrev pub Agrees : List ℕ → ℕ → ℕ → ℕ → ℕ → Type 0

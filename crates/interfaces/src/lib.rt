@@ -5,5 +5,5 @@ mod agreement;
 mod clashes;
 mod covers;
 
-pub use agreement::joins_no;
-pub use covers::classes_no;
+pub use agreement::check_joins;
+pub use covers::check_classes;

@@ -20,8 +20,7 @@ use Rattle.tokens.specs.declared.Next.{Next}
 use Rattle.turns.specs.Stacks.{Pushed, Closers, ParameterIs}
 use Rattle.turns.proofs.StackLaws.{pushed}
 use Rattle.judge.specs.declared.Standing.{Standing}
-use Rattle.judge.specs.declared.Judged.{Judged}
-use Rattle.judge.specs.Standing.{Shown, Advanced, Gone, EndedAs, token_here}
+use Rattle.judge.specs.Standing.{Shown, Advanced, Gone, EndsAs, token_here}
 
 -- A token has taken its turn.
 pub advances :
@@ -65,70 +64,42 @@ advances text s t m top roles closers own depth parameter visible start roles' c
 
 -- A token that does nothing besides has taken its turn.
 pub advances_plainly :
-    (s : Standing) (t : Next) (e start : ℕ) (roles : List ℕ)
+    (s : Standing) (t : Next) (e point role start : ℕ) (roles : List ℕ)
     → Plain e
     → Tight t.kind (unpacked e)
     → s.tokens < length roles
-    → start ≡ start_by (e % 64) (s.tokens + 1) s.start
+    → point ≡ (unpacked e).next
+    → role ≡ (unpacked e).role
+    → start ≡ start_by point (s.tokens + 1) s.start
     → Gone s t (unpacked e) roles
-    (record { point = e % 64; depth = s.depth; parameter = s.parameter; visible = s.visible; tokens = s.tokens + 1; start = start })
-    (set roles s.tokens (e / 1024))
-advances_plainly s t e start roles p tight low n text closers top within =
+    (record { point = point; depth = s.depth; parameter = s.parameter; visible = s.visible; tokens = s.tokens + 1; start = start })
+    (set roles s.tokens role)
+advances_plainly s t e point role start roles p tight low k q n text closers top within =
     let own = own_test (word_from (drop s.parameter text)) s.visible (token_here text t) in
     let role_is : e / 1024 + BINDING * 0 ≡ e / 1024 = omega arith in
-    rw p
+    let n' : start ≡ start_by (e % 64) (s.tokens + 1) s.start = rw k at n in
+    rw (k, q ∙ ap (λ m. m.role) p, p)
     (advances text s t (turn_of GO (e % 64) (e / 1024)) top roles closers own s.depth s.parameter s.visible start (set roles s.tokens (e / 1024)) closers
     (rw p at tight) refl (λ l rest h. rw role_is (pushed roles s.tokens (e / 1024) l rest low h)) (omega arith) (λ cs h. h)
-    (record { within = within; spells = refl }) refl n)
+    (record { within = within; spells = refl }) refl n')
 
 -- The verdict at the text's end.
 end_turn : (p : ℕ) (m : Turn) → TurnIs p 0 m → m ≡ turn_at p (fixed TEXT_END)
 unfolding lexeme_of
 end_turn p m t = t.is []
 
-pub ended_no :
-    (text : List ℕ) (s : Standing) (r : Judged) (m : Turn)
-    → TurnIs s.point 0 m
-    → (m.deed ≡ CLOSE → ⊥)
-    → (r.ok ≡ false) × (r.place ≡ length text)
-    → EndedAs text s r
-ended_no text s r m t n h =
-    record {
-      verdict = λ f p d. h.0 ∙ rw (← p, ← (end_turn s.point m t), ne_eqb m.deed CLOSE n);
-      counted = λ y. absurd (let z : ◌≡◌ {A = ℕ} 0 1 = cc h.0 in omega arith);
-      refused = λ y. h.1;
-    }
+pub ended_no : (s : Standing) (m : Turn) → TurnIs s.point 0 m → (m.deed ≡ CLOSE → ⊥) → EndsAs s false
+ended_no s m t n f p d = rw (← p, ← (end_turn s.point m t), ne_eqb m.deed CLOSE n)
 
-pub ended_deep :
-    (text : List ℕ) (s : Standing) (r : Judged) (m : Turn)
-    → TurnIs s.point 0 m
-    → m.deed ≡ CLOSE
-    → (s.depth ≡ 0 → ⊥)
-    → (r.ok ≡ false) × (r.place ≡ length text)
-    → EndedAs text s r
-ended_deep text s r m t e n h =
-    record {
-      verdict = λ f p d. h.0 ∙ rw (← p, ← (end_turn s.point m t), eq-eqb m.deed CLOSE e) (filled f.closers d);
-      counted = λ y. absurd (let z : ◌≡◌ {A = ℕ} 0 1 = cc h.0 in omega arith);
-      refused = λ y. h.1;
-    }
+pub ended_deep : (s : Standing) (m : Turn) → TurnIs s.point 0 m → m.deed ≡ CLOSE → (s.depth ≡ 0 → ⊥) → EndsAs s false
+ended_deep s m t e n f p d = rw (← p, ← (end_turn s.point m t), eq-eqb m.deed CLOSE e) (filled f.closers d)
   where
     filled : (cs : List ℕ) → s.depth ≡ length cs → false ≡ empty_test cs
     filled [] d = absurd (n d)
     filled (a ∷ cs) d = refl
 
-pub ended_yes :
-    (text : List ℕ) (s : Standing) (m : Turn)
-    → TurnIs s.point 0 m
-    → m.deed ≡ CLOSE
-    → s.depth ≡ 0
-    → EndedAs text s (record { ok = true; place = 0; tokens = s.tokens; start = s.start })
-ended_yes text s m t e z =
-    record {
-      verdict = λ f p d. rw (← p, ← (end_turn s.point m t), eq-eqb m.deed CLOSE e) (bare f.closers d);
-      counted = λ y. (refl, refl);
-      refused = λ y. absurd (let w : ◌≡◌ {A = ℕ} 0 1 = cc in omega arith);
-    }
+pub ended_yes : (s : Standing) (m : Turn) → TurnIs s.point 0 m → m.deed ≡ CLOSE → s.depth ≡ 0 → EndsAs s true
+ended_yes s m t e z f p d = rw (← p, ← (end_turn s.point m t), eq-eqb m.deed CLOSE e) (bare f.closers d)
   where
     bare : (cs : List ℕ) → s.depth ≡ length cs → true ≡ empty_test cs
     bare [] d = refl

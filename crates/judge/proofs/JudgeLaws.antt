@@ -1,9 +1,10 @@
 -- The loop over tokens beside the parser, and one law for each way out of it.
 use Prim.Native.Nat.{ℕ, suc, ◌+◌, ◌<◌, ◌≤◌}
-use mathlib.Core.Path.{◌≡◌, refl, sym, ap, ◌∙◌, subst, subst⁻¹}
+use mathlib.Core.Path.{◌≡◌, refl, sym, ap, ◌∙◌, subst⁻¹}
 use mathlib.Core.Bool.{Bool, true, false}
 use mathlib.Core.List.{List, [], ◌∷◌, ◌++◌, map, reverse_aux, append_assoc, append-nil, map-append}
 use mathlib.Core.Option.{none}
+use Rattle.std.specs.Prelude.{Option, Result, Ok, Err}
 use native.Mathlib.Omega.{arith}
 use native.Mathlib.Numerals.{add-one}
 use lib.Dec.{eqb}
@@ -15,19 +16,21 @@ use Rattle.grammar.specs.Grammar.{Derivation}
 use Rattle.grammar.specs.Roles.{roles, roles_text, roles_before, roles_all}
 use Rattle.grammar.specs.Parse.{State, at_top, Shifted, stuck, goes, accepts, shift, refused_at, derived, after_shift, parse, parsed, ways}
 use Rattle.tokens.specs.declared.Next.{Next}
-use Rattle.tokens.specs.Next.{K_NAME, K_DIGITS, lexeme_of, tokens_at, NextIs}
+use Rattle.tokens.specs.Next.{K_NAME, K_DIGITS, lexeme_of, tokens_at, TokenIs}
 use Rattle.tokens.specs.Runs.{word_from, digits_from, byte_run}
 use Rattle.flat.specs.declared.Turn.{Turn}
-use Rattle.flat.specs.Flat.{flat_stuck, flat_goes, flat_by, flat_ends, turn_under, turned, top_of, STUCK, GO, POINTS}
+use Rattle.flat.specs.Flat.{flat_stuck, flat_goes, flat_by, flat_ends, turn_under, turned, STUCK, GO, POINTS}
 use Rattle.flat.proofs.Flatten.{flatten}
 use Rattle.flat.proofs.Walks.{flattened, accepts_end}
 use Rattle.flat.proofs.Simulation.{simulates, Ended, ends}
 use Rattle.table.specs.Table.{TurnIs, Plain, unpacked}
-use Rattle.turns.specs.Stacks.{Stacked, TurnUnder}
+use Rattle.turns.specs.Stacks.{Stacked, TurnUnder, TopIs, top_number}
+use Rattle.turns.proofs.StackLaws.{number_there, head_of, head_is}
 use Rattle.turns.proofs.TurnLaws.{under_own}
 use Rattle.judge.specs.declared.Standing.{Standing}
-use Rattle.judge.specs.declared.Judged.{Judged}
-use Rattle.judge.specs.Standing.{Shown, Advanced, Gone, EndedAs, token_here}
+use Rattle.judge.specs.declared.Accepted.{Accepted}
+use Rattle.judge.specs.declared.Misfit.{Misfit}
+use Rattle.judge.specs.Standing.{Shown, Advanced, Gone, EndsAs, EndedAs, token_here}
 use Rattle.judge.specs.Judging.{lexemes_of, offsets_of, JudgedAs, JudgedText, Room}
 
 -- Laws of lists.
@@ -104,13 +107,13 @@ not_end k s n h = go (eqb k K_NAME) (eqb k K_DIGITS) h
 
 module _
     {text roles₀ offsets₀ closers₀ : List ℕ} {s : Standing} {at : ℕ} {roles offsets closers : List ℕ} {t : Next}
-    (g : Going text roles₀ offsets₀ closers₀ s at roles offsets closers) (next : NextIs text at t) (more : t.kind ≡ TEXT_END → ⊥)
+    (g : Going text roles₀ offsets₀ closers₀ s at roles offsets closers) (next : TokenIs text at t)
   where
     first_is : tokens_at text at ≡ token_at t.start (token_here text t) ∷ tokens_at text t.end
-    first_is = (next.token more).first
+    first_is = next.first
 
     pub starts_below : t.start < length text
-    starts_below = omega (arith, (next.token more).some, next.within)
+    starts_below = omega (arith, next.some, next.within)
 
     -- A token has at least a byte, and a closer a token.
     pub record RoomHere : Type 0 where
@@ -139,20 +142,20 @@ module _
 
     -- The machine's step is the parser's.
     stepped :
-        (m : Turn) (top : ℕ)
-        → TurnUnder s.point s.depth top t.kind m
-        → top ≡ top_of (flatten g.state).closers
+        (m : Turn) (top : Option ℕ)
+        → TurnUnder s.point top t.kind m
+        → TopIs top (flatten g.state).closers
         → flat_by (flatten g.state) (token_here text t) m ≡ flattened (shift g.state (token_here text t))
     stepped m top u o =
         let e : m ≡ turn_under s.point (flatten g.state).closers (token_here text t) =
-        u.is (flatten g.state).closers (drop t.start text) g.shown.closers_are.stacked.high o in
+        u.is (flatten g.state).closers (drop t.start text) o in
         ap (flat_by (flatten g.state) (token_here text t))
         (e ∙ ap (λ (p : ℕ). turn_under p (flatten g.state).closers (token_here text t)) g.shown.point_is) ∙
         simulates g.state (token_here text t)
 
     -- The innermost closer is the machine's.
-    pub top_here : {top : ℕ} → ((cs rest : List ℕ) → Stacked closers s.depth cs rest → top ≡ top_of cs) → top ≡ top_of (flatten g.state).closers
-    top_here is = is (flatten g.state).closers g.shown.closers_are.rest g.shown.closers_are.stacked
+    pub top_here : (top : Option ℕ) → ((cs rest : List ℕ) → Stacked closers s.depth cs rest → TopIs top cs) → TopIs top (flatten g.state).closers
+    top_here top is = is (flatten g.state).closers g.shown.closers_are.rest g.shown.closers_are.stacked
 
     -- The token fits nowhere.
     place_here : get_or (offsets_of text) s.tokens (length text) ≡ t.start
@@ -162,23 +165,22 @@ module _
         (length-map g.read offset_of ∙ g.counted))
 
     pub refused_here :
-        (m : Turn) (top : ℕ) (r : Judged)
-        → TurnUnder s.point s.depth top t.kind m
-        → top ≡ top_of (flatten g.state).closers
+        (m : Turn) (top : Option ℕ)
+        → TurnUnder s.point top t.kind m
+        → TopIs top (flatten g.state).closers
         → m.deed ≡ STUCK
-        → (r.ok ≡ false) × (r.place ≡ t.start)
-        → JudgedText text roles₀ offsets₀ r roles offsets
-    refused_here m top r u o d h = go (shift g.state (token_here text t)) refl
+        → JudgedText text roles₀ offsets₀ (Err (record { place = t.start })) roles offsets
+    refused_here m top u o d = go (shift g.state (token_here text t)) refl
       where
         still : flat_stuck ≡ flattened (shift g.state (token_here text t))
         still = rw (eq-eqb m.deed STUCK d) at (stepped m top u o)
 
-        go : (x : Shifted) → shift g.state (token_here text t) ≡ x → JudgedText text roles₀ offsets₀ r roles offsets
+        go : (x : Shifted) → shift g.state (token_here text t) ≡ x → JudgedText text roles₀ offsets₀ (Err (record { place = t.start })) roles offsets
         go stuck e =
             let v : parsed (lexemes_of text) ≡ refused_at s.tokens = rw e at read_on in
-            subst⁻¹ (JudgedAs text roles₀ offsets₀ r roles offsets) v (record { no = h.0; place_is = h.1 ∙ sym place_here })
+            subst⁻¹ (JudgedAs text roles₀ offsets₀ (Err (record { place = t.start })) roles offsets) v (record { place_is = sym place_here })
         go (goes v) e = absurd (let q : flat_stuck ≡ flat_goes (flatten v) = rw e at still in let z : ◌≡◌ {A = ℕ} 0 1 = cc in omega arith)
-        go (accepts v) e = absurd (not_end t.kind (drop t.start text) more (accepts_end (token_here text t) (ways g.state) v e))
+        go (accepts v) e = absurd (not_end t.kind (drop t.start text) next.real (accepts_end (token_here text t) (ways g.state) v e))
 
     -- The token takes its turn.
     one_offset :
@@ -200,12 +202,12 @@ module _
         )
 
     pub goes_on :
-        (m : Turn) (top : ℕ) (s' : Standing) (roles' offsets' closers' : List ℕ)
-        → TurnUnder s.point s.depth top t.kind m
-        → top ≡ top_of (flatten g.state).closers
+        (m : Turn) (top : Option ℕ) (s' : Standing) (roles' offsets' closers' : List ℕ)
+        → TurnUnder s.point top t.kind m
+        → TopIs top (flatten g.state).closers
         → (m.deed ≡ STUCK → ⊥)
         → s.tokens < length offsets
-        → Advanced text s t m top roles closers s' roles' closers'
+        → Advanced text s t m (top_number top) roles closers s' roles' closers'
         → offsets' ≡ set offsets s.tokens t.start
         → length roles' ≡ length roles
         → length offsets' ≡ length offsets
@@ -218,7 +220,7 @@ module _
 
         go : (x : Shifted) → shift g.state (token_here text t) ≡ x → Going text roles₀ offsets₀ closers₀ s' t.end roles' offsets' closers'
         go stuck e = absurd (let q : flat_goes (turned m (token_here text t) (flatten g.state)) ≡ flat_stuck = rw e at moved in let z : ◌≡◌ {A = ℕ} 0 1 = cc in omega arith)
-        go (accepts v) e = absurd (not_end t.kind (drop t.start text) more (accepts_end (token_here text t) (ways g.state) v e))
+        go (accepts v) e = absurd (not_end t.kind (drop t.start text) next.real (accepts_end (token_here text t) (ways g.state) v e))
         go (goes v) e =
             let q : flat_goes (turned m (token_here text t) (flatten g.state)) ≡ flat_goes (flatten v) = rw e at moved in
             let f : turned m (token_here text t) (flatten g.state) ≡ flatten v = cc in
@@ -227,12 +229,12 @@ module _
               state = v;
               read = g.read ++ (token_at t.start (token_here text t) ∷ []);
               within = next.within;
-              shown = rw (← f, ← k) (a.shows (flatten g.state) (drop s.tokens roles₀) o g.shown);
+              shown = rw (← f, ← k) (a.shows (flatten g.state) (drop s.tokens roles₀) (number_there top (flatten g.state).closers o) g.shown);
               split = split_here ∙ sym (append_assoc g.read (token_at t.start (token_here text t) ∷ []) (tokens_at text t.end));
               counted = length-append g.read (token_at t.start (token_here text t) ∷ []) ∙ ap (λ (i : ℕ). i + 1) g.counted ∙ sym a.one_more;
               offsets_are = rw a.one_more (one_offset offsets' low w);
               verdict = rw a.one_more (rw e at read_on);
-              few = omega (arith, a.one_more, g.few, next.from, (next.token more).some);
+              few = omega (arith, a.one_more, g.few, next.from, next.some);
               shallow = omega (arith, a.one_more, a.depth_low, g.shallow);
               point_low = a.point_low;
               parameter_within = a.parameter_within;
@@ -253,10 +255,10 @@ module _
         → length offsets' ≡ length offsets
         → Going text roles₀ offsets₀ closers₀ s' t.end roles' offsets' closers
     goes_plainly e s' roles' offsets' i p low a w lr lo =
-        let top = top_of (flatten g.state).closers in
+        let cs = (flatten g.state).closers in
         let deed_is : (unpacked e).deed ≡ GO = ap (λ m. m.deed) p in
-        goes_on (unpacked e) top s' roles' offsets' closers (under_own s.point s.depth top t.kind (unpacked e) i (λ h. omega arith)) refl (λ h. omega arith) low
-        (a text closers top g.parameter_within) w lr lo refl
+        goes_on (unpacked e) (head_of cs) s' roles' offsets' closers (under_own s.point (head_of cs) t.kind (unpacked e) i (λ h. omega arith)) (head_is cs)
+        (λ h. omega arith) low (a text closers (top_number (head_of cs)) g.parameter_within) w lr lo refl
 
 begins_with : (d : Derivation) → length (roles_before d) ≤ length (roles_text d)
 unfolding roles_text
@@ -264,18 +266,14 @@ begins_with d = omega (arith, length-append (roles_before d) (roles none d.start
 
 -- The text has ended.
 pub ended_here :
-    {text roles₀ offsets₀ closers₀ : List ℕ} {s : Standing} {at : ℕ} {roles offsets closers : List ℕ} {t : Next} {r : Judged}
+    {text roles₀ offsets₀ closers₀ : List ℕ} {s : Standing} {at : ℕ} {roles offsets closers : List ℕ} (r : Result Accepted Misfit)
     → Going text roles₀ offsets₀ closers₀ s at roles offsets closers
-    → NextIs text at t
-    → t.kind ≡ TEXT_END
+    → tokens_at text at ≡ []
     → EndedAs text s r
     → JudgedText text roles₀ offsets₀ r roles offsets
 unfolding parse
-ended_here {text} {roles₀} {offsets₀} {closers₀} {s} {at} {roles} {offsets} {closers} {t} {r} g next last h = go (shift g.state (fixed TEXT_END)) refl (ends g.state)
+ended_here {text} {roles₀} {offsets₀} {closers₀} {s} {at} {roles} {offsets} {closers} r g none_left h = by_result r h
   where
-    none_left : tokens_at text at ≡ []
-    none_left = (next.ended last).none
-
     all_read : tokens_of text ≡ g.read
     all_read = g.split ∙ ap (λ l. g.read ++ l) none_left ∙ append-nil g.read
 
@@ -285,36 +283,40 @@ ended_here {text} {roles₀} {offsets₀} {closers₀} {s} {at} {roles} {offsets
     all_counted : length (tokens_of text) ≡ s.tokens
     all_counted = ap length all_read ∙ g.counted
 
-    ok_is : r.ok ≡ flat_ends (flatten g.state)
-    ok_is = h.verdict (flatten g.state) g.shown.point_is g.shown.closers_are.stacked.high
+    ok_is : (ok : Bool) → EndsAs s ok → ok ≡ flat_ends (flatten g.state)
+    ok_is ok e = e (flatten g.state) g.shown.point_is g.shown.closers_are.stacked.high
 
-    go :
-        (x : Shifted)
-        → shift g.state (fixed TEXT_END) ≡ x
+    refused : (m : Misfit) → EndsAs s false → m.place ≡ length text → (x : Shifted) → shift g.state (fixed TEXT_END) ≡ x
         → Ended (flat_ends (flatten g.state)) (flatten g.state).roles (flatten g.state).start (shift g.state (fixed TEXT_END))
-        → JudgedText text roles₀ offsets₀ r roles offsets
-    go stuck e b =
+        → JudgedText text roles₀ offsets₀ (Err m) roles offsets
+    refused m n p stuck e b =
         let v : parsed (lexemes_of text) ≡ refused_at s.tokens = rw e at says in
-        let no : flat_ends (flatten g.state) ≡ false = rw e at b in
         let past : length (offsets_of text) ≤ s.tokens = omega (arith, length-map (tokens_of text) offset_of, all_counted) in
-        subst⁻¹ (JudgedAs text roles₀ offsets₀ r roles offsets) v
-        (record { no = ok_is ∙ no; place_is = h.refused (ok_is ∙ no) ∙ sym (get_or-eq_default (offsets_of text) (length text) past) })
-    go (goes u) e b = absurd (rw e at b)
-    go (accepts d) e b =
+        subst⁻¹ (JudgedAs text roles₀ offsets₀ (Err m) roles offsets) v
+        (record { place_is = p ∙ sym (get_or-eq_default (offsets_of text) (length text) past) })
+    refused m n p (goes u) e b = absurd (rw e at b)
+    refused m n p (accepts d) e b =
+        let y : (flat_ends (flatten g.state) ≡ true) × ((flatten g.state).roles ≡ reverse_aux (roles_text d) []) × ((flatten g.state).start ≡ length (roles_before d)) = rw e at b in
+        absurd (let z : ◌≡◌ {A = ℕ} 0 1 = cc (ok_is false n, y.0) in omega arith)
+
+    accepted : (a : Accepted) → EndsAs s true → a.tokens ≡ s.tokens → a.start ≡ s.start → (x : Shifted) → shift g.state (fixed TEXT_END) ≡ x
+        → Ended (flat_ends (flatten g.state)) (flatten g.state).roles (flatten g.state).start (shift g.state (fixed TEXT_END))
+        → JudgedText text roles₀ offsets₀ (Ok a) roles offsets
+    accepted a y t k stuck e b = absurd (let no : flat_ends (flatten g.state) ≡ false = rw e at b in let z : ◌≡◌ {A = ℕ} 0 1 = cc (ok_is true y, no) in omega arith)
+    accepted a y t k (goes u) e b = absurd (rw e at b)
+    accepted a y t k (accepts d) e b =
         let v : parsed (lexemes_of text) ≡ derived d = rw e at says in
         let y : (flat_ends (flatten g.state) ≡ true) × ((flatten g.state).roles ≡ reverse_aux (roles_text d) []) × ((flatten g.state).start ≡ length (roles_before d)) = rw e at b in
-        let yes : r.ok ≡ true = ok_is ∙ y.0 in
-        subst⁻¹ (JudgedAs text roles₀ offsets₀ r roles offsets) v
+        subst⁻¹ (JudgedAs text roles₀ offsets₀ (Ok a) roles offsets) v
         (record {
-          yes = yes;
-          tokens_are = (h.counted yes).0 ∙ sym all_counted;
-          start_is = (h.counted yes).1 ∙ g.shown.start_is ∙ y.2;
-          few = omega (arith, (h.counted yes).0, g.few, next.from, (next.ended last).start_is);
+          tokens_are = t ∙ sym all_counted;
+          start_is = k ∙ g.shown.start_is ∙ y.2;
+          few = omega (arith, t, g.few, g.within);
           start_low =
               omega (
                 arith,
-                (h.counted yes).0,
-                (h.counted yes).1,
+                t,
+                k,
                 g.shown.start_is,
                 y.2,
                 g.shown.roles_are.high,
@@ -325,3 +327,7 @@ ended_here {text} {roles₀} {offsets₀} {closers₀} {s} {at} {roles} {offsets
           roles_are = rw all_counted (g.shown.roles_are.holds ∙ ap (λ (l : List ℕ). reverse_aux l (drop s.tokens roles₀)) y.1 ∙ turned_back (roles_text d) [] (drop s.tokens roles₀));
           offsets_are = rw (all_counted, all_read) g.offsets_are;
         })
+
+    by_result : (r : Result Accepted Misfit) → EndedAs text s r → JudgedText text roles₀ offsets₀ r roles offsets
+    by_result (Ok a) h = accepted a h.0 h.1 h.2 (shift g.state (fixed TEXT_END)) refl (ends g.state)
+    by_result (Err m) h = refused m h.0 h.1 (shift g.state (fixed TEXT_END)) refl (ends g.state)

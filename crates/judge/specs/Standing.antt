@@ -1,5 +1,5 @@
 -- The machine's state as the code has it.
-use Rattle.std.specs.Prelude.{ℕ, ◌+◌, ◌≤◌, ◌<◌, ◌≡◌, true, false, List, length, drop}
+use Rattle.std.specs.Prelude.{ℕ, ◌+◌, ◌≤◌, ◌<◌, ◌≡◌, Bool, true, false, List, length, drop, Result, MatchResult}
 use Rattle.grammar.specs.Tokens.{Lexeme}
 use Rattle.tokens.specs.Next.{lexeme_of}
 use Rattle.tokens.specs.Runs.{word_from}
@@ -8,7 +8,8 @@ use Rattle.flat.specs.declared.Turn.{Turn}
 use Rattle.flat.specs.Flat.{Flat, POINTS, top_of, turned, flat_ends}
 use Rattle.turns.specs.Stacks.{Stacked, Closers}
 use Rattle.judge.specs.declared.Standing.{Standing}
-use Rattle.judge.specs.declared.Judged.{Judged}
+use Rattle.judge.specs.declared.Accepted.{Accepted}
+use Rattle.judge.specs.declared.Misfit.{Misfit}
 
 -- Roles and closers in their arrays, and the parameter where its name stands in the text.
 pub record Shown (text : List ℕ) (f : Flat) (s : Standing) (roles closers rest : List ℕ) : Type 0 where
@@ -44,7 +45,9 @@ Gone s t m roles r roles' =
     (text closers : List ℕ) (top : ℕ) → s.parameter ≤ length text → Advanced text s t m top roles closers r roles' closers
 
 -- At the text's end: a text is derived where an expression may have ended and no closer is waited for.
-pub record EndedAs (text : List ℕ) (s : Standing) (r : Judged) : Type 0 where
-  pub verdict : (f : Flat) → s.point ≡ f.point → s.depth ≡ length f.closers → r.ok ≡ flat_ends f
-  pub counted : r.ok ≡ true → (r.tokens ≡ s.tokens) × (r.start ≡ s.start)
-  pub refused : r.ok ≡ false → r.place ≡ length text
+abbrev pub EndsAs : Standing → Bool → Type 0
+EndsAs s ok = (f : Flat) → s.point ≡ f.point → s.depth ≡ length f.closers → ok ≡ flat_ends f
+
+abbrev pub EndedAs : List ℕ → Standing → Result Accepted Misfit → Type 0
+EndedAs text s r =
+    MatchResult r (λ a. EndsAs s true × (a.tokens ≡ s.tokens) × (a.start ≡ s.start)) (λ m. EndsAs s false × (m.place ≡ length text))

@@ -5,10 +5,10 @@ use Prim.Native.Nat.{ℕ, suc, ◌+◌, ◌-◌, ◌<◌, ◌≤◌}
 use native.Mathlib.Omega.{arith}
 use lib.ListN.{length}
 use Rattle.limits.specs.Limits.{BINDINGS}
-use Rattle.script.specs.declared.Question.{Question}
 use Rattle.script.specs.Reading.{program_of, expr_at}
-use Rattle.typing.specs.declared.Answer.{Answer}
-use Rattle.typing.specs.declared.Answer.TheVariants.{Typed, Faulty}
+use Rattle.std.specs.declared.result.Result.TheVariants.{Ok, Err}
+use Rattle.typing.specs.declared.Fault.{Fault}
+use Rattle.typing.specs.Answers.{Answer}
 use Rattle.typing.specs.Typing.{inferred}
 use Rattle.machine.specs.declared.Value.{Value}
 use Rattle.machine.specs.declared.Frame.{Frame}
@@ -41,13 +41,13 @@ module _ {b : List ℕ} {i : ℕ} {x : Rest} {st : Stores} {u : machine.Tree} (s
   abbrev outcome : Outcome
   outcome = extend st fs name v d env (inferred (program_of s) (context st.bindings env) (expr_at s a)) (BINDINGS - counted b Bindings)
 
-  pub binds_not : {q : Question} {n : ℕ} → first ≡ Faulty q n → outcome ≡ still
+  pub binds_not : {x : Fault} → first ≡ Err x → outcome ≡ still
   binds_not h = rw (read, h)
 
-  pub binds_full : {t n : ℕ} → first ≡ Typed t → n ≡ counted b Bindings → BINDINGS ≤ n → outcome ≡ full bindings
+  pub binds_full : {t n : ℕ} → first ≡ Ok t → n ≡ counted b Bindings → BINDINGS ≤ n → outcome ≡ full bindings
   binds_full h k l = rw (read, h, no_room k l)
 
-  pub binds : (t n : ℕ) → first ≡ Typed t → n ≡ counted b Bindings → n < BINDINGS
+  pub binds : (t n : ℕ) → first ≡ Ok t → n ≡ counted b Bindings → n < BINDINGS
       → outcome ≡ moved (record { objects = st.objects; bindings = record { name = name; type = t; value = v; link = env } ∷ st.bindings }) (running d (n + 1) fs)
   binds t n h k l =
       let last : suc (length st.bindings) ≡ n + 1 = omega (arith, bindings_counted seen) in

@@ -19,41 +19,37 @@ use crate::WaitingLet;
 use block::Area;
 use limits::Limits;
 use machine::Store;
+use members::Code;
 use moves::Effect;
 use tree::Cell;
-use typing::Answer;
 
 // "a waiting let adds one binding, its type the one inferred for the let's first part under the frame's bindings"
 pub fn bind_value(
-    s: &[u8],
-    starts: &[u16],
-    facts: &[u16],
+    code: &Code,
     table: &mut [u16],
-    block: &mut [u8],
+    block: &mut [u8; Limits::BLOCK],
     i: usize,
     w: WaitingLet,
 ) -> Effect
-    requires at_typed_frame { AtTypedFrame s.now starts.now facts.now table.old block.old i w.env w.value }
-    requires first_bound { (w.first < count_of s.now nodes) × Inferable s.now block.old w.env w.first }
+    requires at_typed_frame { AtTypedFrame code.now.script.bytes.now table.old block.old i w.env w.value }
+    requires first_bound { (w.first < count_of code.now.script.bytes.now nodes) × Inferable code.now.script.bytes.now block.old w.env w.first }
     ensures performs { (rest : Rest) (st : Stores) (fs : List Frame) (g : Frame) →
         StateAt block.old i rest st (returning w.value (g ∷ fs)) →
         Performs block.old i rest
         (extend st fs w.name w.value w.body w.env
-        (inferred (program_of s.now) (context st.bindings w.env) (expr_at s.now w.first))
+        (inferred (program_of code.now.script.bytes.now) (context st.bindings w.env) (expr_at code.now.script.bytes.now w.first))
         (BINDINGS - counted block.old Bindings))
         block.new result }
     ensures table_unchanged { table.new ≡ table.old }
 {
-    let first = environments::first_type(s, starts, facts, table, block, w.env, w.first);
-    let Answer::Typed(t) = first else {
+    let Ok(t) = environments::first_type(code, table, block, w.env, w.first) else {
         return Effect::Still;
     };
     let n = areas::count(block, Area::Bindings);
     if Limits::BINDINGS <= n {
         return Effect::Full(Store::Bindings);
     }
-    let v = w.value;
-    areas::add_binding(block, w.name, t, v, w.env);
+    areas::add_binding(block, w.name, t, w.value, w.env);
     state::pop(block, i, Cell::Running(w.body, (n + 1) as u16));
     Effect::Moved
 }

@@ -15,14 +15,13 @@ ghost use Rattle.locking.specs.Entered.{entered};
 
 use crate::Access;
 use block::{Area, Layout};
-use environments::Lookup;
 use limits::Limits;
 use machine::{Frame, Store, Value};
 use moves::{Effect, fails, target_of};
 use tree::Cell;
 
 // "open shuts and leaves a lock frame"
-fn shut_object(block: &mut [u8], i: usize, env: u16, a: u16, o: u16) -> Effect
+fn shut_object(block: &mut [u8; Limits::BLOCK], i: usize, env: u16, a: u16, o: u16) -> Effect
     requires { SomeState block.old i × (o < counted block.old Objects) }
     ensures { (x : Rest) (st : Stores) (a₀ : ℕ) (fs : List Frame) →
         StateAt block.old i x st (running a₀ env fs) →
@@ -37,22 +36,20 @@ fn shut_object(block: &mut [u8], i: usize, env: u16, a: u16, o: u16) -> Effect
 }
 
 // What the thread at i finds at a lock on variable x: may it enter? The move and the look ask the same.
-pub fn lock_access(block: &[u8], i: usize, env: u16, x: u16) -> Access
+pub fn lock_access(block: &[u8; Limits::BLOCK], i: usize, env: u16, x: u16) -> Access
     requires { SomeState block.now i × Chain block.now env }
     ensures x_value { (c : Config) (p : Path) (rest : Rest) (a₀ a k : ℕ) (fs : List Frame) →
         AtPosition block.now i c p (running a₀ env fs) rest →
         lock_target c.stores (frames_above [] c.tree p) fs a env k (find (scope c.stores.bindings env) x) ≡ entered c.stores fs a env k result }
     ensures by_index { (o : ℕ) → result ≡ Open o → o < counted block.now Objects }
 {
-    let found = target_of(block, env, x);
-    let Lookup::Bound(value) = found else {
+    let Some(value) = target_of(block, env, x) else {
         return Access::Stays;
     };
     let Value::Ref(o) = value else {
         return Access::Null;
     };
-    let shut = areas::word(block, Area::Objects, o as usize, Layout::SHUT);
-    if shut == 0 {
+    if areas::word(block, Area::Objects, o as usize, Layout::SHUT) == 0 {
         return Access::Open(o);
     }
     if held::holds(block, i, o) {
@@ -62,7 +59,7 @@ pub fn lock_access(block: &[u8], i: usize, env: u16, x: u16) -> Access
 }
 
 // "Lock: null fails; open shuts and leaves a lock frame; held by this thread enters with no frame; shut and not held by this thread cannot move."
-pub fn enter_lock(block: &mut [u8], i: usize, env: u16, x: u16, a: u16) -> Effect
+pub fn enter_lock(block: &mut [u8; Limits::BLOCK], i: usize, env: u16, x: u16, a: u16) -> Effect
     requires { SomeState block.old i × Chain block.old env }
     ensures { (c : Config) (p : Path) (rest : Rest) (a₀ : ℕ) (fs : List Frame) →
         AtPosition block.old i c p (running a₀ env fs) rest →
@@ -70,8 +67,7 @@ pub fn enter_lock(block: &mut [u8], i: usize, env: u16, x: u16, a: u16) -> Effec
         (lock_target c.stores (frames_above [] c.tree p) fs a env (FRAMES - counted block.old Frames) (find (scope c.stores.bindings env) x))
         block.new result }
 {
-    let access = lock_access(block, i, env, x);
-    match access {
+    match lock_access(block, i, env, x) {
         Access::Stays => Effect::Still,
         Access::Null => fails(block, i),
         Access::Open(o) => shut_object(block, i, env, a, o),

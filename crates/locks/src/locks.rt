@@ -15,7 +15,7 @@ use limits::Limits;
 
 // Marks the object of frame i, if that is a lock frame. The object must be there and shut, and have no mark: "all lock frames name distinct objects, each of
 // them shut".
-fn mark_frame(block: &[u8], i: usize, marks: &mut [u16]) -> bool
+fn mark_frame(block: &[u8; Limits::BLOCK], i: usize, marks: &mut [u16]) -> bool
     requires { Sized block.now × (i < counted block.now Frames) × Marks block.now i marks.old }
     ensures { Marking block.now (i + 1) marks.new result }
 {
@@ -38,54 +38,49 @@ fn mark_frame(block: &[u8], i: usize, marks: &mut [u16]) -> bool
 }
 
 // Marks the objects of all lock frames.
-fn mark_frames(block: &[u8], marks: &mut [u16]) -> bool
+fn mark_frames(block: &[u8; Limits::BLOCK], marks: &mut [u16]) -> bool
     requires { Sized block.now × Marks block.now 0 marks.old }
     ensures { Marking block.now (counted block.now Frames) marks.new result }
 {
     let count = areas::count(block, Area::Frames);
-    let mut i = 0;
-    while i < count {
+    for i in 0..count {
         if !mark_frame(block, i, marks) {
             return false;
         }
-        i += 1;
     }
     true
 }
 
 // Is no thread failed?
-fn none_failed(block: &[u8]) -> bool
+fn none_failed(block: &[u8; Limits::BLOCK]) -> bool
     requires { Sized block.now }
     ensures { result ≡ all_of goes_on (run (kind_at block.now) 0 (counted block.now Positions)) }
 {
     let count = areas::count(block, Area::Positions);
-    let mut i = 0;
-    while i < count {
+    for i in 0..count {
         if areas::word(block, Area::Positions, i, Layout::KIND) == Layout::FAILED {
             return false;
         }
-        i += 1;
     }
     true
 }
 
 // Has every shut object a mark?
-fn shut_are_marked(block: &[u8], marks: &[u16]) -> bool
+fn shut_are_marked(block: &[u8; Limits::BLOCK], marks: &[u16]) -> bool
     requires { Sized block.now × (length marks.now ≡ OBJECTS) }
     ensures { result ≡ all_of (λ o. leb (shut_in block.now o) (get_or marks.now o 0)) (numbers_below (counted block.now Objects)) }
 {
-    let mut n = areas::count(block, Area::Objects);
-    while 0 < n {
-        if marks[n - 1] < areas::word(block, Area::Objects, n - 1, Layout::SHUT) {
+    let count = areas::count(block, Area::Objects);
+    for o in (0..count).rev() {
+        if marks[o] < areas::word(block, Area::Objects, o, Layout::SHUT) {
             return false;
         }
-        n -= 1;
     }
     true
 }
 
 // Do the locks fit? "all lock frames name distinct objects, each of them shut", and "With no failed thread no other objects are shut."
-pub fn locks_fit(block: &[u8]) -> bool
+pub fn locks_fit(block: &[u8; Limits::BLOCK]) -> bool
     requires { Sized block.now }
     ensures { (field_count : ℕ → ℕ) → InOrder field_count block.now → result ≡ locks_test (config_in field_count block.now) }
 {

@@ -12,13 +12,17 @@ use Rattle.script.specs.declared.Section.TheVariants.{Classes as classes, Method
 use Rattle.script.specs.Lists.{◌∈◌, sum_below}
 use Rattle.script.specs.Section.{count_of, record_at, record_word}
 use Rattle.script.specs.Syntax.{Point, n_bind, n_constant, Method, Class, declaration_at, a_class}
-use Rattle.script.specs.Reading.{Kind, null_kind, var_kind, select_kind, update_kind, call_kind, bind_kind, new_kind, cast_kind, fork_kind, lock_kind, constant_kind, add_kind, unknown_kind, node_of, kind_of, view_at, own_methods, method_at, class_at, program_of}
+use Rattle.script.specs.declared.Kind.{Kind}
+use Rattle.script.specs.declared.Kind.TheVariants.{Null as null_kind, Variable as var_kind, Select as select_kind, Update as update_kind, Call as call_kind}
+use Rattle.script.specs.declared.Kind.TheVariants.{Let as bind_kind, New as new_kind, Cast as cast_kind, Fork as fork_kind, Lock as lock_kind}
+use Rattle.script.specs.declared.Kind.TheVariants.{Constant as constant_kind, Sum as add_kind, Unknown as unknown_kind}
+use Rattle.script.specs.Reading.{node_of, kind_of, view_at, own_methods, method_at, class_at, program_of}
 use Rattle.script.specs.Statements.{WithinLayout}
 use Rattle.script.proofs.Lists.{in_run, sum_more}
 use Rattle.script.proofs.Declarations.{class_from}
 use Rattle.script.proofs.Reading.{expr_at_lem, in_order}
 use Rattle.script.proofs.Regular.{formed, regular}
-use Rattle.typing.specs.declared.Verdict.TheVariants.{Accepted}
+use Rattle.std.specs.declared.result.Result.TheVariants.{Ok}
 use Rattle.typing.specs.Check.{check_of}
 use Rattle.typing.proofs.Exact.{exact, outside_refused}
 use Rattle.machine.specs.Config.{code_of}
@@ -70,7 +74,7 @@ module _ (s : List ℕ) where
     bodies u c m d k = let x = class_from s u c d in body_at_lem m x.0 x.1 (rw x.3 at k)
 
 -- Every byte is below 256 in what a slice lends.
-pub accepted : (s : List ℕ) (t : ℕ) → ((i : ℕ) → get_or s i 0 < 256) → check_of s ≡ Accepted t → AcceptedCode (code_of s) t
+pub accepted : (s : List ℕ) (t : ℕ) → ((i : ℕ) → get_or s i 0 < 256) → check_of s ≡ Ok t → AcceptedCode (code_of s) t
 unfolding program_of
 accepted s t bytes e =
     let w = outside_refused s t e in

@@ -6,7 +6,7 @@ use Rattle.script.specs.Syntax.{declaration_at}
 use Rattle.script.specs.Questions.{all_of}
 use Rattle.script.proofs.Lists.{every_in}
 use Rattle.typing.specs.Members.{values_to, value_at, reach, below, meaning, own_method, method_in, type_in, field_in}
-use Rattle.typing.specs.declared.Answer.TheVariants.{Typed}
+use Rattle.std.specs.declared.result.Result.TheVariants.{Ok}
 use Rattle.typing.specs.Typing.{without, fv, is_in, shares, answer, bodies_from, bodies_of, walk}
 use Rattle.machine.specs.Machine.{locate, move, choice}
 use Rattle.machine.specs.Silent.{silent_from, most_silent}
@@ -61,7 +61,7 @@ unfolding run silent_from most_silent example_nodes example_code
 example_most = refl
 
 -- The script gets a yes to questions 11 to 15, and its start has type 2.
-pub example_typed : walk example_program (bodies_of example_program) ≡ Typed 2
+pub example_typed : walk example_program (bodies_of example_program) ≡ Ok 2
 unfolding named declaration_at values_to value_at reach below meaning own_method method_in type_in field_in without fv is_in shares answer bodies_from bodies_of walk example_nodes
 example_typed = refl
 

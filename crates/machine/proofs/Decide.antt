@@ -22,8 +22,8 @@ use Rattle.script.specs.Regular.{IsType, IsClass, Formed}
 use Rattle.script.proofs.Tests.{says_yes, yes_said, decides_as, decides_and, decides_or, decides_not, decides_eq, decides_le, decides_lt, decides_all}
 use Rattle.script.proofs.Reading.{first, second}
 use Rattle.typing.specs.declared.Aim.TheVariants.{Infers as infers, Checks as checks}
-use Rattle.typing.specs.declared.Answer.{Answer}
-use Rattle.typing.specs.declared.Answer.TheVariants.{Typed, Faulty}
+use Rattle.std.specs.declared.result.Result.TheVariants.{Ok, Err}
+use Rattle.typing.specs.Answers.{Answer}
 use Rattle.typing.specs.Environments.{TypeOf}
 use Rattle.typing.specs.Members.{type_in, field_in, method_in, fields_of}
 use Rattle.typing.specs.Typing.{inferred, checked}
@@ -64,9 +64,9 @@ given_some : {A B : Type 0} (o : Option A) (f : A → Option B) (b : B) → give
 given_some none f b h = absurd (none-ne-some _ h)
 given_some (some a) f b h = (a, refl, h)
 
-typed_some : {B : Type 0} (o : Answer) (f : ℕ → Option B) (b : B) → if_typed o f ≡ some b → (t : ℕ) × (o ≡ Typed t) × (f t ≡ some b)
-typed_some (Typed t) f b h = (t, refl, h)
-typed_some (Faulty q n) f b h = absurd (none-ne-some _ h)
+typed_some : {B : Type 0} (o : Answer) (f : ℕ → Option B) (b : B) → if_typed o f ≡ some b → (t : ℕ) × (o ≡ Ok t) × (f t ≡ some b)
+typed_some (Ok t) f b h = (t, refl, h)
+typed_some (Err _) f b h = absurd (none-ne-some _ h)
 
 only_some : {A : Type 0} (q : Bool) (o : Option A) (a : A) → only q o ≡ some a → (q ≡ true) × (o ≡ some a)
 only_some true o a h = (refl, h)

@@ -11,7 +11,7 @@ use Rattle.script.specs.Regular.{IsType, IsClass}
 use Rattle.script.proofs.Lists.{named_unique}
 use Rattle.script.proofs.Reading.{build_point}
 use Rattle.script.proofs.Declarations.{is_class, a_class_at}
-use Rattle.typing.specs.declared.Answer.TheVariants.{Typed}
+use Rattle.std.specs.declared.result.Result.TheVariants.{Ok}
 use Rattle.typing.specs.Members.{type_in, field_in, fields_of, defined_in}
 use Rattle.typing.specs.Environments.{TypeOf, body_env}
 use Rattle.typing.specs.Typing.{inferred, checked}
@@ -130,10 +130,10 @@ module _ {s : Code} {start : ℕ} (acc : AcceptedCode s start) where
   gives_meets (gives_fork d h k g) m = gives_fork d h k (gives_meets g m)
 
   -- What is inferred is what the walk computes, so it is one type.
-  pub infer_computes : {Γ : List Slot} {e : Expr} {t : ℕ} → Infer s.program Γ e t → inferred s.program Γ e ≡ Typed t
+  pub infer_computes : {Γ : List Slot} {e : Expr} {t : ℕ} → Infer s.program Γ e t → inferred s.program Γ e ≡ Ok t
   infer_computes = infer_complete s.program acc.regular (rules_function acc.typed)
 
-  pub check_computes : {Γ : List Slot} {e : Expr} {t : ℕ} → Check s.program Γ e t → checked s.program Γ e t ≡ Typed t
+  pub check_computes : {Γ : List Slot} {e : Expr} {t : ℕ} → Check s.program Γ e t → checked s.program Γ e t ≡ Ok t
   check_computes = check_complete s.program acc.regular (rules_function acc.typed)
 
   -- It is a type.

@@ -6,8 +6,8 @@ use Rattle.words.specs.Integer.{range_test}
 use Rattle.script.specs.Questions.{all_of}
 use Rattle.script.specs.Syntax.{Point, Node, n_null, n_var, n_select, n_update, n_call, n_bind, n_new, n_cast, n_fork, n_lock, n_constant, n_add}
 use Rattle.script.specs.Syntax.{Expr, Slot, int_of}
-use Rattle.typing.specs.declared.Answer.{Answer}
-use Rattle.typing.specs.declared.Answer.TheVariants.{Typed, Faulty}
+use Rattle.std.specs.declared.result.Result.TheVariants.{Ok, Err}
+use Rattle.typing.specs.Answers.{Answer}
 use Rattle.typing.specs.Members.{below, type_in, field_in, method_in, fields_of}
 use Rattle.typing.specs.Typing.{null_test, inferred, checked}
 use Rattle.machine.specs.declared.Value.{Value}
@@ -26,8 +26,8 @@ given none f = none
 given (some a) f = f a
 
 abbrev pub if_typed : {B : Type 0} → Answer → (ℕ → Option B) → Option B
-if_typed (Typed t) f = f t
-if_typed (Faulty q n) f = none
+if_typed (Ok t) f = f t
+if_typed (Err _) f = none
 
 abbrev pub only : {A : Type 0} → Bool → Option A → Option A
 only true o = o
@@ -52,8 +52,8 @@ value_fits_test s xs (ref o) w = object_test s w (object xs o)
 value_fits_test s xs (int z) w = range_test z && meets_test s (int_of s.program) w
 
 abbrev pub is_typed : Answer → Bool
-is_typed (Typed t) = true
-is_typed (Faulty q n) = false
+is_typed (Ok t) = true
+is_typed (Err _) = false
 
 -- Where any type will do, an expression that has none may yet end in null: then Unit will do.
 abbrev pub gives_test : Code → List Slot → Expr → Want → Bool

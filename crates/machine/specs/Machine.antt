@@ -7,8 +7,8 @@ use Rattle.script.specs.Lists.{named}
 use Rattle.script.specs.Syntax.{Point, Node, n_null, n_var, n_select, n_update, n_call, n_bind, n_new, n_cast, n_fork, n_lock, n_constant, n_add}
 use Rattle.script.specs.Syntax.{point_of, Slot, Method, Program}
 use Rattle.script.specs.Reading.{program_of}
-use Rattle.typing.specs.declared.Answer.{Answer}
-use Rattle.typing.specs.declared.Answer.TheVariants.{Typed, Faulty}
+use Rattle.std.specs.declared.result.Result.TheVariants.{Ok, Err}
+use Rattle.typing.specs.Answers.{Answer}
 use Rattle.typing.specs.Members.{fields_of, defined_in}
 use Rattle.typing.specs.Typing.{inferred, int_test}
 use Rattle.machine.specs.declared.Store.{Store}
@@ -176,9 +176,9 @@ lock_target st above fs a e k q = on_target st (lock_object st above fs a e k) q
 
 -- "a waiting let adds one binding, its type the one inferred for the let's first part under the frame's bindings"
 abbrev pub extend : Stores → List Frame → ℕ → Value → Point → ℕ → Answer → ℕ → Outcome
-extend st fs x v b e (Faulty q n) k = still
-extend st fs x v b e (Typed t) zero = full Bindings
-extend st fs x v b e (Typed t) (suc k) =
+extend st fs x v b e (Err _) k = still
+extend st fs x v b e (Ok t) zero = full Bindings
+extend st fs x v b e (Ok t) (suc k) =
     moved
     (record { objects = st.objects; bindings = record { name = x; type = t; value = v; link = e } ∷ st.bindings })
     (running b (suc (length st.bindings)) fs)

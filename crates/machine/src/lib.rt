@@ -17,6 +17,7 @@ pub enum Frame {
     Locks(u16),
 }
 
+// No Option: where nothing can be expected, because a frame does not fit, the answer is None, and Option<Option<u16>> would not tell the two apart by name.
 // What is expected of a value, the type t in Γ ⊢ T : t: any, since WF-T-ASYNC lets its sides have any types ("to any type at an async"), or a type and those
 // below it ("the start's type or below").
 #[derive(Clone, Copy)]
@@ -29,7 +30,7 @@ pub enum Want {
 // store has left".
 #[derive(Clone, Copy)]
 pub enum Store {
-    Objects,
+    Objects = 4,
     Bindings,
     Frames,
     Threads,
@@ -38,7 +39,7 @@ pub enum Store {
 // How a run ends: "1 the root is a finished thread, 2 the root is a failed thread, 3 neither and no position can move".
 #[derive(Clone, Copy)]
 pub enum Ending {
-    Finished,
+    Finished = 1,
     Failed,
     Deadlocked,
 }

@@ -15,9 +15,11 @@ use Rattle.script.specs.declared.Section.TheVariants.{Nodes as nodes}
 use Rattle.script.specs.Lists.{◌∈◌}
 use Rattle.script.specs.Section.{count_of, node_word}
 use Rattle.script.specs.Syntax.{Point, Expr, Node, n_null, n_var, n_select, n_update, n_call, n_bind, n_new, n_cast, n_fork, n_lock, n_constant, n_add, parts, build}
+use Rattle.script.specs.declared.Kind.{Kind}
+use Rattle.script.specs.declared.Kind.TheVariants.{Null, Variable, Select, Update, Call, Let, New, Cast, Fork, Lock, Constant, Sum, Unknown}
 use Rattle.script.specs.Reading.{kind_of, node_of, view_at, expr_at}
 use Rattle.script.specs.Statements.{WithinLayout}
-use Rattle.script.proofs.Reading.{first, second, third, by_kind, node_by, view_by, expr_at_lem, in_order, expr_by, every_node}
+use Rattle.script.proofs.Reading.{first, second, third, by_kind, view_by, node_as, view_as, expr_at_lem, in_order, expr_as, every_node}
 use Rattle.script.proofs.Tests.{true_false}
 use Rattle.typing.specs.Typing.{without, fv, is_in}
 use Rattle.names.specs.Ranks.{slot_of, name_in, Names, RankOf, of_node}
@@ -53,39 +55,37 @@ module _ (s : List ℕ) (n : ℕ) where
   unfolding view_at
   fork_kind a b c e = only_fork (node_word s n 1) (node_word s n 2) (node_word s n 3) (node_word s n 0) (rw e tt)
 
-  pub part_of : (k p : ℕ) → node_word s n 0 ≡ k → p ∈ parts (node_by s n k) → p ∈ parts (view_at s n)
-  part_of k p e h = rw (view_by s n k e) h
+  pub part_of : (k : Kind) (p : ℕ) → kind_of (node_word s n 0) ≡ k → p ∈ parts (node_as s n k) → p ∈ parts (view_at s n)
+  part_of k p e h = rw (view_as s n k e) h
 
   -- A node of a kind that names a variable at place j.
-  pub naming : (k j : ℕ) → node_word s n 0 ≡ k → j < names_kind (kind_of k) → n < count_of s nodes → Names s n j (node_word s n (1 + j))
-  naming k j e l h = record { there = h; name = a_name s n j k (names_kind (kind_of k)) (sym e) refl l }
+  pub naming : (k : Kind) (j : ℕ) → kind_of (node_word s n 0) ≡ k → j < names_kind k → n < count_of s nodes → Names s n j (node_word s n (1 + j))
+  naming k j e l h = record { there = h; name = a_name s n j (node_word s n 0) (names_kind (kind_of (node_word s n 0))) refl refl (rw e l) }
 
   -- A fork names none.
   pub fork_nameless : (j : ℕ) → node_word s n 0 ≡ 8 → name_in j (view_at s n) ≡ none
   unfolding kind_of
   fork_nameless j e = rw (view_by s n 8 e)
 
-  no_fv : (f : Point → Expr) (k : ℕ) → (k ≡ 1 → ⊥) → (k ≡ 2 → ⊥) → (k ≡ 3 → ⊥) → (k ≡ 4 → ⊥) → (k ≡ 5 → ⊥) → (k ≡ 7 → ⊥) → (k ≡ 8 → ⊥) → (k ≡ 9 → ⊥) → (k ≡ 11 → ⊥) → fv (build n f (node_by s n k)) ≡ []
-  unfolding kind_of fv
-  no_fv f k n1 n2 n3 n4 n5 n7 n8 n9 n11 = go k refl
-    where
-      go : (j : ℕ) → k ≡ j → fv (build n f (node_by s n j)) ≡ []
-      go =
-          by_kind
-          (λ j. k ≡ j → fv (build n f (node_by s n j)) ≡ [])
-          (λ q. refl)
-          (λ q. absurd (n1 q))
-          (λ q. absurd (n2 q))
-          (λ q. absurd (n3 q))
-          (λ q. absurd (n4 q))
-          (λ q. absurd (n5 q))
-          (λ q. refl)
-          (λ q. absurd (n7 q))
-          (λ q. absurd (n8 q))
-          (λ q. absurd (n9 q))
-          (λ q. refl)
-          (λ q. absurd (n11 q))
-          (λ j q. refl)
+  -- A node of these kinds has no free variable.
+  abbrev pub Closed : Kind → Type 0
+  Closed k = (f : Point → Expr) → fv (build n f (node_as s n k)) ≡ []
+
+  pub closed_null : Closed Null
+  unfolding fv
+  closed_null f = refl
+
+  pub closed_new : Closed New
+  unfolding fv
+  closed_new f = refl
+
+  pub closed_constant : Closed Constant
+  unfolding fv
+  closed_constant f = refl
+
+  pub closed_unknown : Closed Unknown
+  unfolding fv
+  closed_unknown f = refl
 
 or_cases : (a b : Bool) → (a || b) ≡ true → (a ≡ true) ⊎ (b ≡ true)
 or_cases true b e = inl refl
@@ -150,83 +150,83 @@ module _ (s facts masks : List ℕ) (start n : ℕ) (h : Ahead s facts masks sta
   own_free own q o = mask_rank s facts start h.count (node_word s n 1) (get_or facts (2 * n) 0) own h.ranked (rank_first q) o
 
   -- The mask of a node of kind k.
-  mask_is : (k m : ℕ) → node_word s n 0 ≡ k → MaskOf s facts start m (fv (build n (expr_at s) (node_by s n k))) → FreeMask s facts start n m
-  mask_is k m e q = rw (expr_by s h.layout n h.there k e) q
+  mask_is : (k : Kind) (m : ℕ) → kind_of (node_word s n 0) ≡ k → MaskOf s facts start m (fv (build n (expr_at s) (node_as s n k))) → FreeMask s facts start n m
+  mask_is k m e q = rw (expr_as s h.layout n h.there k e) q
 
   -- The slots of node n are in the table of facts.
   pub fact_within : 2 * n + 1 < length facts
   fact_within = omega (arith, h.there, h.layout.counts_are.within nodes, h.ranked.size)
 
-  pub mask_var : (own : ℕ) → node_word s n 0 ≡ 1 → RankMask start (get_or facts (2 * n) 0) own → FreeMask s facts start n own
-  unfolding kind_of fv
-  mask_var own k o = mask_is 1 own k (own_free own (naming s n 1 0 k (omega arith) h.there) o)
+  pub mask_var : (own : ℕ) → kind_of (node_word s n 0) ≡ Variable → RankMask start (get_or facts (2 * n) 0) own → FreeMask s facts start n own
+  unfolding fv
+  mask_var own k o = mask_is Variable own k (own_free own (naming s n Variable 0 k (omega arith) h.there) o)
 
-  pub mask_select : (own : ℕ) → node_word s n 0 ≡ 2 → RankMask start (get_or facts (2 * n) 0) own → FreeMask s facts start n own
-  unfolding kind_of fv
-  mask_select own k o = mask_is 2 own k (own_free own (naming s n 2 0 k (omega arith) h.there) o)
+  pub mask_select : (own : ℕ) → kind_of (node_word s n 0) ≡ Select → RankMask start (get_or facts (2 * n) 0) own → FreeMask s facts start n own
+  unfolding fv
+  mask_select own k o = mask_is Select own k (own_free own (naming s n Select 0 k (omega arith) h.there) o)
 
   pub mask_use : (p own m : ℕ) → Names s n 0 (node_word s n 1) → p ∈ parts (view_at s n) → RankMask start (get_or facts (2 * n) 0) own → m ≡ get_or masks p 0 → MaskOf s facts start (bit_or own m) (node_word s n 1 ∷ fv (expr_at s p))
   mask_use p own m q i o e = mask_or s facts start own m (node_word s n 1 ∷ []) (fv (expr_at s p)) (own_free own q o) (part_free p m i e)
 
-  pub mask_update : (m : ℕ) → node_word s n 0 ≡ 3 → MaskOf s facts start m (node_word s n 1 ∷ fv (expr_at s (node_word s n 3))) → FreeMask s facts start n m
-  unfolding kind_of fv
-  mask_update m k q = mask_is 3 m k q
+  pub mask_update : (m : ℕ) → kind_of (node_word s n 0) ≡ Update → MaskOf s facts start m (node_word s n 1 ∷ fv (expr_at s (node_word s n 3))) → FreeMask s facts start n m
+  unfolding fv
+  mask_update m k q = mask_is Update m k q
 
-  pub mask_call : (m : ℕ) → node_word s n 0 ≡ 4 → MaskOf s facts start m (node_word s n 1 ∷ fv (expr_at s (node_word s n 3))) → FreeMask s facts start n m
-  unfolding kind_of fv
-  mask_call m k q = mask_is 4 m k q
+  pub mask_call : (m : ℕ) → kind_of (node_word s n 0) ≡ Call → MaskOf s facts start m (node_word s n 1 ∷ fv (expr_at s (node_word s n 3))) → FreeMask s facts start n m
+  unfolding fv
+  mask_call m k q = mask_is Call m k q
 
-  pub mask_lock : (m : ℕ) → node_word s n 0 ≡ 9 → MaskOf s facts start m (node_word s n 1 ∷ fv (expr_at s (node_word s n 2))) → FreeMask s facts start n m
-  unfolding kind_of fv
-  mask_lock m k q = mask_is 9 m k q
+  pub mask_lock : (m : ℕ) → kind_of (node_word s n 0) ≡ Lock → MaskOf s facts start m (node_word s n 1 ∷ fv (expr_at s (node_word s n 2))) → FreeMask s facts start n m
+  unfolding fv
+  mask_lock m k q = mask_is Lock m k q
 
-  pub mask_let : (own a b : ℕ) → node_word s n 0 ≡ 5 → RankMask start (get_or facts (2 * n) 0) own → a ≡ get_or masks (node_word s n 2) 0 → b ≡ get_or masks (node_word s n 3) 0 → FreeMask s facts start n (bit_or a (bit_xor (bit_or b own) own))
-  unfolding kind_of fv
+  pub mask_let : (own a b : ℕ) → kind_of (node_word s n 0) ≡ Let → RankMask start (get_or facts (2 * n) 0) own → a ≡ get_or masks (node_word s n 2) 0 → b ≡ get_or masks (node_word s n 3) 0 → FreeMask s facts start n (bit_or a (bit_xor (bit_or b own) own))
+  unfolding fv
   mask_let own a b k o ea eb =
-      let p = part_free (node_word s n 2) a (part_of s n 5 _ k first) ea in
-      let q = part_free (node_word s n 3) b (part_of s n 5 _ k second) eb in
-      let w = own_free own (naming s n 5 0 k (omega arith) h.there) o in
-      mask_is 5 _ k (mask_or s facts start a _ (fv (expr_at s (node_word s n 2))) _ p (mask_without s facts start b own _ (fv (expr_at s (node_word s n 3))) q w))
+      let p = part_free (node_word s n 2) a (part_of s n Let _ k first) ea in
+      let q = part_free (node_word s n 3) b (part_of s n Let _ k second) eb in
+      let w = own_free own (naming s n Let 0 k (omega arith) h.there) o in
+      mask_is Let _ k (mask_or s facts start a _ (fv (expr_at s (node_word s n 2))) _ p (mask_without s facts start b own _ (fv (expr_at s (node_word s n 3))) q w))
 
-  pub mask_fork : (a b c : ℕ) → node_word s n 0 ≡ 8 → a ≡ get_or masks (node_word s n 1) 0 → b ≡ get_or masks (node_word s n 2) 0 → c ≡ get_or masks (node_word s n 3) 0 → FreeMask s facts start n (bit_or a (bit_or b c))
-  unfolding kind_of fv
+  pub mask_fork : (a b c : ℕ) → kind_of (node_word s n 0) ≡ Fork → a ≡ get_or masks (node_word s n 1) 0 → b ≡ get_or masks (node_word s n 2) 0 → c ≡ get_or masks (node_word s n 3) 0 → FreeMask s facts start n (bit_or a (bit_or b c))
+  unfolding fv
   mask_fork a b c k ea eb ec =
-      let p = part_free (node_word s n 1) a (part_of s n 8 _ k first) ea in
-      let q = part_free (node_word s n 2) b (part_of s n 8 _ k second) eb in
-      let r = part_free (node_word s n 3) c (part_of s n 8 _ k third) ec in
+      let p = part_free (node_word s n 1) a (part_of s n Fork _ k first) ea in
+      let q = part_free (node_word s n 2) b (part_of s n Fork _ k second) eb in
+      let r = part_free (node_word s n 3) c (part_of s n Fork _ k third) ec in
       mask_is
-      8
+      Fork
       _
       k
       (mask_or s facts start a _ (fv (expr_at s (node_word s n 1))) _ p (mask_or s facts start b c (fv (expr_at s (node_word s n 2))) (fv (expr_at s (node_word s n 3))) q r))
 
-  pub mask_sum : (a b : ℕ) → node_word s n 0 ≡ 11 → RankMask start (get_or facts (2 * n) 0) a → RankMask start (get_or facts (2 * n + 1) 0) b → FreeMask s facts start n (bit_or a b)
-  unfolding kind_of fv
+  pub mask_sum : (a b : ℕ) → kind_of (node_word s n 0) ≡ Sum → RankMask start (get_or facts (2 * n) 0) a → RankMask start (get_or facts (2 * n + 1) 0) b → FreeMask s facts start n (bit_or a b)
+  unfolding fv
   mask_sum a b k o p =
-      let x = own_free a (naming s n 11 0 k (omega arith) h.there) o in
-      let y = mask_rank s facts start h.count (node_word s n 2) (get_or facts (2 * n + 1) 0) b h.ranked (of_node (naming s n 11 1 k (omega arith) h.there)) p in
-      mask_is 11 _ k (mask_or s facts start a b (node_word s n 1 ∷ []) (node_word s n 2 ∷ []) x y)
+      let x = own_free a (naming s n Sum 0 k (omega arith) h.there) o in
+      let y = mask_rank s facts start h.count (node_word s n 2) (get_or facts (2 * n + 1) 0) b h.ranked (of_node (naming s n Sum 1 k (omega arith) h.there)) p in
+      mask_is Sum _ k (mask_or s facts start a b (node_word s n 1 ∷ []) (node_word s n 2 ∷ []) x y)
 
-  pub mask_cast : (m : ℕ) → node_word s n 0 ≡ 7 → m ≡ get_or masks (node_word s n 2) 0 → FreeMask s facts start n m
-  unfolding kind_of fv
-  mask_cast m k e = mask_is 7 m k (part_free (node_word s n 2) m (part_of s n 7 _ k first) e)
+  pub mask_cast : (m : ℕ) → kind_of (node_word s n 0) ≡ Cast → m ≡ get_or masks (node_word s n 2) 0 → FreeMask s facts start n m
+  unfolding fv
+  mask_cast m k e = mask_is Cast m k (part_free (node_word s n 2) m (part_of s n Cast _ k first) e)
 
-  pub mask_rest : (k : ℕ) → k ≡ node_word s n 0 → (k ≡ 1 → ⊥) → (k ≡ 2 → ⊥) → (k ≡ 3 → ⊥) → (k ≡ 4 → ⊥) → (k ≡ 5 → ⊥) → (k ≡ 7 → ⊥) → (k ≡ 8 → ⊥) → (k ≡ 9 → ⊥) → (k ≡ 11 → ⊥) → FreeMask s facts start n 0
-  mask_rest k e n1 n2 n3 n4 n5 n7 n8 n9 n11 = mask_is k 0 (sym e) (rw (no_fv s n (expr_at s) k n1 n2 n3 n4 n5 n7 n8 n9 n11) (mask_none s facts start))
+  pub mask_rest : (k : Kind) → kind_of (node_word s n 0) ≡ k → Closed s n k → FreeMask s facts start n 0
+  mask_rest k e c = rw (expr_as s h.layout n h.there k e, c (expr_at s)) (mask_none s facts start)
 
 -- The mark of a node after one more span.
 module _ (s masks : List ℕ) (n t : ℕ) where
   abbrev pub Marks : ℕ → Type 0
   Marks r = (facts : List ℕ) (start : ℕ) → Along (FreeMask s facts start) (mask_at masks) n (count_of s nodes) → ForkMark s facts start n t → ForkMark s facts (start + SPAN) n r
 
-  pub mark_other : (k : ℕ) → k ≡ node_word s n 0 → (k ≡ 8 → ⊥) → Marks t
-  mark_other k e n8 facts start masked mark a b c v = absurd (n8 (e ∙ fork_kind s n a b c v))
+  pub mark_other : (node_word s n 0 ≡ 8 → ⊥) → Marks t
+  mark_other n8 facts start masked mark a b c v = absurd (n8 (fork_kind s n a b c v))
 
-  module _ (layout : WithinLayout s) (there : n < count_of s nodes) (k a b : ℕ) (fork : k ≡ 8) (k_is : k ≡ node_word s n 0)
+  module _ (layout : WithinLayout s) (there : n < count_of s nodes) (a b : ℕ) (fork : node_word s n 0 ≡ 8)
       (a_is : a ≡ get_or masks (node_word s n 1) 0) (b_is : b ≡ get_or masks (node_word s n 2) 0) where
     words : (p q r : ℕ) → view_at s n ≡ n_fork p q r → (node_word s n 1 ≡ p) × (node_word s n 2 ≡ q)
     unfolding kind_of
-    words p q r v = let e : n_fork (node_word s n 1) (node_word s n 2) (node_word s n 3) ≡ n_fork p q r = sym (view_by s n 8 (sym k_is ∙ fork)) ∙ v in (cc, cc)
+    words p q r v = let e : n_fork (node_word s n 1) (node_word s n 2) (node_word s n 3) ≡ n_fork p q r = sym (view_by s n 8 fork) ∙ v in (cc, cc)
 
     async : (facts : List ℕ) (start p m : ℕ) → Along (FreeMask s facts start) (mask_at masks) n (count_of s nodes) → p ∈ parts (view_at s n) → m ≡ get_or masks p 0 → MaskOf s facts start m (fv (expr_at s p))
     async facts start p m masked i e = let w = in_order s layout n there p i in rw e (masked p (omega (arith, w.later)) w.there)

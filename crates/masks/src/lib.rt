@@ -3,7 +3,7 @@
 
 mod masks;
 
-pub use masks::{mark_of, mask_of, node_index};
+pub use masks::{Gathering, mark_of};
 
 // The ranks of a mask, a bit each.
 pub const SPAN: usize = 32;

@@ -1,2 +1,3 @@
 pub mod LookupLaws
 pub mod MemberLaws
+pub mod CodeLaws

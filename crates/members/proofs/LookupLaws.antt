@@ -8,34 +8,28 @@ use Prim.Native.Nat.{ℕ, zero, suc, ◌+◌, ◌-◌, ◌<◌, ◌≤◌}
 use native.Mathlib.Omega.{arith}
 use native.Mathlib.Nat.{eq-or-lt_of_le, le_of_suc-le-suc}
 use lib.Dec.{eqb}
-use lib.ListN.{length, get_or, set}
+use lib.ListN.{length, set}
 use lib.Seq.{get_or-set_same, get_or-set_other}
 use Rattle.limits.specs.Limits.{INTERFACES, CLASSES, NODES}
-use Rattle.script.specs.declared.Found.{Found}
-use Rattle.script.specs.declared.Found.TheVariants.{At, Nothing}
+use Rattle.std.specs.declared.option.Option.{Option as CodeOption}
+use Rattle.std.specs.declared.option.Option.TheVariants.{Some, None}
 use Rattle.script.specs.declared.Section.{Section}
 use Rattle.script.specs.declared.Section.TheVariants.{Interfaces as interfaces, Signatures as signatures, Classes as classes, Fields as fields, Methods as methods, Nodes as nodes}
 use Rattle.script.specs.Lists.{run, sum_below, named}
 use Rattle.script.specs.Section.{count_of, record_word}
-use Rattle.script.specs.Syntax.{Slot, Declaration, a_unit, an_interface, a_class, an_int, no_type, declaration_at}
+use Rattle.script.specs.Syntax.{Slot}
 use Rattle.script.specs.Reading.{own_signatures, own_fields, own_methods, field_at, class_at, program_of}
 use Rattle.script.specs.Asking.{first_out_of}
 use Rattle.script.specs.Statements.{WithinLayout}
 use Rattle.sections.specs.Laid.{owner_of, own_of, found_of, other_name}
 use Rattle.script.proofs.Lists.{sum_more}
 use Rattle.subtypes.specs.declared.Declared.{Declared}
-use Rattle.subtypes.specs.declared.Declared.TheVariants.{Interface as is_interface, Class as is_class, Neither as is-neither}
+use Rattle.subtypes.specs.declared.Declared.TheVariants.{Class as is_class}
 use Rattle.typing.specs.Members.{type_in, field_in, field_from}
 use Rattle.subtypes.specs.Tables.{STARTS, row_word, RowsTo, Starts}
-use Rattle.subtypes.specs.Subtypes.{Memberless, DeclaredAs}
-use Rattle.members.specs.Lookup.{RunsTo, RunAt, own_named}
-use Rattle.subtypes.proofs.SubtypeLaws.{type_interface, type_class, type_neither}
-
--- no section but these three has records of owners
-sum_none : (n : ℕ) → sum_below (λ o. 0) n ≡ 0
-unfolding sum_below
-sum_none zero = refl
-sum_none (suc n) = omega (arith, sum_none n)
+use Rattle.subtypes.specs.Subtypes.{DeclaredAs}
+use Rattle.members.specs.Lookup.{RunsTo, own_named}
+use Rattle.subtypes.proofs.SubtypeLaws.{sum_none, type_class, but_class}
 
 module _ {s : List ℕ} (w : WithinLayout s) where
   count_small : (k : Section) → count_of s k ≤ NODES
@@ -107,45 +101,33 @@ starts_filled {s} w t₀ t₁ t₂ t₃ size rows a b c =
       methods = c.starts;
     }
 
--- The run of an owner as the table says it.
-module _ {s : List ℕ} (w : WithinLayout s) {k : Section} {o : ℕ} {table : List ℕ} {at : ℕ} (r : RunAt s k o table at) (from count : ℕ)
-    (p : from ≡ get_or table at 0) (q : count ≡ own_of s k o) where
+-- The run of an owner, by where it begins and how long it is.
+module _ {s : List ℕ} (w : WithinLayout s) (k : Section) (o : ℕ) (h : o < count_of s (owner_of k)) (from count : ℕ) (p : from ≡ sum_below (own_of s k) o)
+    (q : count ≡ own_of s k o) where
   pub own_ends : from + count ≤ count_of s k
-  own_ends = omega (arith, run_ends w k o r.owner, r.start)
+  own_ends = omega (arith, run_ends w k o h)
 
   pub own_small : from + count ≤ NODES
   own_small = omega (arith, own_ends, count_small w k)
 
-  pub own_found : (x : ℕ) (f : Found) → f ≡ found_of (first_out_of (other_name s k x) from (from + count - from)) → f ≡ found_of (own_named s k o x)
+  pub own_found : (x : ℕ) (f : CodeOption ℕ) → f ≡ found_of (first_out_of (other_name s k x) from (from + count - from)) → f ≡ found_of (own_named s k o x)
   own_found x f e =
       let z : from + count - from ≡ own_of s k o = omega arith in
-      let y : from ≡ sum_below (own_of s k) o = p ∙ r.start in
-      rw (z, y) at e
-
--- The table of starts has a run for each owner.
-module _ {s : List ℕ} (w : WithinLayout s) {table : List ℕ} (h : Starts s table) (o : ℕ) where
-  pub signatures_run : o < count_of s interfaces → RunAt s signatures o table o
-  signatures_run l = record { owner = l; within = omega (arith, h.size, w.counts_are.within interfaces); start = h.signatures o l }
-
-  pub fields_run : o < count_of s classes → RunAt s fields o table (INTERFACES + o)
-  fields_run l = record { owner = l; within = omega (arith, h.size, w.counts_are.within classes); start = h.fields o l }
-
-  pub methods_run : o < count_of s classes → RunAt s methods o table (INTERFACES + CLASSES + o)
-  methods_run l = record { owner = l; within = omega (arith, h.size, w.counts_are.within classes); start = h.methods o l }
+      rw (z, p) at e
 
 -- What the code's answer says of a search.
-module _ (o : Option ℕ) (f : Found) (e : f ≡ found_of o) where
-  pub found_at : (i : ℕ) → f ≡ At i → o ≡ some i
+module _ (o : Option ℕ) (f : CodeOption ℕ) (e : f ≡ found_of o) where
+  pub found_at : (i : ℕ) → f ≡ Some i → o ≡ some i
   found_at i q = go o (sym e ∙ q)
     where
-      go : (x : Option ℕ) → found_of x ≡ At i → x ≡ some i
+      go : (x : Option ℕ) → found_of x ≡ Some i → x ≡ some i
       go none y = absurd (let z : ◌≡◌ {A = ℕ} 0 1 = cc in omega arith)
       go (some j) y = let z : j ≡ i = cc in rw z
 
-  pub found_nothing : f ≡ Nothing → o ≡ none
+  pub found_nothing : f ≡ None → o ≡ none
   found_nothing q = go o (sym e ∙ q)
     where
-      go : (x : Option ℕ) → found_of x ≡ Nothing → x ≡ none
+      go : (x : Option ℕ) → found_of x ≡ None → x ≡ none
       go none y = refl
       go (some j) y = absurd (let z : ◌≡◌ {A = ℕ} 0 1 = cc in omega arith)
 
@@ -174,7 +156,7 @@ named_run {A} read name x i (suc n) = go (eqb (name (read i)) x) (named_run read
     go false e = e
 
 -- A record that is found in a run is there.
-pub own_there : {s : List ℕ} (w : WithinLayout s) (k : Section) (o x i : ℕ) (f : Found) → o < count_of s (owner_of k) → f ≡ found_of (own_named s k o x) → f ≡ At i → i < count_of s k
+pub own_there : {s : List ℕ} (w : WithinLayout s) (k : Section) (o x i : ℕ) (f : CodeOption ℕ) → o < count_of s (owner_of k) → f ≡ found_of (own_named s k o x) → f ≡ Some i → i < count_of s k
 own_there {s} w k o x i f h e q =
     omega (arith, run_ends w k o h, out_within (other_name s k x) (sum_below (own_of s k) o) (own_of s k o) i (found_at (own_named s k o x) f e i q))
 
@@ -188,24 +170,14 @@ module _ {s : List ℕ} {t : ℕ} {d : Declared} (h : DeclaredAs s t d) (f : ℕ
       go none = refl
       go (some i) = refl
 
-  module _ {c : ℕ} (e : d ≡ is_class c) (found : Found) (o : found ≡ found_of (own_named s fields c f)) where
-    pub field_hit : (i u : ℕ) → found ≡ At i → u ≡ record_word s fields i 1 → At u ≡ found_of (field_in (program_of s) t f)
+  module _ {c : ℕ} (e : d ≡ is_class c) (found : CodeOption ℕ) (o : found ≡ found_of (own_named s fields c f)) where
+    pub field_hit : (i u : ℕ) → found ≡ Some i → u ≡ record_word s fields i 1 → Some u ≡ found_of (field_in (program_of s) t f)
     field_hit i u q p = rw (field_found e, found_at (own_named s fields c f) found o i q, p)
 
-    pub field_miss : found ≡ Nothing → Nothing ≡ found_of (field_in (program_of s) t f)
+    pub field_miss : found ≡ None → None ≡ found_of (field_in (program_of s) t f)
     field_miss q = rw (field_found e, found_nothing (own_named s fields c f) found o q)
 
-  pub field_interface : {i : ℕ} → d ≡ is_interface i → Nothing ≡ found_of (field_in (program_of s) t f)
+  -- Any other type has no fields.
+  pub field_none : ((c : ℕ) → d ≡ is_class c → ⊥) → None ≡ found_of (field_in (program_of s) t f)
   unfolding field_in
-  field_interface e = rw (type_interface h e)
-
-  pub field_neither : d ≡ is-neither → Nothing ≡ found_of (field_in (program_of s) t f)
-  unfolding field_in
-  field_neither e = go (declaration_at (program_of s) t) (type_neither h e)
-    where
-      go : (x : Declaration) → Memberless x → Nothing ≡ found_of (field_from f x)
-      go a_unit m = refl
-      go (an_interface i) m = absurd m
-      go (a_class c) m = absurd m
-      go an_int m = refl
-      go no_type m = refl
+  field_none n = sym (but_class (λ x. found_of (field_from f x)) None refl (λ i. refl) refl refl h n)

@@ -9,8 +9,8 @@ use native.Mathlib.Nat.{eq-or-lt_of_le, le_of_suc-le-suc}
 use lib.ListN.{length, get_or, set, length-set}
 use lib.Seq.{get_or-set_same, get_or-set_other}
 use Rattle.limits.specs.Limits.{INTERFACES}
-use Rattle.script.specs.declared.Found.{Found}
-use Rattle.script.specs.declared.Found.TheVariants.{At, Nothing}
+use Rattle.std.specs.declared.option.Option.{Option as CodeOption}
+use Rattle.std.specs.declared.option.Option.TheVariants.{Some, None}
 use Rattle.script.specs.declared.Section.TheVariants.{Interfaces as interfaces, Signatures as signatures, Methods as methods}
 use Rattle.script.specs.Lists.{sum_below, named}
 use Rattle.script.specs.Section.{count_of, record_word}
@@ -22,10 +22,9 @@ use Rattle.script.proofs.Declarations.{interface_at_lem}
 use Rattle.script.proofs.Regular.{regular}
 use Rattle.subtypes.specs.declared.Declared.{Declared}
 use Rattle.subtypes.specs.declared.Declared.TheVariants.{Interface as is_interface, Class as is_class, Neither as is-neither}
-use Rattle.members.specs.declared.Member.{Member}
-use Rattle.members.specs.declared.Member.TheVariants.{Types, Missing}
+use Rattle.members.specs.declared.Types.{Types}
 use Rattle.typing.specs.Members.{or_else, meaning, own_method, method_in, method_from}
-use Rattle.members.specs.Lookup.{member_of}
+use Rattle.members.specs.Lookup.{types_in, member_of}
 use Rattle.subtypes.specs.Subtypes.{Memberless, DeclaredAs}
 use Rattle.members.specs.Lookup.{own_named, MeaningIs, no_meaning, meaning_at, Meanings}
 use Rattle.typing.proofs.Values.{value_lists, value_extends}
@@ -44,17 +43,17 @@ from_right e (meaning_at l q) z x = absurd (omega arith)
 
 module _ {s : List ℕ} (w : WithinLayout s) (m i form : ℕ) (l : i < count_of s interfaces) (f : form ≡ record_word s interfaces i 0) where
   -- What m means in a list of signatures: the first of its run with this name.
-  module _ (n : form ≡ 1 → ⊥) (found : Found) (o : found ≡ found_of (own_named s signatures i m)) where
+  module _ (n : form ≡ 1 → ⊥) (found : CodeOption ℕ) (o : found ≡ found_of (own_named s signatures i m)) where
     meaning_list : meaning (program_of s) m (suc i) ≡ map (signature_at s) (own_named s signatures i m)
     unfolding meaning signature_at
     meaning_list =
         value_lists (λ v gs. named (λ g. g.name) m gs) (λ v a b. or_else a b) none (program_of s) (suc i) _ (interface_at_lem s i l ∙ ap an_interface (reads_list s i (rw f at n)))
         ∙ named_run (signature_at s) (λ g. g.name) m (sum_below (own_signatures s) i) (own_signatures s i)
 
-    pub meaning_none : found ≡ Nothing → MeaningIs s m i 0
+    pub meaning_none : found ≡ None → MeaningIs s m i 0
     meaning_none q = no_meaning (rw (found_nothing (own_named s signatures i m) found o q) at meaning_list)
 
-    pub meaning_own : (j : ℕ) → found ≡ At j → MeaningIs s m i (j + 1)
+    pub meaning_own : (j : ℕ) → found ≡ Some j → MeaningIs s m i (j + 1)
     meaning_own j q =
         let z : j + 1 ≡ suc j = omega arith in
         rw z (meaning_at {j = j} (own_there w signatures i m j found l o q) (rw (found_at (own_named s signatures i m) found o j q) at meaning_list))
@@ -124,30 +123,30 @@ module _ {s : List ℕ} {t : ℕ} {d : Declared} (h : DeclaredAs s t d) (m : ℕ
     unfolding method_in
     method_meaning = rw (type_interface h e, (interface_there h e).1)
 
-    pub meaning_missing : v ≡ 0 → Missing ≡ member_of (method_in (program_of s) t m)
+    pub meaning_missing : v ≡ 0 → None ≡ member_of (method_in (program_of s) t m)
     meaning_missing z = rw (method_meaning, no_word x z)
 
-    pub meaning_types : (r : Member) → (v ≡ 0 → ⊥) → r ≡ Types (record_word s signatures (v - 1) 1) (record_word s signatures (v - 1) 2) → r ≡ member_of (method_in (program_of s) t m)
+    pub meaning_types : (r : Types) → (v ≡ 0 → ⊥) → r ≡ types_in s signatures (v - 1) → Some r ≡ member_of (method_in (program_of s) t m)
     unfolding signature_at
-    meaning_types r n q = rw (method_meaning, (word_at x n).1) q
+    meaning_types r n q = rw (method_meaning, (word_at x n).1) (ap Some q)
 
-  module _ {c : ℕ} (e : d ≡ is_class c) (found : Found) (o : found ≡ found_of (own_named s methods c m)) where
+  module _ {c : ℕ} (e : d ≡ is_class c) (found : CodeOption ℕ) (o : found ≡ found_of (own_named s methods c m)) where
     method_own : method_in (program_of s) t m ≡ map (λ j. (method_at s j).signature) (own_named s methods c m)
     unfolding method_in
     method_own = rw (type_class h e) (own_method_lem s c m)
 
-    pub method_missing : found ≡ Nothing → Missing ≡ member_of (method_in (program_of s) t m)
+    pub method_missing : found ≡ None → None ≡ member_of (method_in (program_of s) t m)
     method_missing q = rw (method_own, found_nothing (own_named s methods c m) found o q)
 
-    pub method_types : (j : ℕ) (r : Member) → found ≡ At j → r ≡ Types (record_word s methods j 1) (record_word s methods j 2) → r ≡ member_of (method_in (program_of s) t m)
+    pub method_types : (j : ℕ) (r : Types) → found ≡ Some j → r ≡ types_in s methods j → Some r ≡ member_of (method_in (program_of s) t m)
     unfolding method_at
-    method_types j r q p = rw (method_own, found_at (own_named s methods c m) found o j q) p
+    method_types j r q p = rw (method_own, found_at (own_named s methods c m) found o j q) (ap Some p)
 
-  pub method_neither : d ≡ is-neither → Missing ≡ member_of (method_in (program_of s) t m)
+  pub method_neither : d ≡ is-neither → None ≡ member_of (method_in (program_of s) t m)
   unfolding method_in
   method_neither e = go (declaration_at (program_of s) t) (type_neither h e)
     where
-      go : (x : Declaration) → Memberless x → Missing ≡ member_of (method_from (program_of s) t m x)
+      go : (x : Declaration) → Memberless x → None ≡ member_of (method_from (program_of s) t m x)
       go a_unit y = refl
       go (an_interface i) y = absurd y
       go (a_class c) y = absurd y

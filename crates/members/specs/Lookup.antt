@@ -1,17 +1,18 @@
 -- What the code of look-ups is lent and finds: runs of records, meanings of a method name, and records at fault.
 use Rattle.std.specs.Prelude.{ℕ, suc, ◌+◌, ◌<◌, ◌≤◌, ◌≡◌, Bool, true, false, cond, List, ltb, length, get_or}
 use Rattle.std.proofs.Math.Option.{Option, none, some}
+use Rattle.std.specs.declared.option.Option.{Option as CodeOption}
+use Rattle.std.specs.declared.option.Option.TheVariants.{Some, None}
 use Rattle.limits.specs.Limits.{INTERFACES}
 use Rattle.script.specs.declared.Section.{Section}
 use Rattle.script.specs.declared.Section.TheVariants.{Interfaces as interfaces, Signatures as signatures}
 use Rattle.script.specs.Lists.{sum_below}
-use Rattle.script.specs.Section.{count_of, record_at}
+use Rattle.script.specs.Section.{count_of, record_at, record_word}
 use Rattle.script.specs.Syntax.{Signature, Interface, lists, extends, Program}
 use Rattle.script.specs.Reading.{signature_at, interface_at, program_of}
 use Rattle.script.specs.Asking.{first_out_of}
-use Rattle.sections.specs.Laid.{owner_of, own_of, other_name}
-use Rattle.members.specs.declared.Member.{Member}
-use Rattle.members.specs.declared.Member.TheVariants.{Types, Missing}
+use Rattle.sections.specs.Laid.{own_of, other_name}
+use Rattle.members.specs.declared.Types.{Types}
 use Rattle.typing.specs.Members.{meaning}
 use Rattle.typing.specs.Check.{agree_test}
 
@@ -21,20 +22,18 @@ pub record RunsTo (s : List ℕ) (k : Section) (base n : ℕ) (old table : List 
   pub before : (i : ℕ) → i < base → get_or table i 0 ≡ get_or old i 0
   pub after : (i : ℕ) → base + n ≤ i → get_or table i 0 ≡ get_or old i 0
 
--- A table holds, at a place, where the run of owner o begins.
-pub record RunAt (s : List ℕ) (k : Section) (o : ℕ) (table : List ℕ) (at : ℕ) : Type 0 where
-  pub owner : o < count_of s (owner_of k)
-  pub within : at < length table
-  pub start : get_or table at 0 ≡ sum_below (own_of s k) o
-
 -- The first record of owner o's run in section k that has the name x.
 abbrev pub own_named : List ℕ → Section → ℕ → ℕ → Option ℕ
 own_named s k o x = first_out_of (other_name s k x) (sum_below (own_of s k) o) (own_of s k o)
 
 -- What a method look-up finds, as the code says it.
-abbrev pub member_of : Option Signature → Member
-member_of none = Missing
-member_of (some g) = Types g.param g.result
+abbrev pub member_of : Option Signature → CodeOption Types
+member_of none = None
+member_of (some g) = Some (record { param = g.param; result = g.result })
+
+-- The types of the signature or method of record i.
+abbrev pub types_in : List ℕ → Section → ℕ → Types
+types_in s k i = record { param = record_word s k i 1; result = record_word s k i 2 }
 
 -- A word for what the method name m means in the interface of record i: 0 for nothing, or 1 more than the index of the signature that is its first meaning.
 pub data MeaningIs (s : List ℕ) (m i : ℕ) : ℕ → Type 0 where

@@ -12,6 +12,7 @@ use script::Section;
 use sections::{count_of, own_count, owner_of};
 use subtypes::fill_rows;
 
+// These fill what a Script has, so there is none yet.
 // Stores from `base` on where the run of each owner of records of section k begins.
 fn fill_runs(s: &[u8], k: Section, base: usize, starts: &mut [u16])
     requires { WithinLayout s.now × (base + count_of s.now (owner_of k) ≤ length starts.old) }
@@ -19,11 +20,9 @@ fn fill_runs(s: &[u8], k: Section, base: usize, starts: &mut [u16])
 {
     let owners = count_of(s, owner_of(k));
     let mut sum: usize = 0;
-    let mut o: usize = 0;
-    while o < owners {
+    for o in 0..owners {
         starts[base + o] = sum as u16;
         sum += own_count(s, k, o);
-        o += 1;
     }
 }
 

@@ -1,49 +1,44 @@
 -- The memo: what is recalled from it holds, and what is kept in it.
 use mathlib.Core.Path.{◌≡◌, refl, sym, ap, ◌∙◌}
-use mathlib.Core.List.{List, [], ◌∷◌}
+use mathlib.Core.List.{List}
 use Prim.Native.Nat.{ℕ, suc, ◌+◌, ◌-◌, ◌*◌, ◌<◌, ◌≤◌}
 use native.Mathlib.Omega.{arith}
 use native.Mathlib.Decide.{ℕ_discrete}
 use native.Mathlib.Numerals.{add-one}
-use types.Run.{OneOf}
-use denote.Enum.Declared.{tag_of}
 use lib.ListN.{length, get_or, set, replicate, length-set, length-replicate}
 use lib.Seq.{get_or-set_same, get_or-set_other}
 use Rattle.limits.specs.Limits.{NODES}
 use Rattle.script.specs.Syntax.{Point}
 use Rattle.script.proofs.Lists.{zeros}
-use Rattle.inference.proofs.InferLaws.{none_of}
 use Rattle.machine.specs.Machine.{context}
 use Rattle.environments.specs.Chains.{binding_count, bindings_in, Chain}
+use Rattle.std.specs.declared.option.Option.{Option as CodeOption}
+use Rattle.std.specs.declared.option.Option.TheVariants.{Some, None}
 use Rattle.awaited.specs.declared.Waits.{Waits}
-use Rattle.awaited.specs.declared.Waits.TheVariants.{Never, For, ForNull}
+use Rattle.awaited.specs.declared.Waits.TheVariants.{For, ForNull}
 use Rattle.awaited.specs.Awaited.{WaitsAs}
 use Rattle.memo.specs.Memo.{WIDTH, kept_at, awaits_at, gives_at, waits_in, MemoBounded, Remembers, Recalled, Recalls, with_entry}
-use Rattle.awaited.specs.contracts.Waits.{the_type}
 
 -- nothing is recalled, or an entry is
-pub recalls_nothing : (b memo : List ℕ) (n : Point) (e : ℕ) → Recalls b memo n e Never
-recalls_nothing b memo n e f = absurd (f refl)
+pub recalls_nothing : (b memo : List ℕ) (n : Point) (e : ℕ) → Recalls b memo n e None
+recalls_nothing b memo n e w f = absurd (let z : ◌≡◌ {A = ℕ} 0 1 = cc in omega arith)
 
 module _ (b memo : List ℕ) (n : Point) (e : ℕ) (h : kept_at memo n ≡ 0 → ⊥) (same : context (bindings_in b) (kept_at memo n - 1) ≡ context (bindings_in b) e) where
-  recalls_says : (r : Waits) → waits_in (awaits_at memo n) (gives_at memo n) ≡ r → Recalls b memo n e r
-  recalls_says r k f = record { kept = kept_at memo n - 1; used = omega arith; scope = same; says = k }
+  recalls_says : (r : Waits) → waits_in (awaits_at memo n) (gives_at memo n) ≡ r → Recalls b memo n e (Some r)
+  recalls_says r k w f = let q : r ≡ w = cc in record { kept = kept_at memo n - 1; used = omega arith; scope = same; says = k ∙ q }
 
-  pub recalls_null : gives_at memo n ≡ 0 → Recalls b memo n e (ForNull (awaits_at memo n))
+  pub recalls_null : gives_at memo n ≡ 0 → Recalls b memo n e (Some (ForNull (awaits_at memo n)))
   recalls_null z = recalls_says _ (rw z)
 
-  pub recalls_entry : (gives_at memo n ≡ 0 → ⊥) → Recalls b memo n e (For (awaits_at memo n) (gives_at memo n - 1))
+  pub recalls_entry : (gives_at memo n ≡ 0 → ⊥) → Recalls b memo n e (Some (For (awaits_at memo n) (gives_at memo n - 1)))
   recalls_entry z = let k : gives_at memo n ≡ suc (gives_at memo n - 1) = omega arith in recalls_says _ (ap (waits_in (awaits_at memo n)) k)
 
-recalled : {s b memo : List ℕ} {n : Point} {e : ℕ} {r : Waits} → Remembers s b memo → Recalled b memo n e r → WaitsAs s b n e r
+pub recalled : {s b memo : List ℕ} {n : Point} {e : ℕ} {r : Waits} → Remembers s b memo → Recalled b memo n e r → WaitsAs s b n e (Some r)
 recalled {n = n} m k v = rw (← k.scope, ← k.says) (m.entries n k.kept k.used v)
 
-pub as_recalled : {s b memo : List ℕ} (n : Point) (e : ℕ) → Remembers s b memo → (r : Waits) → Recalls b memo n e r → OneOf (1 ∷ 2 ∷ []) (tag_of the_type r) → WaitsAs s b n e r
-as_recalled n e m r h f = recalled m (h (λ z. none_of _ f (ap (tag_of the_type) z)))
-
--- what is inferred, as it is answered
-pub as_told : (s b : List ℕ) (n : Point) (e : ℕ) (r w : Waits) → WaitsAs s b n e r → r ≡ w → WaitsAs s b n e w
-as_told s b n e r w h f = rw f at h
+-- what is inferred, as its words say it
+pub as_words : (s b : List ℕ) (n : Point) (e : ℕ) (r : CodeOption Waits) (w v : Waits) → WaitsAs s b n e r → r ≡ Some w → w ≡ v → WaitsAs s b n e (Some v)
+as_words s b n e r w v h f g = rw (f ∙ ap Some g) at h
 
 -- a type that is given, as its word says it
 pub in_words : (t u : ℕ) → For t u ≡ waits_in t (u + 1)
@@ -84,13 +79,13 @@ module _ (memo : List ℕ) (size : length memo ≡ NODES * WIDTH) (n : Point) (h
   own_gives : gives_at (with_entry memo n e t u) n ≡ u
   own_gives = get_or-set_same (twice memo n e t) (n * WIDTH + 2) u 0 (simp length-set (omega arith))
 
-  module _ {s b : List ℕ} (m : Remembers s b memo) (l : e ≤ binding_count b) (w : WaitsAs s b n e (waits_in t u)) where
+  module _ {s b : List ℕ} (m : Remembers s b memo) (l : e ≤ binding_count b) (w : WaitsAs s b n e (Some (waits_in t u))) where
     own : (k f : ℕ) → k ≡ n → kept_at (with_entry memo n e t u) k ≡ suc f
-        → WaitsAs s b k f (waits_in (awaits_at (with_entry memo n e t u) k) (gives_at (with_entry memo n e t u) k))
+        → WaitsAs s b k f (Some (waits_in (awaits_at (with_entry memo n e t u) k) (gives_at (with_entry memo n e t u) k)))
     own k f d q = let z : e ≡ f = omega (arith, rw d at q, own_kept) in rw (d, own_awaits, own_gives, ← z) w
 
     other : (k f : ℕ) → (k ≡ n → ⊥) → kept_at (with_entry memo n e t u) k ≡ suc f
-        → WaitsAs s b k f (waits_in (awaits_at (with_entry memo n e t u) k) (gives_at (with_entry memo n e t u) k))
+        → WaitsAs s b k f (Some (waits_in (awaits_at (with_entry memo n e t u) k) (gives_at (with_entry memo n e t u) k)))
     other k f d q =
         rw (elsewhere k (k * WIDTH + 1) d (omega arith) (omega arith), elsewhere k (k * WIDTH + 2) d (omega arith) (omega arith)) (m.entries k f (sym (elsewhere k (k * WIDTH) d (omega arith) (omega arith)) ∙ q))
 

@@ -5,8 +5,10 @@ use Rattle.limits.specs.Limits.{NODES}
 use Rattle.script.specs.Syntax.{Point}
 use Rattle.machine.specs.Machine.{context}
 use Rattle.environments.specs.Chains.{binding_count, bindings_in}
+use Rattle.std.specs.declared.option.Option.{Option as CodeOption}
+use Rattle.std.specs.declared.option.Option.TheVariants.{Some}
 use Rattle.awaited.specs.declared.Waits.{Waits}
-use Rattle.awaited.specs.declared.Waits.TheVariants.{Never, For, ForNull}
+use Rattle.awaited.specs.declared.Waits.TheVariants.{For, ForNull}
 use Rattle.awaited.specs.Awaited.{WaitsAs, ScopedBlock}
 
 abbrev pub WIDTH : ℕ
@@ -35,11 +37,11 @@ waits_in t (suc u) = For t u
 -- Each entry that is kept says what its node waits for in its environment.
 pub record Remembers (s b memo : List ℕ) : Type 0 where
   pub placed : MemoBounded b memo
-  pub entries : (n e : ℕ) → kept_at memo n ≡ suc e → WaitsAs s b n e (waits_in (awaits_at memo n) (gives_at memo n))
+  pub entries : (n e : ℕ) → kept_at memo n ≡ suc e → WaitsAs s b n e (Some (waits_in (awaits_at memo n) (gives_at memo n)))
 
 -- What the code is lent, with the memo.
-pub record MemoReady (s starts facts table b memo : List ℕ) : Type 0 where
-  pub ready : ScopedBlock s starts facts table b
+pub record MemoReady (s b memo : List ℕ) : Type 0 where
+  pub ready : ScopedBlock s b
   pub remembers : Remembers s b memo
 
 -- The entry of node n is of an environment with the scope of e, and says r.
@@ -49,8 +51,8 @@ pub record Recalled (b memo : List ℕ) (n : Point) (e : ℕ) (r : Waits) : Type
   pub scope : context (bindings_in b) kept ≡ context (bindings_in b) e
   pub says : waits_in (awaits_at memo n) (gives_at memo n) ≡ r
 
-abbrev pub Recalls : List ℕ → List ℕ → Point → ℕ → Waits → Type 0
-Recalls b memo n e r = (r ≡ Never → ⊥) → Recalled b memo n e r
+abbrev pub Recalls : List ℕ → List ℕ → Point → ℕ → CodeOption Waits → Type 0
+Recalls b memo n e r = (w : Waits) → r ≡ Some w → Recalled b memo n e w
 
 -- The memo with t and what is given for node n in environment e.
 abbrev pub with_entry : List ℕ → Point → ℕ → ℕ → ℕ → List ℕ

@@ -7,8 +7,8 @@ use native.Mathlib.Omega.{arith}
 use lib.ListN.{length, get_or, length-append}
 use Rattle.words.specs.Word.{WORD, bytes}
 use Rattle.limits.specs.Limits.{BINDINGS}
-use Rattle.script.specs.declared.Found.{Found}
-use Rattle.script.specs.declared.Found.TheVariants.{At, Nothing}
+use Rattle.std.specs.declared.option.Option.{Option as CodeOption}
+use Rattle.std.specs.declared.option.Option.TheVariants.{Some, None}
 use Rattle.script.specs.declared.Section.TheVariants.{Methods as methods}
 use Rattle.script.specs.Section.{record_word}
 use Rattle.script.specs.Syntax.{Method}
@@ -65,7 +65,7 @@ call_full st fs v o class d (suc (suc k)) l = absurd (omega arith)
 
 -- the method of the object's class, entered
 module _ {b : List ℕ} {i : ℕ} {x : Rest} {st : Stores} {u : machine.Tree} (seen : StateAt b i x st u) (s : List ℕ) (fs : List Frame) (m : ℕ) (v : Value) (o class : ℕ)
-    (l : o < counted b Objects) (e : class ≡ word_in b Objects o 0) (found : Found) (is : MethodIs s class m found) where
+    (l : o < counted b Objects) (e : class ≡ word_in b Objects o 0) (found : CodeOption ℕ) (is : MethodIs s class m found) where
   abbrev due : Outcome
   due = call_object (code_of s) st fs m v (BINDINGS - counted b Bindings) o (object st.objects o)
 
@@ -74,10 +74,10 @@ module _ {b : List ℕ} {i : ℕ} {x : Rest} {st : Stores} {u : machine.Tree} (s
       let z = object_there st.objects o blank_object (omega (arith, objects_counted seen)) in
       rw (z, ← class_read seen o class (get_or st.objects o blank_object) z e)
 
-  pub enters_none : found ≡ Nothing → due ≡ still
+  pub enters_none : found ≡ None → due ≡ still
   enters_none k = rw (met, defined_none is k)
 
-  module _ (j n : ℕ) (k : found ≡ At j) (many : n ≡ counted b Bindings) where
+  module _ (j n : ℕ) (k : found ≡ Some j) (many : n ≡ counted b Bindings) where
     pub enters_full : BINDINGS < n + 2 → due ≡ full bindings
     enters_full h = rw (met, (defined_at is k).1, call_full st fs v o class (method_at s j) (BINDINGS - counted b Bindings) (omega arith))
 

@@ -32,8 +32,8 @@ use Rattle.block.specs.Block.{preorder, frames_of, Parts, laid}
 use Rattle.tree.specs.declared.Fold.{Fold}
 use Rattle.tree.specs.declared.Fold.TheVariants.{GoesOn as goes_on}
 use Rattle.tree.specs.Phases.{outcome_of, FoldAt}
-use Rattle.environments.specs.declared.Lookup.{Lookup}
-use Rattle.environments.specs.declared.Lookup.TheVariants.{Unbound, Bound}
+use Rattle.std.specs.declared.option.Option.{Option as CodeOption}
+use Rattle.std.specs.declared.option.Option.TheVariants.{Some, None}
 use Rattle.environments.specs.Chains.{bindings_in, lookup_of}
 use Rattle.environments.proofs.LaidLaws.{bindings_read}
 use Rattle.state.specs.Represents.{parts_in, Rest, StateAt}
@@ -62,21 +62,21 @@ busy_not e = let z : ◌≡◌ {A = ℕ} 0 1 = ap told e in omega arith
     told busy = 0
 
 -- what a look-up told
-pub unbound_not : {v : Value} → Unbound ≡ Bound v → ⊥
+pub unbound_not : {v : Value} → None ≡ Some v → ⊥
 unbound_not e = let z : ◌≡◌ {A = ℕ} 0 1 = ap told e in omega arith
   where
-    told : Lookup → ℕ
-    told Unbound = 0
-    told (Bound v) = 1
+    told : CodeOption Value → ℕ
+    told None = 0
+    told (Some v) = 1
 
-pub bound_same : {v w : Value} → Bound v ≡ Bound w → v ≡ w
+pub bound_same : {v w : Value} → Some v ≡ Some w → v ≡ w
 bound_same e = ap value_in e
   where
-    value_in : Lookup → Value
-    value_in Unbound = nil
-    value_in (Bound v) = v
+    value_in : CodeOption Value → Value
+    value_in None = nil
+    value_in (Some v) = v
 
-pub not_bound : (q : Option Binding) (found : Lookup) → found ≡ lookup_of q → found ≡ Unbound → q ≡ none
+pub not_bound : (q : Option Binding) (found : CodeOption Value) → found ≡ lookup_of q → found ≡ None → q ≡ none
 not_bound none found e h = refl
 not_bound (some y) found e h = absurd (unbound_not (sym h ∙ e))
 
@@ -85,12 +85,12 @@ pub record BoundTo (q : Option Binding) (v : Value) : Type 0 where
   pub there : q ≡ some binding
   pub is : binding.value ≡ v
 
-pub bound : (q : Option Binding) (found : Lookup) (v : Value) → found ≡ lookup_of q → found ≡ Bound v → BoundTo q v
+pub bound : (q : Option Binding) (found : CodeOption Value) (v : Value) → found ≡ lookup_of q → found ≡ Some v → BoundTo q v
 bound none found v e h = absurd (unbound_not (sym e ∙ h))
 bound (some y) found v e h = record { binding = y; there = refl; is = bound_same (sym e ∙ h) }
 
 -- the look-up in the block is that in the stores
-pub looked : {b : List ℕ} {i : ℕ} {x : Rest} {st : Stores} {u : machine.Tree} (env n : ℕ) (found : Lookup) → StateAt b i x st u
+pub looked : {b : List ℕ} {i : ℕ} {x : Rest} {st : Stores} {u : machine.Tree} (env n : ℕ) (found : CodeOption Value) → StateAt b i x st u
     → found ≡ lookup_of (find (scope (bindings_in b) env) n) → found ≡ lookup_of (find (scope st.bindings env) n)
 looked env n found s e = e ∙ ap (λ (bs : List Binding). lookup_of (find (scope bs env) n)) (scope_read s)
 
@@ -134,12 +134,12 @@ pub some_room : {most n k : ℕ} → n ≡ k → n < most → most - k ≡ suc (
 some_room h l = omega arith
 
 -- a variable's value
-module _ {b : List ℕ} {i : ℕ} {x : Rest} {st : Stores} {u : machine.Tree} (fs : List Frame) (env n : ℕ) (found : Lookup) (s : StateAt b i x st u)
+module _ {b : List ℕ} {i : ℕ} {x : Rest} {st : Stores} {u : machine.Tree} (fs : List Frame) (env n : ℕ) (found : CodeOption Value) (s : StateAt b i x st u)
     (e : found ≡ lookup_of (find (scope (bindings_in b) env) n)) where
-  pub gives_not : found ≡ Unbound → give st fs (find (scope st.bindings env) n) ≡ still
+  pub gives_not : found ≡ None → give st fs (find (scope st.bindings env) n) ≡ still
   gives_not h = rw (not_bound (find (scope st.bindings env) n) found (looked env n found s e) h)
 
-  pub gives : (v : Value) → found ≡ Bound v → give st fs (find (scope st.bindings env) n) ≡ moved st (returning v fs)
+  pub gives : (v : Value) → found ≡ Some v → give st fs (find (scope st.bindings env) n) ≡ moved st (returning v fs)
   gives v h = let y = bound (find (scope st.bindings env) n) found v (looked env n found s e) h in rw (y.there, y.is)
 
 -- a new object

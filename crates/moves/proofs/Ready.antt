@@ -16,12 +16,7 @@ use Rattle.script.specs.Reading.{view_at, program_of}
 use Rattle.script.specs.Statements.{WithinLayout}
 use Rattle.script.proofs.Reading.{first, in_order}
 use Rattle.script.proofs.Declarations.{length_interfaces, length_classes}
-use Rattle.slices.specs.Zero.{AllZero}
 use Rattle.typing.specs.Published.{WfEnv}
-use Rattle.subtypes.specs.Tables.{Starts}
-use Rattle.names.specs.Ranks.{RANKS}
-use Rattle.names.specs.Facts.{Facts}
-use Rattle.inference.specs.Walk.{EmptyEnv}
 use Rattle.machine.specs.declared.Value.{Value}
 use Rattle.machine.specs.declared.Want.{Want}
 use Rattle.machine.specs.declared.Want.TheVariants.{Upto as upto}
@@ -39,10 +34,6 @@ use Rattle.state.specs.Represents.{Rest, StateAt}
 use Rattle.state.proofs.Seeing.{seen_length, seen_few, objects_counted, bindings_counted}
 use Rattle.moves.specs.Performs.{OwnFields, WordBound}
 use Rattle.moves.proofs.Laws.{scope_read, bound, looked}
-
--- the script's tables, with no variable bound
-pub blank_tables : {s starts facts table : List ℕ} → WithinLayout s → Starts s starts → Facts s facts → length table ≡ RANKS → AllZero table → EmptyEnv s starts facts table
-blank_tables w r f n z = record { within = w; runs = r; known = f; size = n; zeros = z }
 
 -- the first part of a let is a node
 pub let_part : {s : List ℕ} (n x a b : ℕ) → WithinLayout s → n < count_of s nodes → view_at s n ≡ n_bind x a b → a < count_of s nodes

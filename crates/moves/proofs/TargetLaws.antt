@@ -1,13 +1,10 @@
 -- The look-up of a target: what it finds, and what a move with that target comes to.
 use mathlib.Core.Path.{◌≡◌, refl, sym, ap, subst, ◌∙◌}
 use mathlib.Core.Bool.{false}
-use mathlib.Core.Logic.{⊎_elim}
 use mathlib.Core.List.{List, [], ◌∷◌}
 use mathlib.Core.Option.{Option, none, some}
 use Prim.Native.Nat.{ℕ, zero, suc, ◌<◌, ◌≤◌}
 use native.Mathlib.Omega.{arith}
-use types.Run.{OneOf}
-use denote.Enum.Declared.{tag_of}
 use lib.IntN.{ℤ}
 use lib.ListN.{length, get_or}
 use Rattle.words.specs.Word.{bytes}
@@ -15,7 +12,6 @@ use Rattle.limits.specs.Limits.{OBJECTS}
 use Rattle.script.specs.Lists.{◌∈◌}
 use Rattle.machine.specs.declared.Value.{Value}
 use Rattle.machine.specs.declared.Value.TheVariants.{Null as nil, Ref as ref, Int as int}
-use Rattle.machine.specs.contracts.Value.{the_type}
 use Rattle.machine.specs.declared.Frame.{Frame}
 use Rattle.machine.specs.Config as machine
 use Rattle.machine.specs.Config.{Code, Object, Binding, Stores, failed}
@@ -25,8 +21,8 @@ use Rattle.block.specs.Layout.{width, counted, word_in}
 use Rattle.block.specs.Block.{object_words, Parts, laid}
 use Rattle.block.specs.Fits.{Few}
 use Rattle.representation.proofs.Ordered.{at_in}
-use Rattle.environments.specs.declared.Lookup.{Lookup}
-use Rattle.environments.specs.declared.Lookup.TheVariants.{Unbound, Bound}
+use Rattle.std.specs.declared.option.Option.{Option as CodeOption}
+use Rattle.std.specs.declared.option.Option.TheVariants.{Some, None}
 use Rattle.environments.specs.Chains.{lookup_of}
 use Rattle.environments.proofs.LaidLaws.{object_cell, object_there, object_absent}
 use Rattle.state.specs.Represents.{Rest, StateAt}
@@ -53,22 +49,22 @@ object_word p y o j word is few there l w =
     w ∙ object_cell p is few o j blank_object r.0 l ∙ ap (λ (z : Object). get_or (object_words z) j 0) r.1
 
 -- what the code finds, q being the binding of the target variable
-module _ {b : List ℕ} {i : ℕ} {x : Rest} {st : Stores} {u : machine.Tree} (seen : StateAt b i x st u) (q : Option Binding) (found : Lookup) (e : found ≡ lookup_of q) where
-  pub finds_nothing : found ≡ Unbound → TargetIs st.objects q Unbound
+module _ {b : List ℕ} {i : ℕ} {x : Rest} {st : Stores} {u : machine.Tree} (seen : StateAt b i x st u) (q : Option Binding) (found : CodeOption Value) (e : found ≡ lookup_of q) where
+  pub finds_nothing : found ≡ None → TargetIs st.objects q None
   finds_nothing h = rw (not_bound q found e h) target_unbound
 
-  module _ (v : Value) (h : found ≡ Bound v) where
-    pub finds_null : v ≡ nil → TargetIs st.objects q (Bound v)
-    finds_null k = let y = bound q found v e h in rw y.there (subst (λ (w : Value). TargetIs st.objects (some y.binding) (Bound w)) (sym k) (target_null (y.is ∙ k)))
+  module _ (v : Value) (h : found ≡ Some v) where
+    pub finds_null : v ≡ nil → TargetIs st.objects q (Some v)
+    finds_null k = let y = bound q found v e h in rw y.there (subst (λ (w : Value). TargetIs st.objects (some y.binding) (Some w)) (sym k) (target_null (y.is ∙ k)))
 
-    pub finds_number : (z : ℤ) → v ≡ int z → TargetIs st.objects q Unbound
+    pub finds_number : (z : ℤ) → v ≡ int z → TargetIs st.objects q None
     finds_number z k = let y = bound q found v e h in rw y.there (target_number (y.is ∙ k))
 
     module _ (o n : ℕ) (k : v ≡ ref o) (c : n ≡ counted b Objects) where
-      pub finds_absent : n ≤ o → TargetIs st.objects q Unbound
+      pub finds_absent : n ≤ o → TargetIs st.objects q None
       finds_absent l = let y = bound q found v e h in rw y.there (target_absent (y.is ∙ k) (object_absent st.objects o (omega (arith, objects_counted seen))))
 
-      pub finds_object : o < n → TargetIs st.objects q (Bound (ref o))
+      pub finds_object : o < n → TargetIs st.objects q (Some (ref o))
       finds_object l =
           let y = bound q found v e h in
           rw y.there (target_object (y.is ∙ k) (object_there st.objects o blank_object (omega (arith, objects_counted seen))))
@@ -100,16 +96,12 @@ null_not e = let z : ◌≡◌ {A = ℕ} 0 1 = cc in omega arith
 pub ref_same : {o n : ℕ} → ref o ≡ ref n → o ≡ n
 ref_same e = cc
 
--- a tag that is null's or a number's is no object's
-no_object : (o n : ℕ) → OneOf (0 ∷ 2 ∷ []) n → tag_of the_type (ref o) ≡ n → ⊥
-no_object o n h e = ⊎_elim (λ (z : n ≡ 0). omega arith) (λ (z : n ≡ 2). omega arith) h
-
 -- an object that is there
 pub record FoundObject (xs : List Object) (o : ℕ) : Type 0 where
   pub object : Object
   pub there : lookup xs o ≡ some object
 
-pub object_found : {xs : List Object} {q : Option Binding} {found : Lookup} {w : Value} {o : ℕ} → TargetIs xs q found → found ≡ Bound w → w ≡ ref o → FoundObject xs o
+pub object_found : {xs : List Object} {q : Option Binding} {found : CodeOption Value} {w : Value} {o : ℕ} → TargetIs xs q found → found ≡ Some w → w ≡ ref o → FoundObject xs o
 object_found target_unbound h k = absurd (unbound_not h)
 object_found (target_absent v n) h k = absurd (unbound_not h)
 object_found (target_number v) h k = absurd (unbound_not h)
@@ -125,7 +117,7 @@ found_below {st = st} {o = o} seen a =
 
 -- what a move with the target comes to
 module _ {st : Stores} {F : Option Binding → Outcome} {G : ℕ → Option Object → Outcome} (t : Aims st F G) where
-  pub no_target : {q : Option Binding} {found : Lookup} → TargetIs st.objects q found → found ≡ Unbound → F q ≡ still
+  pub no_target : {q : Option Binding} {found : CodeOption Value} → TargetIs st.objects q found → found ≡ None → F q ≡ still
   no_target target_unbound h = t.unbound
   no_target (target_absent {o = o} v n) h = t.aimed v ∙ ap (G o) n ∙ t.absent
   no_target (target_number v) h = t.number v
@@ -133,15 +125,15 @@ module _ {st : Stores} {F : Option Binding → Outcome} {G : ℕ → Option Obje
   no_target (target_object v d) h = absurd (unbound_not (sym h))
 
   pub null_target :
-      {q : Option Binding} {found : Lookup} {w : Value} → TargetIs st.objects q found → found ≡ Bound w → OneOf (0 ∷ 2 ∷ []) (tag_of the_type w)
+      {q : Option Binding} {found : CodeOption Value} {w : Value} → TargetIs st.objects q found → found ≡ Some w → ((o : ℕ) → w ≡ ref o → ⊥)
       → F q ≡ moved st failed
   null_target target_unbound h k = absurd (unbound_not h)
   null_target (target_absent v n) h k = absurd (unbound_not h)
   null_target (target_number v) h k = absurd (unbound_not h)
   null_target (target_null v) h k = t.null v
-  null_target {w = w} (target_object {o = o} v d) h k = absurd (no_object o (tag_of the_type w) k (ap (tag_of the_type) (bound_same h)))
+  null_target (target_object {o = o} v d) h k = absurd (k o (sym (bound_same h)))
 
-  pub object_target : {q : Option Binding} {found : Lookup} {w : Value} {o : ℕ} → TargetIs st.objects q found → found ≡ Bound w → w ≡ ref o → F q ≡ G o (lookup st.objects o)
+  pub object_target : {q : Option Binding} {found : CodeOption Value} {w : Value} {o : ℕ} → TargetIs st.objects q found → found ≡ Some w → w ≡ ref o → F q ≡ G o (lookup st.objects o)
   object_target target_unbound h k = absurd (unbound_not h)
   object_target (target_absent v n) h k = absurd (unbound_not h)
   object_target (target_number v) h k = absurd (unbound_not h)

@@ -1,10 +1,8 @@
 -- What is asked where a value meets the innermost frame of its thread.
 use Rattle.std.specs.Prelude.{ℕ, ◌<◌, List}
 use Rattle.script.specs.Reading.{program_of}
-use Rattle.script.specs.Statements.{WithinLayout}
 use Rattle.typing.specs.Published.{WfEnv}
-use Rattle.subtypes.specs.Tables.{Starts}
-use Rattle.inference.specs.Walk.{EmptyEnv}
+use Rattle.members.specs.Code.{Blank}
 use Rattle.machine.specs.declared.Value.{Value}
 use Rattle.machine.specs.Machine.{context}
 use Rattle.block.specs.Values.{Storable}
@@ -19,15 +17,13 @@ pub record AtFrame (b : List ℕ) (i : ℕ) (v : Value) : Type 0 where
   pub word : Storable v
 
 -- The frame has the environment env: a write or a call looks its target up there.
-pub record AtFrameIn (s starts b : List ℕ) (i env : ℕ) (v : Value) : Type 0 where
-  pub within : WithinLayout s
-  pub runs : Starts s starts
+pub record AtFrameIn (b : List ℕ) (i env : ℕ) (v : Value) : Type 0 where
   pub chain : Chain b env
   pub frame : AtFrame b i v
 
 -- The variables of the environment have types: a let's first part is inferred under them.
-pub record AtTypedFrame (s starts facts table b : List ℕ) (i env : ℕ) (v : Value) : Type 0 where
-  pub blank : EmptyEnv s starts facts table
+pub record AtTypedFrame (s table b : List ℕ) (i env : ℕ) (v : Value) : Type 0 where
+  pub blank : Blank table
   pub chain : Chain b env
   pub typed : Typed b
   pub types : WfEnv (program_of s) (context (bindings_in b) env)

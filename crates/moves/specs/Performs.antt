@@ -12,8 +12,8 @@ use Rattle.machine.specs.Machine.{scope, find, object, Outcome, still, full, mov
 use Rattle.machine.specs.Accepted.{AcceptedCode}
 use Rattle.machine.specs.WellFormed.{StoresOk, TreeOk}
 use Rattle.block.specs.Values.{Storable}
-use Rattle.environments.specs.declared.Lookup.{Lookup}
-use Rattle.environments.specs.declared.Lookup.TheVariants.{Unbound, Bound}
+use Rattle.std.specs.declared.option.Option.{Option as CodeOption}
+use Rattle.std.specs.declared.option.Option.TheVariants.{Some, None}
 use Rattle.environments.specs.Chains.{bindings_in, lookup_of}
 use Rattle.state.specs.Represents.{Represents, Rest, StateAt}
 use Rattle.moves.specs.declared.Effect.{Effect}
@@ -47,13 +47,13 @@ pub record Resumes (s b : List ℕ) (i : ℕ) (v : Value) : Type 0 where
 
 -- "All words are unsigned 16-bit": what a variable of the environment holds is one.
 abbrev pub WordBound : List ℕ → ℕ → Type 0
-WordBound b env = (x : ℕ) (v : Value) → lookup_of (find (scope (bindings_in b) env) x) ≡ Bound v → Storable v
+WordBound b env = (x : ℕ) (v : Value) → lookup_of (find (scope (bindings_in b) env) x) ≡ Some v → Storable v
 
 -- Every object has a value for each field of its class.
 abbrev pub OwnFields : Code → List Object → Type 0
 OwnFields s xs = (o : ℕ) (y : Object) → object xs o ≡ some y → length y.fields ≡ length (fields_of s.program y.class)
 
 -- What a look-up of a value answers, as the code says it.
-abbrev pub value_found : Option Value → Lookup
-value_found none = Unbound
-value_found (some v) = Bound v
+abbrev pub value_found : Option Value → CodeOption Value
+value_found none = None
+value_found (some v) = Some v

@@ -7,7 +7,7 @@ mod targets;
 mod values;
 
 pub use fields::read_field;
-use machine::{Store, Value};
+use machine::Store;
 pub use steps::{fails, gives};
 pub use targets::target_of;
 pub use values::{become_null, become_number, give_value, make_object};
@@ -20,19 +20,10 @@ pub enum Effect {
     Full(Store),
 }
 
-// The field or method `name` of what the variable `target` holds in an environment.
+// The field or method `name` of what the variable `target` holds in an environment: of a node, or of the frame of a write or call that waits.
 #[derive(Clone, Copy)]
 pub struct Member {
     pub env: u16,
     pub target: u16,
     pub name: u16,
-}
-
-// A value at a waiting write or call: of the field or method `member` of the variable `target`, in the environment of the frame.
-#[derive(Clone, Copy)]
-pub struct WaitingMember {
-    pub value: Value,
-    pub env: u16,
-    pub target: u16,
-    pub member: u16,
 }

@@ -9,11 +9,12 @@ ghost use Rattle.state.specs.Represents.{Rest, StateAt, SomeState};
 ghost use Rattle.moves.specs.Performs.{Performs};
 
 use crate::Effect;
+use limits::Limits;
 use machine::Value;
 use tree::Cell;
 
 // The thread at i, which was at a node, has the value v.
-pub fn gives(block: &mut [u8], i: usize, v: Value) -> Effect
+pub fn gives(block: &mut [u8; Limits::BLOCK], i: usize, v: Value) -> Effect
     requires { SomeState block.old i × Storable v }
     ensures { (b : List ℕ) (x : Rest) (st : Stores) (a e : ℕ) (fs : List Frame) →
         StateAt block.old i x st (running a e fs) →
@@ -24,7 +25,7 @@ pub fn gives(block: &mut [u8], i: usize, v: Value) -> Effect
 }
 
 // The part at i becomes failed: "null fails the thread", so does a sum outside the range, and a join does so with a failed side.
-pub fn fails(block: &mut [u8], i: usize) -> Effect
+pub fn fails(block: &mut [u8; Limits::BLOCK], i: usize) -> Effect
     requires { SomeState block.old i }
     ensures { (x : Rest) (st : Stores) (u : machine.Tree) →
         StateAt block.old i x st u →

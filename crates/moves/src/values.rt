@@ -2,8 +2,6 @@
 ghost use Rattle.std.specs.Prelude.{List, ℕ, ◌-◌};
 ghost use Rattle.limits.specs.Limits.{OBJECTS};
 ghost use Rattle.words.specs.Integer.{integer};
-ghost use Rattle.script.specs.Statements.{WithinLayout};
-ghost use Rattle.subtypes.specs.Tables.{Starts};
 ghost use Rattle.machine.specs.declared.Value.TheVariants.{Null as nil, Int as int};
 ghost use Rattle.machine.specs.declared.Frame.{Frame};
 ghost use Rattle.machine.specs.Config.{Stores, running, returning, code_of};
@@ -16,13 +14,13 @@ ghost use Rattle.moves.specs.Performs.{Performs, WordBound};
 
 use crate::{Effect, gives};
 use block::Area;
-use environments::Lookup;
 use initials::start_fields;
 use limits::Limits;
 use machine::{Store, Value};
+use subtypes::Script;
 
 // "null becomes a value"
-pub fn become_null(block: &mut [u8], i: usize) -> Effect
+pub fn become_null(block: &mut [u8; Limits::BLOCK], i: usize) -> Effect
     requires { SomeState block.old i }
     ensures { (x : Rest) (st : Stores) (a e : ℕ) (fs : List Frame) →
         StateAt block.old i x st (running a e fs) →
@@ -32,7 +30,7 @@ pub fn become_null(block: &mut [u8], i: usize) -> Effect
 }
 
 // A constant "becomes a value silently as null does".
-pub fn become_number(block: &mut [u8], i: usize, low: u16, high: u16) -> Effect
+pub fn become_number(block: &mut [u8; Limits::BLOCK], i: usize, low: u16, high: u16) -> Effect
     requires { SomeState block.old i }
     ensures { (x : Rest) (st : Stores) (a e : ℕ) (fs : List Frame) →
         StateAt block.old i x st (running a e fs) →
@@ -43,25 +41,24 @@ pub fn become_number(block: &mut [u8], i: usize, low: u16, high: u16) -> Effect
 }
 
 // "a variable gives its value"
-pub fn give_value(block: &mut [u8], i: usize, env: u16, x: u16) -> Effect
+pub fn give_value(block: &mut [u8; Limits::BLOCK], i: usize, env: u16, x: u16) -> Effect
     requires { SomeState block.old i × Chain block.old env × WordBound block.old env }
     ensures { (rest : Rest) (st : Stores) (a : ℕ) (fs : List Frame) →
         StateAt block.old i rest st (running a env fs) →
         Performs block.old i rest (give st fs (find (scope st.bindings env) x)) block.new result }
 {
-    let found = environments::variable(block, env, x);
-    let Lookup::Bound(v) = found else {
+    let Some(v) = environments::variable(block, env, x) else {
         return Effect::Still;
     };
     gives(block, i, v)
 }
 
 // "new makes an open object with null fields", those of type Int with 0.
-pub fn make_object(s: &[u8], starts: &[u16], block: &mut [u8], i: usize, class: u16) -> Effect
-    requires { WithinLayout s.now × Starts s.now starts.now × SomeState block.old i }
+pub fn make_object(script: &Script, block: &mut [u8; Limits::BLOCK], i: usize, class: u16) -> Effect
+    requires { SomeState block.old i }
     ensures { (x : Rest) (st : Stores) (a e : ℕ) (fs : List Frame) →
         StateAt block.old i x st (running a e fs) →
-        Performs block.old i x (make (code_of s.now) st fs class (OBJECTS - counted block.old Objects))
+        Performs block.old i x (make (code_of script.now.bytes.now) st fs class (OBJECTS - counted block.old Objects))
         block.new result }
 {
     let n = areas::count(block, Area::Objects);
@@ -69,6 +66,6 @@ pub fn make_object(s: &[u8], starts: &[u16], block: &mut [u8], i: usize, class: 
         return Effect::Full(Store::Objects);
     }
     areas::new_object(block, class);
-    start_fields(s, starts, block, n, class);
+    start_fields(script, block, n, class);
     gives(block, i, Value::Ref(n as u16))
 }

@@ -272,21 +272,18 @@ module _ (s facts : List ℕ) (n count : ℕ) (layout : WithinLayout s) (there :
         small (suc zero) b = to_parameter
         small (suc (suc y)) b = absurd (omega arith)
 
-    pub found_before : (r : ℕ) → Search s facts x (head_of facts x) r → 0 < r → r - 1 < n
-    found_before r t b = (found_is s facts x (λ i. i < n) h.earlier t (r - 1) (omega arith)).0
+    pub found_before : (r : ℕ) → Search s facts x (head_of facts x) (suc r) → r < n
+    found_before r t = (found_is s facts x (λ i. i < n) h.earlier t r refl).0
 
-    pub fill_found : (r : ℕ) → Search s facts x (head_of facts x) r → 0 < r → FilledTo s (set facts n (get_or facts (r - 1) 0)) (n + 1) count
-    fill_found r t b =
-        let e : r ≡ suc (r - 1) = omega arith in
-        fill_known (get_or facts (r - 1) 0) (to_slot (found_before r t b) (found_names s facts x h.linked t (r - 1) e)) (λ l. (r - 1, rw e at t))
+    pub fill_found : (r : ℕ) → Search s facts x (head_of facts x) (suc r) → FilledTo s (set facts n (get_or facts r 0)) (n + 1) count
+    fill_found r t = fill_known (get_or facts r 0) (to_slot (found_before r t) (found_names s facts x h.linked t r refl)) (λ l. (r, t))
 
     -- The table with a new rank and link, and a new first slot of the bucket.
     abbrev more : List ℕ
     more = set (set (set facts n count) (SLOTS + n) (head_of (set facts n count) x)) (bucket_of x) (n + 1)
 
-    pub fill_fresh : (r : ℕ) → 2 ≤ x → Search s facts x (head_of facts x) r → r ≤ 0 → FilledTo s more (n + 1) (count + 1)
-    fill_fresh r b t z =
-        let e : r ≡ 0 = omega arith in
+    pub fill_fresh : 2 ≤ x → Search s facts x (head_of facts x) 0 → FilledTo s more (n + 1) (count + 1)
+    fill_fresh b t =
         let size : length facts ≡ FACTS = h.linked.size in
         let bucket : hash_of x < BUCKETS = mod-lt _ (omega arith) in
         let first : List ℕ = set facts n count in
@@ -303,7 +300,7 @@ module _ (s facts : List ℕ) (n count : ℕ) (layout : WithinLayout s) (there :
         x
         named
         b
-        (rw e at t)
+        t
         more
         (length-set second (bucket_of x) (n + 1) ∙ second_size)
         (get_or-set_other second (bucket_of x) n (n + 1) 0 (λ e. omega (arith, few))

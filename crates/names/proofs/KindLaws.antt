@@ -10,34 +10,13 @@ use borrow.Author.Tests.{ltb-true, ltb-false}
 use Rattle.script.specs.Lists.{run}
 use Rattle.script.specs.declared.Section.TheVariants.{Nodes as nodes}
 use Rattle.script.specs.Section.{count_of, node_word}
-use Rattle.script.specs.Reading.{Kind, null_kind, var_kind, select_kind, update_kind, call_kind, bind_kind, new_kind, cast_kind, fork_kind, lock_kind, unknown_kind}
-use Rattle.script.specs.Reading.{constant_kind, add_kind, kind_of, node_of, view_at}
-use Rattle.script.proofs.Reading.{by_kind}
+use Rattle.script.specs.declared.Kind.{Kind}
+use Rattle.script.specs.declared.Kind.TheVariants.{Null as null_kind, Variable as var_kind, Select as select_kind, Update as update_kind, Call as call_kind}
+use Rattle.script.specs.declared.Kind.TheVariants.{Let as bind_kind, New as new_kind, Cast as cast_kind, Fork as fork_kind, Lock as lock_kind}
+use Rattle.script.specs.declared.Kind.TheVariants.{Unknown as unknown_kind, Constant as constant_kind, Sum as add_kind}
+use Rattle.script.specs.Reading.{kind_of, node_of, view_at}
 use Rattle.names.specs.Ranks.{slot_of, variables_in, item_at, name_in, Names, slot_word, SlotNames}
 use Rattle.names.specs.Filling.{names_kind}
-
--- Every other kind names no variable.
-pub no_naming : (k : ℕ) → (k ≡ 1 → ⊥) → (k ≡ 2 → ⊥) → (k ≡ 3 → ⊥) → (k ≡ 4 → ⊥) → (k ≡ 5 → ⊥) → (k ≡ 9 → ⊥) → (k ≡ 11 → ⊥) → 0 ≡ names_kind (kind_of k)
-unfolding kind_of
-no_naming k n1 n2 n3 n4 n5 n9 n11 = go k refl
-  where
-    go : (j : ℕ) → k ≡ j → 0 ≡ names_kind (kind_of j)
-    go =
-        by_kind
-        (λ j. k ≡ j → 0 ≡ names_kind (kind_of j))
-        (λ q. refl)
-        (λ q. absurd (n1 q))
-        (λ q. absurd (n2 q))
-        (λ q. absurd (n3 q))
-        (λ q. absurd (n4 q))
-        (λ q. absurd (n5 q))
-        (λ q. refl)
-        (λ q. refl)
-        (λ q. refl)
-        (λ q. absurd (n9 q))
-        (λ q. refl)
-        (λ q. absurd (n11 q))
-        (λ j q. refl)
 
 -- The variables that a node names are its words from a on.
 variables_of : (k : Kind) (w : ℕ → ℕ) → variables_in (node_of k (w 1) (w 2) (w 3)) ≡ run w 1 (names_kind k)

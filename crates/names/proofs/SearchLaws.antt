@@ -1,5 +1,5 @@
 -- The search along a bucket.
-use Prim.Native.Nat.{ℕ, zero, suc, ◌+◌, ◌*◌, ◌/◌, ◌%◌, ◌-◌, ◌<◌, ◌≤◌}
+use Prim.Native.Nat.{ℕ, zero, suc, ◌+◌, ◌*◌, ◌/◌, ◌%◌, ◌<◌, ◌≤◌}
 use mathlib.Core.Path.{◌≡◌, refl, ap}
 use mathlib.Core.List.{List}
 use native.Mathlib.Omega.{arith}
@@ -78,23 +78,17 @@ module _ (s facts : List ℕ) (x : ℕ) where
   pub look_start : (v k : ℕ) → Linked s facts → k ≡ bucket_of x → v ≡ get_or facts k 0 → Looking s facts x v
   look_start v k w q e = rw (e, q) (record { few = within s facts x w (bucket_of x) (omega arith); leads = λ t. t })
 
-  pub look_end : (at : ℕ) → Looking s facts x at → at ≤ 0 → Search s facts x (head_of facts x) 0
-  look_end zero l h = l.leads nowhere
-  look_end (suc n) l h = absurd (omega arith)
+  pub look_end : Looking s facts x 0 → Search s facts x (head_of facts x) 0
+  look_end l = l.leads nowhere
 
-  pub look_hit : (at : ℕ) → Looking s facts x at → 0 < at → slot_word s (at - 1) ≡ x → Search s facts x (head_of facts x) at
-  look_hit zero l h e = absurd (omega arith)
-  look_hit (suc n) l h e = let q : suc n - 1 ≡ n = omega arith in l.leads (at_slot (rw q at e))
+  pub look_hit : (k : ℕ) → Looking s facts x (suc k) → slot_word s k ≡ x → Search s facts x (head_of facts x) (suc k)
+  look_hit k l e = l.leads (at_slot e)
 
-  pub look_on : (at v : ℕ) → Linked s facts → Looking s facts x at → 0 < at → (slot_word s (at - 1) ≡ x → ⊥) → v ≡ get_or facts (SLOTS + (at - 1)) 0 → Looking s facts x v
-  look_on zero v w l h d e = absurd (omega arith)
-  look_on (suc n) v w l h d e =
-      let q : suc n - 1 ≡ n = omega arith in
-      let z : v ≡ get_or facts (SLOTS + n) 0 = rw q at e in
-      rw z (record { few = within s facts x w (SLOTS + n) (omega arith); leads = λ t. l.leads (onward (λ y. d (rw q y)) t) })
+  pub look_on : (k v : ℕ) → Linked s facts → Looking s facts x (suc k) → (slot_word s k ≡ x → ⊥) → v ≡ get_or facts (SLOTS + k) 0 → Looking s facts x v
+  look_on k v w l d e = rw e (record { few = within s facts x w (SLOTS + k) (omega arith); leads = λ t. l.leads (onward d t) })
 
 module _ (s facts : List ℕ) (f : Facts s facts) where
-  linked_of : Linked s facts
+  pub linked_of : Linked s facts
   linked_of = record { size = f.ranked.size; links = f.indexed.links; inside = f.indexed.inside }
 
   pub rank_small : (x : ℕ) → x < 2 → RankOf s facts x x
@@ -102,14 +96,14 @@ module _ (s facts : List ℕ) (f : Facts s facts) where
   rank_small (suc zero) h = of_parameter
   rank_small (suc (suc x)) h = absurd (omega arith)
 
-  pub rank_none : (x r : ℕ) → 2 ≤ x → Search s facts x (head_of facts x) r → r ≡ 0 → (k : ℕ) → RankOf s facts x k → ⊥
-  rank_none x r h t e k q = unranked s facts (2 * count_of s nodes) (λ i y l. f.indexed.found) x k h (rw e at t) (ranked_to q)
+  pub rank_none : (x : ℕ) → 2 ≤ x → Search s facts x (head_of facts x) 0 → (k : ℕ) → RankOf s facts x k → ⊥
+  rank_none x h t k q = unranked s facts (2 * count_of s nodes) (λ i y l. f.indexed.found) x k h t (ranked_to q)
 
-  pub rank_found : (x r : ℕ) → Search s facts x (head_of facts x) r → (r ≡ 0 → ⊥) → SlotNames s (r - 1) x
-  rank_found x r t d = found_names s facts x linked_of t (r - 1) (omega arith)
+  pub rank_found : (x r : ℕ) → Search s facts x (head_of facts x) (suc r) → SlotNames s r x
+  rank_found x r t = found_names s facts x linked_of t r refl
 
-  pub rank_at : (x r : ℕ) → Search s facts x (head_of facts x) r → (r ≡ 0 → ⊥) → RankOf s facts x (get_or facts (r - 1) 0)
-  rank_at x r t d =
-      let e : slot_of ((r - 1) / 2) ((r - 1) % 2) ≡ r - 1 = omega arith in
-      let q : RankOf s facts x (get_or facts (slot_of ((r - 1) / 2) ((r - 1) % 2)) 0) = of_node (rank_found x r t d) in
+  pub rank_at : (x r : ℕ) → Search s facts x (head_of facts x) (suc r) → RankOf s facts x (get_or facts r 0)
+  rank_at x r t =
+      let e : slot_of (r / 2) (r % 2) ≡ r = omega arith in
+      let q : RankOf s facts x (get_or facts (slot_of (r / 2) (r % 2)) 0) = of_node (rank_found x r t) in
       rw e at q

@@ -3,16 +3,19 @@ use Rattle.std.specs.Prelude.{ℕ, ◌+◌, ◌*◌, suc, ◌<◌, ◌≤◌, �
 use Rattle.std.proofs.Math.Option.{none}
 use Rattle.script.specs.declared.Section.TheVariants.{Nodes as nodes}
 use Rattle.script.specs.Section.{count_of}
-use Rattle.script.specs.Reading.{Kind, null_kind, var_kind, select_kind, update_kind, call_kind, bind_kind, new_kind, cast_kind, fork_kind, lock_kind}
-use Rattle.script.specs.Reading.{constant_kind, add_kind, unknown_kind, view_at}
-use Rattle.names.specs.declared.Rank.{Rank}
-use Rattle.names.specs.declared.Rank.TheVariants.{Unnamed, At}
+use Rattle.script.specs.declared.Kind.{Kind}
+use Rattle.script.specs.declared.Kind.TheVariants.{Null as null_kind, Variable as var_kind, Select as select_kind, Update as update_kind, Call as call_kind}
+use Rattle.script.specs.declared.Kind.TheVariants.{Let as bind_kind, New as new_kind, Cast as cast_kind, Fork as fork_kind, Lock as lock_kind}
+use Rattle.script.specs.declared.Kind.TheVariants.{Constant as constant_kind, Sum as add_kind, Unknown as unknown_kind}
+use Rattle.script.specs.Reading.{view_at}
+use Rattle.std.specs.declared.option.Option.{Option as CodeOption}
+use Rattle.std.specs.declared.option.Option.TheVariants.{Some, None}
 use Rattle.names.specs.Ranks.{SLOTS, FACTS, name_in, name_at, slot_word, SlotNames, RankOf, head_of, Search}
 
 -- The rank of the variable x, or that no node names it.
-abbrev pub RankIs : List ℕ → List ℕ → ℕ → Rank → Type 0
-RankIs s facts x Unnamed = (k : ℕ) → RankOf s facts x k → ⊥
-RankIs s facts x (At k) = RankOf s facts x k
+abbrev pub RankIs : List ℕ → List ℕ → ℕ → CodeOption ℕ → Type 0
+RankIs s facts x None = (k : ℕ) → RankOf s facts x k → ⊥
+RankIs s facts x (Some k) = RankOf s facts x k
 
 -- How many variables a node of this kind names.
 abbrev pub names_kind : Kind → ℕ

@@ -1,6 +1,8 @@
 -- The variables of a script by rank.
 use Rattle.std.specs.Prelude.{ℕ, zero, suc, ◌+◌, ◌*◌, ◌/◌, ◌%◌, ◌<◌, ◌≤◌, ◌≡◌, List, [], ◌∷◌, length, get_or}
 use Rattle.std.proofs.Math.Option.{Option, none, some}
+use Rattle.std.specs.declared.option.Option.{Option as CodeOption}
+use Rattle.std.specs.declared.option.Option.TheVariants.{Some, None}
 use Rattle.limits.specs.Limits.{NODES}
 use Rattle.script.specs.declared.Section.TheVariants.{Nodes as nodes}
 use Rattle.script.specs.Section.{count_of, node_word}
@@ -86,6 +88,11 @@ hash_of x = (x + x / SPACING) % BUCKETS
 -- Where the variable x is looked for: the first slot of its bucket, and 1 more.
 abbrev pub head_of : List ℕ → ℕ → ℕ
 head_of facts x = get_or facts (SLOTS + SLOTS + hash_of x) 0
+
+-- A slot as a word of the table has it: 1 more, or 0 for none.
+abbrev pub link_of : CodeOption ℕ → ℕ
+link_of None = 0
+link_of (Some k) = suc k
 
 -- The search for the variable x along the links of a bucket comes to the answer: a slot where it stands, and 1 more, or 0.
 pub data Search (s facts : List ℕ) (x : ℕ) : ℕ → ℕ → Type 0 where

@@ -25,13 +25,6 @@ pub const SPACING: usize = 64;
 // slot, and a word for each bucket: a slot and 1 more, or 0.
 pub const FACTS: usize = SLOTS + SLOTS + BUCKETS;
 
-// What is known of a variable's rank: it has one if a node names it, or if it is `this` or the parameter.
-#[derive(Clone, Copy)]
-pub enum Rank {
-    Unnamed,
-    At(u16),
-}
-
 // The constants and the definitions are the same numbers.
 pub fn agreed()
     ensures slots { SLOTS ≡ ranks_spec.SLOTS }

@@ -12,10 +12,11 @@ use lib.Seq.{get_or-set_same, get_or-set_other}
 use Rattle.script.proofs.Lists.{lt_or_le}
 use Rattle.script.proofs.Tests.{true_false}
 use Rattle.numbering.specs.Numbers.{role_test, chosen_number}
-use Rattle.numbering.specs.Chains.{FirstFrom, next_in, LinkedFrom, LinkedSort, ChainsAre, first_name, SORTS, sort_number, SortIs, HeadsFrom}
+use Rattle.numbering.specs.Chains.{FirstFrom, next_in, LinkedFrom, LinkedSort, ChainsAre, SORTS, sort_number, SortIs, HeadsFrom}
+use Rattle.std.specs.Prelude.{Some, None}
 use Rattle.numbering.specs.declared.Firsts.{Firsts}
 use Rattle.numbering.specs.declared.Sort.{Sort}
-use Rattle.numbering.proofs.Sorts.{every_sort, every_index}
+use Rattle.numbering.proofs.Sorts.{every_sort}
 
 -- What each token that fails a test keeps holds at the first that passes it.
 pub skipped :
@@ -96,33 +97,43 @@ module _ (test : ℕ → Bool) (roles chain chain' : List ℕ) (i n first : ℕ)
         leads = leads_more (λ q. rw e linked.begins);
       }
 
--- What the code makes of token i.
-module _ (roles chain heads : List ℕ) (i n sort : ℕ) (linked : HeadsFrom roles (i + 1) n chain heads) (is : SortIs (get_or roles i 0) sort) where
-  pub head_within : (sort ≡ SORTS → ⊥) → get_or heads sort 0 ≤ n
-  head_within h = every_index (λ k. get_or heads k 0 ≤ n) (λ s. (linked.each s).begins.within) sort (omega (arith, is.1))
+pub low : (s : Sort) → sort_number s < SORTS
+low = every_sort (λ s. sort_number s < SORTS) (omega arith) (omega arith) (omega arith) (omega arith) (omega arith)
 
-  pub link_none : sort ≡ SORTS → HeadsFrom roles i n chain heads
-  link_none e = record { many = linked.many; each = λ s. linked_past (role_test s) roles chain chain i n (get_or heads (sort_number s) 0) (linked.each s) refl (λ k l. refl) (is.0 s ∙ rw e (none s)) }
-    where
-      none : (s : Sort) → eqb SORTS (sort_number s) ≡ false
-      none = every_sort (λ s. eqb SORTS (sort_number s) ≡ false) refl refl refl refl refl
+-- A token whose role is of no sort.
+module _ (roles chain heads : List ℕ) (i n : ℕ) (linked : HeadsFrom roles (i + 1) n chain heads) where
+  pub link_none : SortIs (get_or roles i 0) None → HeadsFrom roles i n chain heads
+  link_none is =
+      record {
+        many = linked.many;
+        each = λ s. linked_past (role_test s) roles chain chain i n (get_or heads (sort_number s) 0) (linked.each s) refl (λ k l. refl) (is s);
+      }
 
-  pub link_one : (v : ℕ) → i < n → (sort ≡ SORTS → ⊥) → v ≡ chosen_number (eqb (get_or heads sort 0) n) i (get_or heads sort 0) → HeadsFrom roles i n (set chain i v) (set heads sort i)
-  link_one v h some e = record { many = length-set heads sort i ∙ linked.many; each = λ s. go s (eqb sort (sort_number s)) refl }
-    where
-      same : (k : ℕ) → i < k → get_or (set chain i v) k 0 ≡ get_or chain k 0
-      same k l = get_or-set_other chain i k v 0 (λ z. omega arith)
+  pub head_within : (sort : Sort) → get_or heads (sort_number sort) 0 ≤ n
+  head_within sort = (linked.each sort).begins.within
 
-      go : (s : Sort) (b : Bool) → eqb sort (sort_number s) ≡ b → LinkedFrom (role_test s) roles i n (set chain i v) (get_or (set heads sort i) (sort_number s) 0)
-      go s true q =
-          let w : sort ≡ sort_number s = eqb-true sort (sort_number s) q in
-          let u : get_or (set heads sort i) (sort_number s) 0 ≡ i = rw (← w) (get_or-set_same heads sort i 0 (omega (arith, is.1, linked.many))) in
-          let next : next_in (set chain i v) i n ≡ get_or heads (sort_number s) 0 =
-          rw (← w, e) (leads_next chain i n (get_or heads sort 0) (omega (arith, (linked.each s).room)) (rw w (omega (arith, (linked.each s).begins.reached)))) in
-          rw u (linked_with (role_test s) roles chain (set chain i v) i n (get_or heads (sort_number s) 0) (linked.each s) (length-set chain i v) same h (is.0 s ∙ q) next)
-      go s false q =
-          let u : get_or (set heads sort i) (sort_number s) 0 ≡ get_or heads (sort_number s) 0 = get_or-set_other heads sort (sort_number s) i 0 (λ z. eqb-false sort (sort_number s) q (sym z)) in
-          rw u (linked_past (role_test s) roles chain (set chain i v) i n (get_or heads (sort_number s) 0) (linked.each s) (length-set chain i v) same (is.0 s ∙ q))
+  -- What the code makes of token i, which is of a sort.
+  module _ (sort : Sort) (is : SortIs (get_or roles i 0) (Some sort)) where
+    pub link_one :
+        (v : ℕ)
+        → i < n
+        → v ≡ chosen_number (eqb (get_or heads (sort_number sort) 0) n) i (get_or heads (sort_number sort) 0)
+        → HeadsFrom roles i n (set chain i v) (set heads (sort_number sort) i)
+    link_one v h e = record { many = length-set heads (sort_number sort) i ∙ linked.many; each = λ s. go s (eqb (sort_number sort) (sort_number s)) refl }
+      where
+        same : (k : ℕ) → i < k → get_or (set chain i v) k 0 ≡ get_or chain k 0
+        same k l = get_or-set_other chain i k v 0 (λ z. omega arith)
+
+        go : (s : Sort) (b : Bool) → eqb (sort_number sort) (sort_number s) ≡ b → LinkedFrom (role_test s) roles i n (set chain i v) (get_or (set heads (sort_number sort) i) (sort_number s) 0)
+        go s true q =
+            let w : sort_number sort ≡ sort_number s = eqb-true (sort_number sort) (sort_number s) q in
+            let u : get_or (set heads (sort_number sort) i) (sort_number s) 0 ≡ i = rw (← w) (get_or-set_same heads (sort_number sort) i 0 (omega (arith, low sort, linked.many))) in
+            let next : next_in (set chain i v) i n ≡ get_or heads (sort_number s) 0 =
+            rw (← w, e) (leads_next chain i n (get_or heads (sort_number sort) 0) (omega (arith, (linked.each s).room)) (rw w (omega (arith, (linked.each s).begins.reached)))) in
+            rw u (linked_with (role_test s) roles chain (set chain i v) i n (get_or heads (sort_number s) 0) (linked.each s) (length-set chain i v) same h (is s ∙ q) next)
+        go s false q =
+            let u : get_or (set heads (sort_number sort) i) (sort_number s) 0 ≡ get_or heads (sort_number s) 0 = get_or-set_other heads (sort_number sort) (sort_number s) i 0 (λ z. eqb-false (sort_number sort) (sort_number s) q (sym z)) in
+            rw u (linked_past (role_test s) roles chain (set chain i v) i n (get_or heads (sort_number s) 0) (linked.each s) (length-set chain i v) same (is s ∙ q))
 
 -- No token is linked yet, and all are.
 pub none_linked : (roles chain : List ℕ) (n : ℕ) → n ≤ length chain → HeadsFrom roles n n chain (replicate SORTS n)
@@ -141,10 +152,5 @@ none_linked roles chain n h =
     head : (s : Sort) → get_or (replicate SORTS n) (sort_number s) 0 ≡ n
     head = every_sort (λ s. get_or (replicate SORTS n) (sort_number s) 0 ≡ n) refl refl refl refl refl
 
-pub all_linked :
-    (roles chain heads : List ℕ) (i n : ℕ) (f : Firsts)
-    → i ≤ 0
-    → HeadsFrom roles i n chain heads
-    → ((s : Sort) → first_name f s ≡ get_or heads (sort_number s) 0)
-    → ChainsAre roles n chain f
-all_linked roles chain heads i n f h linked named = let e : i ≡ 0 = omega arith in record { each = λ s. rw (named s) (rw e at (linked.each s)) }
+pub all_linked : (roles chain : List ℕ) (i n : ℕ) (f : Firsts) → i ≤ 0 → HeadsFrom roles i n chain f.by_sort → ChainsAre roles n chain f
+all_linked roles chain i n f h linked = let e : i ≡ 0 = omega arith in record { each = λ s. rw e at (linked.each s) }

@@ -9,9 +9,10 @@ use lib.ListN.{length, get_or, take, set, length-map}
 use lib.Seq.{take-suc, length-take-le}
 use Rattle.grammar.specs.Tokens.{Spelling, Lexeme, name_token}
 use Rattle.grammar.specs.Files.{spelling_of, names_with, distinct, rank_in}
-use Rattle.spellings.specs.Table.{name_from, TableHolds, TableFilled, grown, PlaceIs, Grows}
+use Rattle.spellings.specs.declared.table.NameTable.{NameTable}
+use Rattle.spellings.specs.Table.{name_from, Holds, TableFilled, grown, PlaceIs, Grows, CountGrows}
 use Rattle.spellings.proofs.Places.{Among, place_le}
-use Rattle.numbering.specs.Numbers.{names_at, numbered, chosen_number, names_to, NumberedTo, Numbers, TokenArrays}
+use Rattle.numbering.specs.Numbers.{names_at, numbered, chosen_number, names_to, NumberedTo, Numbers}
 use Rattle.numbering.specs.Chains.{FirstFrom}
 use Rattle.numbering.proofs.Chains.{skipped}
 use Rattle.numbering.proofs.Distinct.{distinct_more, place_grown, place_own, among_first, among_behind, distinct_has, distinct_few}
@@ -128,9 +129,9 @@ module _ (text roles offsets : List ℕ) (i : ℕ) (a : i < length roles) (b : i
         (ap distinct (names_with_lem test (get_or roles i 0) (name_token (name_from text (get_or offsets i 0))) p (take i roles) (names_at text (take i offsets)) as_many)
         ∙ distinct_more (names_with test (take i roles) (names_at text (take i offsets))) (name_from text (get_or offsets i 0)))
 
-    module _ (before values firsts links heads : List ℕ) (count : ℕ) (so_far : NumberedTo test text roles offsets before i values firsts links heads count) where
+    module _ {N : ℕ} (before values : List ℕ) (t : NameTable N) (so_far : NumberedTo test text roles offsets before i values t) where
       -- A token that is passed over.
-      pub number_past : test (get_or roles i 0) ≡ false → NumberedTo test text roles offsets before (i + 1) values firsts links heads count
+      pub number_past : test (get_or roles i 0) ≡ false → NumberedTo test text roles offsets before (i + 1) values t
       number_past p =
           record {
             values_are =
@@ -143,14 +144,14 @@ module _ (text roles offsets : List ℕ) (i : ℕ) (a : i < length roles) (b : i
 
       -- A token that gets a value.
       pub number_with :
-          (e : ℕ) (values' firsts' links' heads' : List ℕ) (count' : ℕ)
+          (e : ℕ) (values' : List ℕ) (t' : NameTable N)
           → test (get_or roles i 0) ≡ true
           → e ≡ rank_in (names_to test text roles offsets i) (name_from text (get_or offsets i 0))
           → values' ≡ set values i e
-          → TableHolds text firsts' links' heads' (grown (names_to test text roles offsets i) (name_from text (get_or offsets i 0)))
-          → length (grown (names_to test text roles offsets i) (name_from text (get_or offsets i 0))) ≡ count'
-          → NumberedTo test text roles offsets before (i + 1) values' firsts' links' heads' count'
-      number_with e values' firsts' links' heads' count' p q v h l =
+          → Holds text t' (grown (names_to test text roles offsets i) (name_from text (get_or offsets i 0)))
+          → length (grown (names_to test text roles offsets i) (name_from text (get_or offsets i 0))) ≡ t'.count
+          → NumberedTo test text roles offsets before (i + 1) values' t'
+      number_with e values' t' p q v h l =
           let y = name_from text (get_or offsets i 0) in
           let known = names_to test text roles offsets i in
           let rs = take i roles in
@@ -167,92 +168,64 @@ module _ (text roles offsets : List ℕ) (i : ℕ) (a : i < length roles) (b : i
           }
 
 -- No token is numbered yet.
-pub number_none : (test : ℕ → Bool) (text roles offsets values firsts links heads : List ℕ) → TableHolds text firsts links heads [] → NumberedTo test text roles offsets values 0 values firsts links heads 0
+pub number_none : {N : ℕ} (test : ℕ → Bool) (text roles offsets values : List ℕ) (t : NameTable N) → Holds text t [] → t.count ≡ 0 → NumberedTo test text roles offsets values 0 values t
 unfolding numbered names_with distinct
-number_none test text roles offsets values firsts links heads h = record { values_are = refl; holds = h; counted = refl }
+number_none test text roles offsets values t h e = record { values_are = refl; holds = h; counted = sym e }
 
 -- The table of what is numbered.
-pub held_of : {test : ℕ → Bool} {text roles offsets before values firsts links heads : List ℕ} {n count : ℕ} → NumberedTo test text roles offsets before n values firsts links heads count → TableFilled text firsts links heads count
-held_of {test} {text} {roles} {offsets} {n = n} w = record { names = names_to test text roles offsets n; holds = w.holds; counted = w.counted }
+pub held_of : {N : ℕ} {test : ℕ → Bool} {text roles offsets before values : List ℕ} {n : ℕ} {t : NameTable N} → NumberedTo test text roles offsets before n values t → TableFilled text t
+held_of {test = test} {text} {roles} {offsets} {n = n} w = record { names = names_to test text roles offsets n; holds = w.holds; counted = w.counted }
 
 -- What the code makes of token i.
 pub token_with :
-    (test : ℕ → Bool) (text roles offsets values firsts links heads : List ℕ) (i count : ℕ) (e count' : ℕ) (values' firsts' links' heads' : List ℕ)
-    → TokenArrays text roles offsets values firsts links (i + 1)
+    {N : ℕ} (test : ℕ → Bool) (text roles offsets values : List ℕ) (t : NameTable N) (i e : ℕ) (t' : NameTable N)
+    → i < length roles
+    → i < length offsets
     → test (get_or roles i 0) ≡ true
-    → PlaceIs text firsts links heads count (name_from text (get_or offsets i 0)) e
-    → Grows text firsts links heads count (name_from text (get_or offsets i 0)) firsts' links' heads'
-    → values' ≡ set values i e
-    → ((l : List Spelling) (y : Spelling) → length l ≡ count → e ≡ rank_in l y → length (grown l y) ≡ count')
-    → Numbers test text roles offsets i values firsts links heads count values' firsts' links' heads' count'
-token_with test text roles offsets values firsts links heads i count e count' values' firsts' links' heads' room q place grows v size before w =
+    → PlaceIs text t (name_from text (get_or offsets i 0)) e
+    → Grows text t (name_from text (get_or offsets i 0)) t'
+    → CountGrows text t (name_from text (get_or offsets i 0)) t'
+    → Numbers test text roles offsets i values t (set values i e) t'
+token_with test text roles offsets values t i e t' a b q place grows size before w =
     let known = names_to test text roles offsets i in
-    let p = place known w.holds w.counted in
-    number_with text roles offsets i (omega (arith, room.in_roles)) (omega (arith, room.in_offsets)) test before values firsts links heads count w e values' firsts' links' heads' count'
-    q p v (grows known w.holds w.counted) (size known (name_from text (get_or offsets i 0)) w.counted p)
+    number_with text roles offsets i a b test before values t w e (set values i e) t'
+    q (place known w.holds w.counted) refl (grows known w.holds w.counted) (size known w.holds w.counted)
 
 -- There are at most as many names as tokens.
 pub number_few :
-    {test : ℕ → Bool} {text roles offsets before values firsts links heads : List ℕ} {n count : ℕ}
+    {N : ℕ} {test : ℕ → Bool} {text roles offsets before values : List ℕ} {n : ℕ} {t : NameTable N}
     → n ≤ length roles
-    → NumberedTo test text roles offsets before n values firsts links heads count
-    → count ≤ n
-number_few {test} {text} {roles} {offsets} {n = n} h w =
+    → NumberedTo test text roles offsets before n values t
+    → t.count ≤ n
+number_few {test = test} {text} {roles} {offsets} {n = n} h w =
     omega (arith, w.counted, names_once test (take n roles) (names_at text (take n offsets)), length-take-le n roles h)
 
 -- The place of a name is a value.
-pub place_small : (text firsts links heads : List ℕ) (count : ℕ) (y : Spelling) (e : ℕ) → TableFilled text firsts links heads count → PlaceIs text firsts links heads count y e → e ≤ count
-place_small text firsts links heads count y e h p = omega (arith, p h.names h.holds h.counted, place_le h.names y, h.counted)
-
--- Arrays of the same lengths have the same room.
-pub room_still :
-    {text roles offsets values firsts links values' firsts' links' : List ℕ} {n : ℕ} (m : ℕ)
-    → m ≤ n
-    → length values' ≡ length values
-    → length firsts' ≡ length firsts
-    → length links' ≡ length links
-    → TokenArrays text roles offsets values firsts links n
-    → TokenArrays text roles offsets values' firsts' links' m
-room_still m h a b d t =
-    record {
-      few = omega (arith, t.few);
-      in_roles = omega (arith, t.in_roles);
-      in_offsets = omega (arith, t.in_offsets);
-      in_values = omega (arith, t.in_values);
-      in_firsts = omega (arith, t.in_firsts);
-      in_links = omega (arith, t.in_links);
-      inside = λ k l. t.inside k (omega arith);
-    }
+pub place_small : {N : ℕ} (text : List ℕ) (t : NameTable N) (y : Spelling) (e : ℕ) → TableFilled text t → PlaceIs text t y e → e ≤ t.count
+place_small text t y e h p = omega (arith, p h.names h.holds h.counted, place_le h.names y, h.counted)
 
 -- What the loop along the chain keeps.
-pub record Going (test : ℕ → Bool) (text roles offsets values₀ firsts₀ links₀ : List ℕ) (n : ℕ) (values firsts links heads : List ℕ) (count i : ℕ) : Type 0 where
+pub record Going {N : ℕ} (test : ℕ → Bool) (text roles offsets before : List ℕ) (n : ℕ) (values : List ℕ) (t : NameTable N) (i : ℕ) : Type 0 where
   pub upto : i ≤ n
   pub named : i < n → test (get_or roles i 0) ≡ true
-  pub values_long : length values ≡ length values₀
-  pub firsts_long : length firsts ≡ length firsts₀
-  pub links_long : length links ≡ length links₀
-  pub so_far : NumberedTo test text roles offsets values₀ i values firsts links heads count
+  pub values_long : length values ≡ length before
+  pub so_far : NumberedTo test text roles offsets before i values t
 
-module _ (test : ℕ → Bool) (text roles offsets values₀ firsts₀ links₀ : List ℕ) (n : ℕ) (room : TokenArrays text roles offsets values₀ firsts₀ links₀ n)
-    (values firsts links heads : List ℕ) (count : ℕ) where
+module _ {N : ℕ} (test : ℕ → Bool) (text roles offsets before : List ℕ) (n : ℕ) (a : n ≤ length roles) (b : n ≤ length offsets) (values : List ℕ) (t : NameTable N) where
   -- The tokens before the next name of the sort are passed over.
   pub going_on :
       {from i : ℕ}
-      → length values ≡ length values₀
-      → length firsts ≡ length firsts₀
-      → length links ≡ length links₀
+      → length values ≡ length before
       → FirstFrom (λ k. test (get_or roles k 0)) from n i
-      → NumberedTo test text roles offsets values₀ from values firsts links heads count
-      → Going test text roles offsets values₀ firsts₀ links₀ n values firsts links heads count i
-  going_on a b d f w =
+      → NumberedTo test text roles offsets before from values t
+      → Going test text roles offsets before n values t i
+  going_on e f w =
       record {
         upto = f.within;
         named = f.there;
-        values_long = a;
-        firsts_long = b;
-        links_long = d;
+        values_long = e;
         so_far =
-            skipped (λ k. NumberedTo test text roles offsets values₀ k values firsts links heads count) f
-            (λ k h p v. number_past text roles offsets k (omega (arith, room.in_roles)) (omega (arith, room.in_offsets)) test values₀ values firsts links heads count v p)
+            skipped (λ k. NumberedTo test text roles offsets before k values t) f
+            (λ k h p v. number_past text roles offsets k (omega arith) (omega arith) test before values t v p)
             w;
       }

@@ -1,5 +1,5 @@
 -- Chains through the tokens of a text: each name leads to the next one of its sort.
-use Rattle.std.specs.Prelude.{ℕ, ◌+◌, ◌<◌, ◌≤◌, ◌≡◌, Bool, true, false, List, eqb, length, get_or}
+use Rattle.std.specs.Prelude.{ℕ, ◌+◌, ◌<◌, ◌≤◌, ◌≡◌, Bool, true, false, List, eqb, length, get_or, Option, None, Some}
 use Rattle.numbering.specs.Numbers.{role_test, chosen_number}
 use Rattle.numbering.specs.declared.Firsts.{Firsts}
 use Rattle.numbering.specs.declared.Sort.{Sort}
@@ -31,19 +31,7 @@ pub record LinkedFrom (test : ℕ → Bool) (roles : List ℕ) (from n : ℕ) (c
 abbrev pub LinkedSort : (ℕ → Bool) → List ℕ → ℕ → List ℕ → ℕ → Type 0
 LinkedSort test roles n chain first = LinkedFrom test roles 0 n chain first
 
--- The first name of a sort.
-abbrev pub first_name : Firsts → Sort → ℕ
-first_name f Declared = f.declared
-first_name f Types = f.types
-first_name f Methods = f.methods
-first_name f Fields = f.fields
-first_name f Variables = f.variables
-
--- The names of every sort are linked.
-pub record ChainsAre (roles : List ℕ) (n : ℕ) (chain : List ℕ) (f : Firsts) : Type 0 where
-  pub each : (s : Sort) → LinkedSort (role_test s) roles n chain (first_name f s)
-
--- Sorts by number, which is the place of their first name among the heads of the chains; and the number of none.
+-- Sorts by number, which is the place of their first name among the heads of the chains.
 abbrev pub SORTS : ℕ
 SORTS = 5
 
@@ -54,9 +42,18 @@ sort_number Methods = 2
 sort_number Fields = 3
 sort_number Variables = 4
 
--- r is the number of the sort of a role, or of none.
-abbrev pub SortIs : ℕ → ℕ → Type 0
-SortIs role r = ((s : Sort) → role_test s role ≡ eqb r (sort_number s)) × (r ≤ SORTS)
+-- The first name of a sort.
+abbrev pub first_name : Firsts → Sort → ℕ
+first_name f s = get_or f.by_sort (sort_number s) 0
+
+-- The names of every sort are linked.
+pub record ChainsAre (roles : List ℕ) (n : ℕ) (chain : List ℕ) (f : Firsts) : Type 0 where
+  pub each : (s : Sort) → LinkedSort (role_test s) roles n chain (first_name f s)
+
+-- r is the sort of a role, if it has one.
+abbrev pub SortIs : ℕ → Option Sort → Type 0
+SortIs role None = (s : Sort) → role_test s role ≡ false
+SortIs role (Some r) = (s : Sort) → role_test s role ≡ eqb (sort_number r) (sort_number s)
 
 -- The names of every sort from one token on are linked, with these heads.
 pub record HeadsFrom (roles : List ℕ) (from n : ℕ) (chain heads : List ℕ) : Type 0 where

@@ -1,10 +1,11 @@
 -- Names numbered "by first appearance", token by token.
-use Rattle.std.specs.Prelude.{ℕ, ◌+◌, ◌<◌, ◌≤◌, ◌≡◌, Bool, true, false, List, [], ◌∷◌, map, eqb, length, get_or, take}
-use Rattle.words.specs.Word.{WORD}
+use Rattle.std.specs.Prelude.{ℕ, ◌+◌, ◌≡◌, Bool, true, false, List, [], ◌∷◌, map, eqb, length, take}
 use Rattle.grammar.specs.Tokens.{Spelling, Lexeme, name_token}
 use Rattle.grammar.specs.Roles.{R_TYPE}
 use Rattle.grammar.specs.Files.{spelling_of, names_with, distinct, rank_in, method_role, field_role, other_role, declared_role}
-use Rattle.spellings.specs.Table.{name_from, TableHolds}
+use Rattle.tokens.specs.declared.roles.Tokens.{Tokens}
+use Rattle.spellings.specs.declared.table.NameTable.{NameTable}
+use Rattle.spellings.specs.Table.{name_from, Holds}
 use Rattle.numbering.specs.declared.Sort.{Sort}
 use Rattle.numbering.specs.declared.Sort.TheVariants.{Methods, Fields, Variables, Declared, Types}
 
@@ -36,25 +37,16 @@ abbrev pub names_to : (ℕ → Bool) → List ℕ → List ℕ → List ℕ → 
 names_to test text roles offsets n = distinct (names_with test (take n roles) (names_at text (take n offsets)))
 
 -- The first n tokens are numbered, where the values were `before`, and the table holds their names.
-pub record NumberedTo (test : ℕ → Bool) (text roles offsets before : List ℕ) (n : ℕ) (values firsts links heads : List ℕ) (count : ℕ) : Type 0 where
+pub record NumberedTo {N : ℕ} (test : ℕ → Bool) (text roles offsets before : List ℕ) (n : ℕ) (values : List ℕ) (t : NameTable N) : Type 0 where
   pub values_are : values ≡ numbered test (names_to test text roles offsets n) (take n roles) (names_at text (take n offsets)) before
-  pub holds : TableHolds text firsts links heads (names_to test text roles offsets n)
-  pub counted : length (names_to test text roles offsets n) ≡ count
+  pub holds : Holds text t (names_to test text roles offsets n)
+  pub counted : length (names_to test text roles offsets n) ≡ t.count
+
+-- All of them are.
+abbrev pub Numbered : {N : ℕ} → Sort → Tokens → List ℕ → List ℕ → NameTable N → Type 0
+Numbered s k before values t = NumberedTo (role_test s) k.text.bytes.now k.roles.now k.offsets.now before (length k.roles.now) values t
 
 -- One token more is numbered.
-abbrev pub Numbers :
-    (ℕ → Bool) → List ℕ → List ℕ → List ℕ → ℕ → List ℕ → List ℕ → List ℕ → List ℕ → ℕ → List ℕ → List ℕ → List ℕ → List ℕ → ℕ → Type 0
-Numbers test text roles offsets i values firsts links heads count values' firsts' links' heads' count' =
-    (before : List ℕ)
-    → NumberedTo test text roles offsets before i values firsts links heads count
-    → NumberedTo test text roles offsets before (i + 1) values' firsts' links' heads' count'
-
--- Room for n tokens, and offsets that stand in the text.
-pub record TokenArrays (text roles offsets values firsts links : List ℕ) (n : ℕ) : Type 0 where
-  pub few : n ≤ WORD
-  pub in_roles : n ≤ length roles
-  pub in_offsets : n ≤ length offsets
-  pub in_values : n ≤ length values
-  pub in_firsts : n ≤ length firsts
-  pub in_links : n ≤ length links
-  pub inside : (k : ℕ) → k < n → get_or offsets k 0 ≤ length text
+abbrev pub Numbers : {N : ℕ} → (ℕ → Bool) → List ℕ → List ℕ → List ℕ → ℕ → List ℕ → NameTable N → List ℕ → NameTable N → Type 0
+Numbers test text roles offsets i values t values' t' =
+    (before : List ℕ) → NumberedTo test text roles offsets before i values t → NumberedTo test text roles offsets before (i + 1) values' t'

@@ -4,9 +4,8 @@
 ghost use Rattle.std.specs.Prelude.{◌≡◌};
 ghost use Rattle.calls.specs.Calls.{offer_of};
 
-use c_replies::{OfferReply, offer_reply};
+use c_replies::OfferReply;
 use calls::LentQuestion;
-use check_call::check_script;
 use limits::Limits;
 use names::FACTS;
 use subtypes::STARTS;
@@ -21,16 +20,18 @@ pub fn offer(script: &[u8], block: &[u8], flags: &mut [u8]) -> OfferReply
 {
     let mut starts = [0u16; STARTS];
     let mut facts = [0u16; FACTS];
-    let checked = check_script(script, &mut starts, &mut facts);
-    if checked.number != 0 {
-        return offer_reply(checked.number, checked.place);
-    }
-    if block.len() != Limits::BLOCK {
-        return offer_reply(numbers::lent_number(LentQuestion::BlockLength), 0);
-    }
+    let t = match checker::verdict_of(script, &mut starts, &mut facts) {
+        Ok(t) => t,
+        Err(refusal) => return OfferReply::from(refusal),
+    };
+    let Some(block) = block.as_array::<{ Limits::BLOCK }>() else {
+        return OfferReply::from(LentQuestion::BlockLength);
+    };
     if flags.len() != Limits::FLAGS {
-        return offer_reply(numbers::lent_number(LentQuestion::BufferLength), 0);
+        return OfferReply::from(LentQuestion::BufferLength);
     }
-    let number = replies::offer(script, &starts, &facts, checked.start_type, block, flags);
-    offer_reply(number, 0)
+    match replies::offer(script, &starts, &facts, t, block, flags) {
+        Ok(()) => OfferReply::ACCEPTED,
+        Err(question) => OfferReply::from(question),
+    }
 }

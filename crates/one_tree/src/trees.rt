@@ -10,6 +10,7 @@ ghost use Rattle.one_tree.specs.After.{After};
 
 use areas::{count, word};
 use block::{Area, Layout};
+use limits::Limits;
 
 // How many trees are still to come after a position of this kind: a thread is one of them, and a join makes two of one.
 fn after(kind: u16, trees: usize) -> usize
@@ -23,35 +24,32 @@ fn after(kind: u16, trees: usize) -> usize
 }
 
 // Do the positions form one tree?
-pub fn one_tree(block: &[u8]) -> bool
-    requires { (length block.now ≡ BLOCK) × (counted block.now Positions ≤ POSITIONS) }
+pub fn one_tree(block: &[u8; Limits::BLOCK]) -> bool
+    requires { counted block.now Positions ≤ POSITIONS }
     ensures { Decides (OneTree block.now) result }
 {
     let n = count(block, Area::Positions);
     let mut trees: usize = 1;
-    let mut i: usize = 0;
-    while i < n {
+    for i in 0..n {
         if trees == 0 {
             return false;
         }
         let kind = word(block, Area::Positions, i, Layout::KIND);
         trees = after(kind, trees);
-        i += 1;
     }
     trees == 0
 }
 
+// `frames_before` of state adds the same words, as those of a tree's entries; this is asked of words alone, before it is known that there is a tree.
 // Do the positions' numbers of frames add up to the count of frames?
-pub fn frames_add_up(block: &[u8]) -> bool
-    requires { (length block.now ≡ BLOCK) × (counted block.now Positions ≤ POSITIONS) }
+pub fn frames_add_up(block: &[u8; Limits::BLOCK]) -> bool
+    requires { counted block.now Positions ≤ POSITIONS }
     ensures { Decides (FramesAdd block.now) result }
 {
     let n = count(block, Area::Positions);
     let mut sum: usize = 0;
-    let mut i: usize = 0;
-    while i < n {
+    for i in 0..n {
         sum += word(block, Area::Positions, i, Layout::WAITING) as usize;
-        i += 1;
     }
     sum == count(block, Area::Frames)
 }

@@ -2,9 +2,11 @@
 // no and its place. Its exit status is 0 whatever it prints, and if it can print nothing.
 #![tactic(auto)]
 
+use limits::Limits;
+
 fn main(rt: HostRuntime) {
     // Longer input than the buffer is longer than any script, so the part that is read gets the same answer.
-    let mut buffer = [0u8; 65536];
+    let mut buffer = [0u8; Limits::TEXT];
     let n = input::read_full(&mut rt.stdin(), &mut buffer);
     let reply = engine::oolong_check(&buffer[..n]);
     let _ = if reply.number == 0 {

@@ -2,6 +2,11 @@
 // place, to standard error, and nothing to standard output. Its exit status is 0 whatever it writes, and if it can write nothing.
 #![tactic(auto)]
 
+use limits::Limits;
+
+// One byte more than the longest text has, so that a longer one is seen to be too long.
+const TEXT: usize = Limits::TEXT + 1;
+
 // Reads the text, and writes its file or the refusal.
 fn respond(rt: &(impl Print + Eprint), text: &[u8], file: &mut [u8]) {
     let reply = engine::oolong_read(text, file);
@@ -16,9 +21,8 @@ fn respond(rt: &(impl Print + Eprint), text: &[u8], file: &mut [u8]) {
 }
 
 fn main(rt: HostRuntime) {
-    // One byte more than the longest text has, so that a longer one is seen to be too long.
-    let mut text = [0u8; 65537];
+    let mut text = [0u8; TEXT];
     let n = input::read_full(&mut rt.stdin(), &mut text);
-    let mut file = [0u8; 13592];
+    let mut file = [0u8; Limits::FILE];
     respond(&rt, &text[..n], &mut file);
 }

@@ -12,7 +12,7 @@ use lib.Signed.{mag}
 use borrow.Author.Tests.{eq-eqb, ltb-true, ltb-false}
 use Rattle.words.specs.Integer.{HALF, range_test}
 use Rattle.script.specs.Syntax.{Point, Node, n_null, n_var, n_select, n_update, n_call, n_bind, n_new, n_cast, n_fork, n_lock, n_constant, n_add, build, point_of, var, select, new, fork, lock, add, Program}
-use Rattle.typing.specs.declared.Answer.TheVariants.{Typed}
+use Rattle.std.specs.declared.result.Result.TheVariants.{Ok}
 use Rattle.typing.specs.Members.{type_in, fields_of}
 use Rattle.typing.specs.Published.{Sub, FieldIn, MsigIn, BD-INFER-VAR, BD-INFER-SELECT, BD-INFER-ADD}
 use Rattle.typing.proofs.Environments.{type_in_lem}
@@ -241,7 +241,7 @@ module _ {s : Code} {w : Want} {st : Stores} (ok : StoresOk s st) {start : ℕ} 
 
   module _ (p : Point) (e : ℕ) (v : Want) (x : Value) (r : FramesOk s st.bindings w fs v) where
     bind_step : (n t : ℕ) (a b : Point) → s.view p ≡ n_bind n a b → (k : ℕ)
-        → Exact s st above (returning x (awaits p e ∷ fs)) (extend st fs n x b e (Typed t) k)
+        → Exact s st above (returning x (awaits p e ∷ fs)) (extend st fs n x b e (Ok t) k)
     bind_step n t a b i zero = no_place
     bind_step n t a b i (suc k) =
         let y : Binding = record { name = n; type = t; value = x; link = e } in

@@ -5,6 +5,7 @@ ghost use Rattle.std.specs.Prelude.{◌≡◌};
 ghost use Rattle.grammar.specs.Read.{read_of};
 
 use c_replies::{ReadReply, read_reply};
+use reader::read_text;
 
 // Read: a text becomes a script file, in a buffer of exactly the longest file's bytes. A refused text leaves every byte as it was.
 pub fn read(text: &[u8], file: &mut [u8]) -> ReadReply
@@ -14,6 +15,8 @@ pub fn read(text: &[u8], file: &mut [u8]) -> ReadReply
     ensures place { result.place ≡ (read_of text.now file.old).place }
     ensures file { file.new ≡ (read_of text.now file.old).buffer }
 {
-    let r = reader::read_text(text, file);
-    read_reply(r.number, r.length, r.place)
+    match read_text(text, file) {
+        Ok(length) => read_reply(0, length, 0),
+        Err(refusal) => read_reply(refusal.error.number(), 0, refusal.place),
+    }
 }

@@ -1,157 +1,121 @@
 -- From the judge to the passes behind it.
 use Prim.Native.Nat.{ℕ, zero, suc, ◌<◌, ◌≤◌}
 use mathlib.Core.Path.{◌≡◌, refl, sym, ap, ◌∙◌}
-use mathlib.Core.Bool.{Bool, true, false, not, and-false}
+use mathlib.Core.Bool.{and-false}
 use mathlib.Core.List.{List, [], ◌∷◌, map}
 use native.Mathlib.Omega.{arith}
-use lib.ListN.{length, get_or, drop, replicate, length-replicate}
+use lib.ListN.{length, get_or, take, length-map}
+use lib.Seq.{take_at}
 use lib.Dec.{leb}
 use borrow.Author.Tests.{lt-leb, ne_eqb}
-use Rattle.script.proofs.Tests.{true_false}
+use Rattle.std.specs.Prelude.{Ok, Err}
 use Rattle.limits.specs.Limits.{FILE, TEXT}
 use Rattle.script.specs.Lists.{Every}
 use Rattle.grammar.specs.Tokens.{Token, tokens_of}
+use Rattle.grammar.specs.Grammar.{Derivation}
 use Rattle.grammar.specs.Parse.{Verdict, refused_at, derived, parsed}
-use Rattle.grammar.specs.Read.{NO_GRAMMAR, NO_ROOM, text_refused, read_of}
+use Rattle.grammar.specs.Roles.{roles_text}
+use Rattle.grammar.specs.Read.{NO_GRAMMAR, text_refused, read_of}
 use Rattle.grammar.proofs.Splitting.{splits}
+use Rattle.parsing.proofs.Written.{splits_written}
+use Rattle.parsing.proofs.Place.{parsed_derived}
+use Rattle.capacity.proofs.Roles.{text_spelled}
 use Rattle.bounds.proofs.Text.{begins_within}
-use Rattle.tokens.specs.Runs.{HASHES}
-use Rattle.judge.specs.declared.Judged.{Judged}
-use Rattle.judge.specs.Judging.{lexemes_of, JudgedAs, JudgedText}
-use Rattle.ask_limits.specs.declared.Read.{Read}
+use Rattle.judge.specs.declared.Accepted.{Accepted}
+use Rattle.judge.specs.declared.Misfit.{Misfit}
+use Rattle.judge.specs.Judging.{lexemes_of, offsets_of, RefusedText, AcceptedText, JudgedAs, JudgedText}
+use Rattle.ask_limits.specs.declared.refusal.ReadError.TheVariants.{NoGrammar, NoRoom}
+use Rattle.ask_limits.specs.declared.refusal.ReadRefusal.{ReadRefusal}
 use Rattle.ask_limits.specs.Reading.{ReadAs}
-use Rattle.reader.specs.Rooms.{LentToRead, cleared}
-use Rattle.ask_limits.specs.Derived.{DerivedText}
-use Rattle.ask_declarations.specs.Judged.{JudgedDerived}
+use Rattle.ask_limits.specs.Derived.{Derived}
 use Rattle.ask_limits.proofs.Laws.{place_at_lem, read_lengths, read_stuck}
 use Rattle.ask_limits.proofs.PassLaws.{refusal_as}
 
-pub not_ok : (q : Bool) → not q ≡ true → q ≡ false
-not_ok true h = absurd (true_false (sym h))
-not_ok false h = refl
-
-pub ok : (q : Bool) → not q ≡ false → q ≡ true
-ok true h = refl
-ok false h = absurd (true_false h)
-
 -- A token's place is in the text.
-place_low : (end : ℕ) (ts : List Token) (k : ℕ) → Every (λ t. t.offset ≤ end) ts → get_or (map (λ t. t.offset) ts) k end ≤ end
-place_low end [] k h = omega arith
-place_low end (t ∷ ts) zero h = h.0
-place_low end (t ∷ ts) (suc k) h = place_low end ts k h.1
+place_low : (end d : ℕ) (ts : List Token) (k : ℕ) → d ≤ end → Every (λ t. t.offset ≤ end) ts → get_or (map (λ t. t.offset) ts) k d ≤ end
+place_low end d [] k l h = omega arith
+place_low end d (t ∷ ts) zero l h = h.0
+place_low end d (t ∷ ts) (suc k) l h = place_low end d ts k l h.1
 
-place_by :
-    (text roles offsets roles' offsets' : List ℕ) (j : Judged) (v : Verdict)
-    → JudgedAs text roles offsets j roles' offsets' v
-    → j.ok ≡ false
-    → j.place ≤ length text
-place_by text roles offsets roles' offsets' j (refused_at k) a h =
-    rw a.place_is (place_low (length text) (tokens_of text) k (begins_within (length text) (omega arith) (splits 0 text)))
-place_by text roles offsets roles' offsets' j (derived d) a h = absurd (true_false (sym a.yes ∙ h))
+low : (text : List ℕ) (d k : ℕ) → d ≤ length text → get_or (offsets_of text) k d ≤ length text
+low text d k l = place_low (length text) d (tokens_of text) k l (begins_within (length text) (omega arith) (splits 0 text))
 
-pub judged_place :
-    (text roles offsets roles' offsets' : List ℕ) (j : Judged)
-    → JudgedText text roles offsets j roles' offsets'
-    → j.ok ≡ false
-    → j.place ≤ length text
-judged_place text roles offsets roles' offsets' j a h = place_by text roles offsets roles' offsets' j (parsed (lexemes_of text)) a h
+-- What the judge has found.
+pub record Misfits (text : List ℕ) (m : Misfit) : Type 0 where
+  pub at : ℕ
+  pub stuck : parsed (lexemes_of text) ≡ refused_at at
+  pub refused : RefusedText text at m
 
-module _ {text roles offsets closers file : List ℕ} (l : LentToRead text roles offsets closers file) where
-  refused_by :
-      (roles' offsets' : List ℕ) (j : Judged) (reply : Read) (v : Verdict)
-      → parsed (lexemes_of text) ≡ v
-      → JudgedAs text roles offsets j roles' offsets' v
-      → j.ok ≡ false
-      → reply ≡ record { number = NO_GRAMMAR; length = 0; place = j.place }
-      → ReadAs reply file (read_of text file)
-  refused_by roles' offsets' j reply (refused_at k) e a h r =
-      refusal_as NO_GRAMMAR j.place file reply (read_of text file) r
-      (read_stuck text file l.short l.whole k e
-      ∙ ap (λ p. text_refused NO_GRAMMAR p file) (place_at_lem text (tokens_of text) k ∙ sym a.place_is))
-  refused_by roles' offsets' j reply (derived d) e a h r = absurd (true_false (sym a.yes ∙ h))
+pub record Fits (text roles offsets : List ℕ) (a : Accepted) (roles' offsets' : List ℕ) : Type 0 where
+  pub derivation : Derivation
+  pub is_derived : parsed (lexemes_of text) ≡ derived derivation
+  pub accepted : AcceptedText text roles offsets derivation a roles' offsets'
 
-  pub judged_refused :
-      (roles' offsets' : List ℕ) (j : Judged) (reply : Read)
-      → JudgedText text roles offsets j roles' offsets'
-      → j.ok ≡ false
-      → reply ≡ record { number = NO_GRAMMAR; length = 0; place = j.place }
-      → ReadAs reply file (read_of text file)
-  judged_refused roles' offsets' j reply a h r = refused_by roles' offsets' j reply (parsed (lexemes_of text)) refl a h r
+-- Of the arrays nothing is said then.
+pub misfits : (text : List ℕ) (m : Misfit) → JudgedText text [] [] (Err m) [] [] → Misfits text m
+misfits text m j = go (parsed (lexemes_of text)) refl j
+  where
+    go : (v : Verdict) → parsed (lexemes_of text) ≡ v → JudgedAs text [] [] (Err m) [] [] v → Misfits text m
+    go (refused_at k) e h = record { at = k; stuck = e; refused = h }
+    go (derived d) e h = absurd h
 
-  passed_by :
-      (roles' offsets' : List ℕ) (j : Judged) (v : Verdict)
-      → parsed (lexemes_of text) ≡ v
-      → JudgedAs text roles offsets j roles' offsets' v
-      → j.ok ≡ true
-      → DerivedText text roles' offsets' j.tokens j.start file
-  passed_by roles' offsets' j (refused_at k) e a h = absurd (true_false (sym h ∙ a.no))
-  passed_by roles' offsets' j (derived d) e a h =
-      record {
-        derived_text =
-            record {
-              derivation = d;
-              others = drop (length (tokens_of text)) roles;
-              more = drop (length (tokens_of text)) offsets;
-              is_derived = e;
-              all_tokens = a.tokens_are;
-              starts = a.start_is;
-              roles_are = a.roles_are;
-              offsets_are = a.offsets_are;
-            };
-        short = l.short;
-        whole = l.whole;
-      }
+pub fits : (text roles offsets roles' offsets' : List ℕ) (a : Accepted) → JudgedText text roles offsets (Ok a) roles' offsets' → Fits text roles offsets a roles' offsets'
+fits text roles offsets roles' offsets' a j = go (parsed (lexemes_of text)) refl j
+  where
+    go : (v : Verdict) → parsed (lexemes_of text) ≡ v → JudgedAs text roles offsets (Ok a) roles' offsets' v → Fits text roles offsets a roles' offsets'
+    go (refused_at k) e h = absurd h
+    go (derived d) e h = record { derivation = d; is_derived = e; accepted = h }
 
-  pub judged_passed :
-      (roles' offsets' : List ℕ) (j : Judged)
-      → JudgedText text roles offsets j roles' offsets'
-      → j.ok ≡ true
-      → DerivedText text roles' offsets' j.tokens j.start file
-  judged_passed roles' offsets' j a h = passed_by roles' offsets' j (parsed (lexemes_of text)) refl a h
+-- 34.
+module _ {text : List ℕ} {m : Misfit} (f : Misfits text m) where
+  pub misfit_within : m.place ≤ length text
+  misfit_within = rw f.refused.place_is (low text (length text) f.at (omega arith))
 
--- Arrays of cleared.
-zeros_long : (n : ℕ) → length (cleared n) ≡ n
-unfolding cleared
-zeros_long n = length-replicate {A = ℕ} n 0
+  pub misfit_refused :
+      (file : List ℕ) (refusal : ReadRefusal)
+      → length text ≤ TEXT
+      → length file ≡ FILE
+      → refusal ≡ record { error = NoGrammar; place = m.place }
+      → ReadAs (Err refusal) file (read_of text file)
+  misfit_refused file refusal short whole r =
+      refusal_as NoGrammar m.place file refusal (read_of text file) r
+      (read_stuck text file short whole f.at f.stuck
+      ∙ ap (λ p. text_refused NO_GRAMMAR p file) (place_at_lem text (tokens_of text) f.at ∙ sym f.refused.place_is))
 
-zeros_are : (n : ℕ) → ◌≡◌ {A = List ℕ} (cleared n) (replicate n 0)
-unfolding cleared
-zeros_are n = refl
+-- What is left of a text that is derived: its tokens' roles and offsets.
+module _ {text roles offsets roles' offsets' : List ℕ} {a : Accepted} (f : Fits text roles offsets a roles' offsets') where
+  roles_all : length (roles_text f.derivation) ≡ a.tokens
+  roles_all =
+      text_spelled f.derivation
+      ∙ ap length (parsed_derived (lexemes_of text) f.derivation (splits_written (splits 0 text)) f.is_derived)
+      ∙ length-map (tokens_of text) (λ t. t.lexeme)
+      ∙ sym f.accepted.tokens_are
 
--- Arrays of cleared with room for all tokens.
-pub roomy_zeros :
-    {text roles offsets chain values firsts links heads file : List ℕ} {n start : ℕ} (m : ℕ)
-    → n ≤ m
-    → DerivedText text roles offsets n start file
-    → chain ≡ cleared m
-    → values ≡ cleared m
-    → firsts ≡ cleared m
-    → links ≡ cleared m
-    → heads ≡ cleared HASHES
-    → JudgedDerived text roles offsets n start chain values firsts links heads file
-roomy_zeros m h j c v f l e =
-    record {
-      judged = j;
-      roomy =
-          record {
-            for_chain = omega (arith, h, ap length c, zeros_long m);
-            for_values = omega (arith, h, ap length v, zeros_long m);
-            for_firsts = omega (arith, h, ap length f, zeros_long m);
-            for_links = omega (arith, h, ap length l, zeros_long m);
-            for_heads = ap length e ∙ zeros_long HASHES;
-          };
-      no_values = v ∙ zeros_are m ∙ ap (λ k. replicate {A = ℕ} k 0) (sym (ap length v ∙ zeros_long m));
-      no_heads = e ∙ zeros_are HASHES;
-    }
+  offsets_all : length (offsets_of text) ≡ a.tokens
+  offsets_all = length-map (tokens_of text) (λ t. t.offset) ∙ sym f.accepted.tokens_are
+
+  roles_are : take a.tokens roles' ≡ roles_text f.derivation
+  roles_are = rw f.accepted.roles_are (take_at (roles_text f.derivation) _ a.tokens roles_all)
+
+  offsets_are : take a.tokens offsets' ≡ offsets_of text
+  offsets_are = rw f.accepted.offsets_are (take_at (offsets_of text) _ a.tokens offsets_all)
+
+  pub left : Derived text (take a.tokens roles') (take a.tokens offsets') a.start
+  left = record { derivation = f.derivation; is_derived = f.is_derived; starts = f.accepted.start_is; roles_are = roles_are; offsets_are = offsets_are }
+
+  pub offset_each : length (take a.tokens offsets') ≡ length (take a.tokens roles')
+  offset_each = ap length offsets_are ∙ offsets_all ∙ sym (ap length roles_are ∙ roles_all)
+
+  pub few : length (take a.tokens roles') ≤ length text
+  few = omega (arith, f.accepted.few, ap length roles_are, roles_all)
+
+  pub inside : (i : ℕ) → get_or (take a.tokens offsets') i 0 ≤ length text
+  inside i = rw offsets_are (low text 0 i (omega arith))
 
 -- The lengths are asked first.
-pub long_refused : (text file : List ℕ) (reply : Read) → TEXT < length text → reply ≡ record { number = NO_ROOM; length = 0; place = 0 } → ReadAs reply file (read_of text file)
-long_refused text file reply h e = refusal_as NO_ROOM 0 file reply (read_of text file) e (read_lengths text file (rw (lt-leb (length text) TEXT h) refl))
+pub long_refused : (text file : List ℕ) → TEXT < length text → ReadAs (Err (record { error = NoRoom; place = 0 })) file (read_of text file)
+long_refused text file h = refusal_as NoRoom 0 file (record { error = NoRoom; place = 0 }) (read_of text file) refl (read_lengths text file (rw (lt-leb (length text) TEXT h) refl))
 
-pub buffer_refused :
-    (text file : List ℕ) (reply : Read)
-    → (length file ≡ FILE → ⊥)
-    → reply ≡ record { number = NO_ROOM; length = 0; place = 0 }
-    → ReadAs reply file (read_of text file)
-buffer_refused text file reply h e =
-    refusal_as NO_ROOM 0 file reply (read_of text file) e (read_lengths text file (rw (ne_eqb (length file) FILE h) (and-false (leb (length text) TEXT))))
+pub buffer_refused : (text file : List ℕ) → (length file ≡ FILE → ⊥) → ReadAs (Err (record { error = NoRoom; place = 0 })) file (read_of text file)
+buffer_refused text file h =
+    refusal_as NoRoom 0 file (record { error = NoRoom; place = 0 }) (read_of text file) refl (read_lengths text file (rw (ne_eqb (length file) FILE h) (and-false (leb (length text) TEXT))))

@@ -4,8 +4,8 @@ use mathlib.Core.List.{List}
 use mathlib.Core.Option.{Option}
 use Prim.Native.Nat.{ℕ, ◌+◌, ◌-◌, ◌<◌, ◌≤◌}
 use native.Mathlib.Omega.{arith}
-use Rattle.script.specs.declared.Found.{Found}
-use Rattle.script.specs.declared.Found.TheVariants.{At, Nothing}
+use Rattle.std.specs.declared.option.Option.{Option as CodeOption}
+use Rattle.std.specs.declared.option.Option.TheVariants.{Some, None}
 use Rattle.script.specs.Lists.{sum_below}
 use Rattle.script.specs.declared.Section.{Section}
 use Rattle.script.specs.Section.{count_of}
@@ -44,17 +44,17 @@ module _ {s : List ℕ} {k : Section} {start o size : ℕ} (run : OwnRun s k sta
       fresh_new (name_of s k) (own_of s k) (count_of s (owner_of k)) o start j run.starts run.among a (rw run.sized at b))
 
   -- A loop that goes through the owners: the run has what is looked for, or the search goes on after it.
-  module _ (whole : Option ℕ) (left : whole ≡ first_out_of (fresh_in s k) start (count_of s k - start)) (found : Found) (e : found ≡ found_of (first_out_of (new_in (name_of s k) start) start (start + size - start))) where
+  module _ (whole : Option ℕ) (left : whole ≡ first_out_of (fresh_in s k) start (count_of s k - start)) (found : CodeOption ℕ) (e : found ≡ found_of (first_out_of (new_in (name_of s k) start) start (start + size - start))) where
     rest : count_of s k - start ≡ size + (count_of s k - (start + size))
     rest = omega (arith, run_within)
 
-    pub run_at : (i : ℕ) → found ≡ At i → At i ≡ found_of whole
+    pub run_at : (i : ℕ) → found ≡ Some i → Some i ≡ found_of whole
     run_at i f = rw (left, rest, out_some (fresh_in s k) start size (count_of s k - (start + size)) i (in_run ∙ at_is _ i (sym f ∙ e)))
 
-    pub run_there : (i : ℕ) → found ≡ At i → i ≤ count_of s k
+    pub run_there : (i : ℕ) → found ≡ Some i → i ≤ count_of s k
     run_there i f = omega (arith, run_within, out_below (new_in (name_of s k) start) start (start + size - start) i (at_is _ i (sym f ∙ e)))
 
-    pub run_none : found ≡ Nothing → whole ≡ first_out_of (fresh_in s k) (start + size) (count_of s k - (start + size))
+    pub run_none : found ≡ None → whole ≡ first_out_of (fresh_in s k) (start + size) (count_of s k - (start + size))
     run_none f = rw (left, rest) (out_none (fresh_in s k) start size (count_of s k - (start + size)) (in_run ∙ nothing_is _ (sym f ∙ e)))
 
 -- After the last owner's run the section ends.

@@ -16,8 +16,11 @@ use Rattle.script.specs.Lists.{run, count_in}
 use Rattle.script.specs.declared.Section.TheVariants.{Methods as methods, Nodes as nodes}
 use Rattle.script.specs.Section.{count_of, record_word, node_word}
 use Rattle.script.specs.Syntax.{Point, parts}
-use Rattle.script.specs.Reading.{Kind, null_kind, var_kind, select_kind, update_kind, call_kind, bind_kind, new_kind, cast_kind, fork_kind, lock_kind, constant_kind}
-use Rattle.script.specs.Reading.{add_kind, unknown_kind, kind_of, shape_of, node_of, view_at}
+use Rattle.script.specs.declared.Kind.{Kind}
+use Rattle.script.specs.declared.Kind.TheVariants.{Null as null_kind, Variable as var_kind, Select as select_kind, Update as update_kind, Call as call_kind}
+use Rattle.script.specs.declared.Kind.TheVariants.{Let as bind_kind, New as new_kind, Cast as cast_kind, Fork as fork_kind, Lock as lock_kind}
+use Rattle.script.specs.declared.Kind.TheVariants.{Constant as constant_kind, Sum as add_kind, Unknown as unknown_kind}
+use Rattle.script.specs.Reading.{kind_of, shape_of, shape_at, node_of, view_at}
 use Rattle.script.specs.Questions.{parts_from, uses_in}
 use Rattle.records.specs.Uses.{part_in, Counted, Adds, body_words}
 
@@ -91,14 +94,14 @@ parts_kind add_kind a b c = refl
 parts_kind unknown_kind a b c = refl
 
 pub adds_parts :
-    (s t u v w : List ℕ) (n kind a b c : ℕ) (shape : Shape)
-    → kind ≡ node_word s n 0 → a ≡ node_word s n 1 → b ≡ node_word s n 2 → c ≡ node_word s n 3 → shape ≡ shape_of (kind_of kind)
+    (s t u v w : List ℕ) (n a b c : ℕ) (shape : Shape)
+    → shape ≡ shape_at s n → a ≡ node_word s n 1 → b ≡ node_word s n 2 → c ≡ node_word s n 3
     → Adds t u (part_in shape.0 a) → Adds u v (part_in shape.1 b) → Adds v w (part_in shape.2 c)
     → Adds t w (parts (view_at s n))
 unfolding view_at
-adds_parts s t u v w n kind a b c shape p x y z e f g h =
+adds_parts s t u v w n a b c shape e x y z f g h =
     let q : part_in shape.0 a ++ (part_in shape.1 b ++ part_in shape.2 c) ≡ parts (node_of (kind_of (node_word s n 0)) (node_word s n 1) (node_word s n 2) (node_word s n 3)) =
-    rw (e, p, x, y, z) (parts_kind (kind_of (node_word s n 0)) (node_word s n 1) (node_word s n 2) (node_word s n 3)) in
+    rw (e, x, y, z) (parts_kind (kind_of (node_word s n 0)) (node_word s n 1) (node_word s n 2) (node_word s n 3)) in
     rw (← q) (adds_more t u w _ _ f (adds_more u v w _ _ g h))
 
 -- A loop over methods, and one over nodes: one more record at the end.
@@ -139,13 +142,13 @@ module _ (s a : List ℕ) where
     parts_all e f = let z : i ≡ count_of s nodes = omega arith in rw z at f
 
 -- An empty table, and what it holds in the end.
-table_empty : Counted (replicate NODES 0) []
+pub table_empty : Counted (replicate NODES 0) []
 unfolding count_in
 table_empty = record { room = length-replicate {A = ℕ} NODES 0; right = λ m i. get_or-replicate NODES m 0 0 i }
 
 pub table_full :
-    (s a b : List ℕ)
-    → Adds (replicate NODES 0) a (body_words s (count_of s methods)) → Adds a b (parts_from s 0 (count_of s nodes))
+    (s z a b : List ℕ)
+    → Counted z [] → Adds z a (body_words s (count_of s methods)) → Adds a b (parts_from s 0 (count_of s nodes))
     → Counted b (uses_in s)
 unfolding uses_in body_words
-table_full s a b f g = adds_more _ a b _ _ f g [] table_empty
+table_full s z a b e f g = adds_more _ a b _ _ f g [] e

@@ -4,5 +4,5 @@
 mod names;
 mod nodes;
 
-pub use names::names_no;
-pub use nodes::{interfaces_no, nodes_no, types_no};
+pub use names::check_names;
+pub use nodes::{check_interfaces, check_nodes, check_types};

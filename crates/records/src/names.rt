@@ -5,67 +5,56 @@ ghost use Rattle.script.specs.Section.{count_of};
 ghost use Rattle.script.specs.Asking.{first_out_of, lowest_in};
 ghost use Rattle.script.specs.Questions.{names_test};
 ghost use Rattle.script.specs.Statements.{OwnersAre};
-ghost use Rattle.sections.specs.Laid.{Laid, owner_of, own_of, name_of, new_in, fresh_in, found_of};
+ghost use Rattle.sections.specs.Laid.{owner_of, own_of, name_of, new_in, fresh_in, found_of, passed_of};
 
-use crate::nodes::{Test, first_out};
-use script::{Found, Section};
-use sections::{count_of, find_name, own_count, owner_of, record_at, record_word};
+use crate::nodes::check_each;
+use limits::Limits;
+use script::Section;
+use sections::{File, owner_of};
 
 // The first record from `start` on below `end` whose name an earlier one of them has.
-fn repeated_in(s: &[u8], k: Section, start: usize, end: usize) -> Found
-    requires { Laid s.now × (start ≤ end) × (end ≤ count_of s.now k) }
-    ensures { result ≡ found_of (first_out_of (new_in (name_of s.now k) start) start (end - start)) }
+fn repeated_in(file: &File, k: Section, start: usize, end: usize) -> Option<usize>
+    requires { (start ≤ end) × (end ≤ count_of file.now.bytes.now k) }
+    ensures { result ≡ found_of (first_out_of (new_in (name_of file.now.bytes.now k) start) start (end - start)) }
 {
-    let mut i = start;
-    while i < end {
-        let name = record_word(s, k, i, 0);
-        let earlier = find_name(s, k, start, i, name);
-        if let Found::At(_) = earlier {
-            return Found::At(i);
+    for i in start..end {
+        let name = file.record_word(k, i, 0);
+        if let Some(_) = file.find_name(k, start, i, name) {
+            return Some(i);
         }
-        i += 1;
     }
-    Found::Nothing
+    None
 }
 
-// The place of the first record of section k whose name an earlier record of its owner has. The runs stand in the order of their owners, so the first
-// owner with one has it.
-fn first_repeated(s: &[u8], k: Section) -> Found
-    requires { Laid s.now × (sum_below (own_of s.now k) (count_of s.now (owner_of k)) ≡ count_of s.now k) }
-    ensures { result ≡ found_of (lowest_in s.now ((k, fresh_in s.now k) ∷ [])) }
+// Has no record of section k the name of an earlier one of its owner? The place of the first that has. The runs stand in the order of their owners, so
+// the first owner with one has it.
+fn check_fresh(file: &File, k: Section) -> Result<(), u16>
+    requires { sum_below (own_of file.now.bytes.now k) (count_of file.now.bytes.now (owner_of k)) ≡ count_of file.now.bytes.now k }
+    ensures { result ≡ passed_of (lowest_in file.now.bytes.now ((k, fresh_in file.now.bytes.now k) ∷ [])) }
 {
-    let owner = owner_of(k);
-    let n = count_of(s, owner);
+    let n = file.count_of(owner_of(k));
     let mut start: usize = 0;
-    let mut o: usize = 0;
-    while o < n {
-        let end = start + own_count(s, k, o);
-        let found = repeated_in(s, k, start, end);
-        if let Found::At(i) = found {
-            return Found::At(record_at(s, k, i));
+    for o in 0..n {
+        let end = start + file.own_count(k, o);
+        if let Some(i) = repeated_in(file, k, start, end) {
+            return Err(file.record_at(k, i) as u16);
         }
         start = end;
-        o += 1;
     }
-    Found::Nothing
+    Ok(())
 }
 
-// 8. Are names unique in each list, each class's fields and each class's methods, and has each class at most 8 fields? The place of a no.
-pub fn names_no(s: &[u8]) -> Found
-    requires { Laid s.now × OwnersAre s.now }
-    ensures { result ≡ found_of (lowest_in s.now (names_test s.now)) }
+// 8. Are names unique in each list, each class's fields and each class's methods, and has each class at most 8 fields? Or the place of a no.
+pub fn check_names(file: &File) -> Result<(), u16>
+    requires { OwnersAre file.now.bytes.now }
+    ensures { result ≡ passed_of (lowest_in file.now.bytes.now (names_test file.now.bytes.now)) }
 {
-    let in_signatures = first_repeated(s, Section::Signatures);
-    if let Found::At(_) = in_signatures {
-        return in_signatures;
-    }
-    let in_classes = first_out(s, b"", Test::FieldCount);
-    if let Found::At(_) = in_classes {
-        return in_classes;
-    }
-    let in_fields = first_repeated(s, Section::Fields);
-    if let Found::At(_) = in_fields {
-        return in_fields;
-    }
-    first_repeated(s, Section::Methods)
+    check_fresh(file, Section::Signatures)?;
+    check_each(
+        file,
+        Section::Classes,
+        |c| file.own_count(Section::Fields, c) <= Limits::CLASS_FIELDS,
+    )?;
+    check_fresh(file, Section::Fields)?;
+    check_fresh(file, Section::Methods)
 }

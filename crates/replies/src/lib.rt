@@ -7,10 +7,9 @@ mod running;
 pub use offers::offer;
 pub use running::run;
 
-// What Run returns: the number of the question that gets a no, with every other number 0; or 0, the stop, the choices read and the moves made.
+// What a Run that is not refused returns: the number of its stop, the choices read and the moves made.
 #[derive(Clone, Copy)]
-pub struct RunResult {
-    pub number: u16,
+pub struct Played {
     pub stop: u16,
     pub read: u16,
     pub moves: u16,

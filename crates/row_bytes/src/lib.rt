@@ -1,10 +1,13 @@
-// Words put one after another.
+// Rows put one after another.
 #![tactic(auto)]
+
+mod output;
 
 ghost use Rattle.std.specs.Prelude.{◌≡◌, [], ◌∷◌, ◌+◌, ◌*◌, ◌≤◌, length};
 ghost use Rattle.token_words.specs.Row.{row_words};
 ghost use Rattle.row_bytes.specs.Written.{written, Appended};
 
+pub use output::Output;
 use slices::put_word;
 use token_words::Row;
 
@@ -17,7 +20,7 @@ fn put_pair(file: &mut [u8], at: usize, a: u16, b: u16)
 }
 
 // Puts a row at byte `at`, and answers where it ends.
-pub fn put_row(file: &mut [u8], at: usize, row: Row) -> usize
+fn put_row(file: &mut [u8], at: usize, row: Row) -> usize
     requires { at + 2 * length (row_words row) ≤ length file.old }
     ensures { Appended file.old at file.new result (row_words row) }
 {

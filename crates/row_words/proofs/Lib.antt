@@ -1,2 +1,1 @@
-pub mod AmountLaws
 pub mod NodeLaws

@@ -1,11 +1,11 @@
 -- The rows of nodes, by the role of their first token.
-use mathlib.Core.Path.{◌≡◌, refl}
+use mathlib.Core.Path.{◌≡◌}
 use mathlib.Core.List.{List}
-use Prim.Native.Nat.{ℕ, zero, suc, ◌+◌, ◌-◌, ◌/◌, ◌%◌, ◌<◌, ◌≤◌}
+use Prim.Native.Nat.{ℕ, zero, suc, ◌+◌, ◌/◌, ◌%◌, ◌^◌, ◌<◌, ◌≤◌}
 use native.Mathlib.Omega.{arith}
 use borrow.Author.Tests.{ne_eqb}
 use Rattle.words.specs.Word.{WORD}
-use Rattle.words.specs.Integer.{LAST, bits_of, low_word, high_word}
+use Rattle.words.specs.Integer.{bits_of, low_word, high_word}
 use Rattle.grammar.specs.Files.{four_words, negated}
 use Rattle.rows.specs.Rows.{Item, row_item, type_word, variable_word, hop, node_row}
 
@@ -90,6 +90,6 @@ module _ (types n : ℕ) (sizes : List ℕ) (es : List Item) where
       )
 
 -- a number with a minus
-pub negated_bits : (a : ℕ) → (a ≡ 0 → ⊥) → LAST - (a - 1) ≡ bits_of (negated a)
-negated_bits zero h = absurd (h refl)
-negated_bits (suc a) h = omega arith
+pub negated_bits : (a r : ℕ) → r < 2 ^ 32 → a < 2 ^ 32 → (r + a) % 2 ^ 32 ≡ 0 → r ≡ bits_of (negated a)
+negated_bits zero r l h e = omega arith
+negated_bits (suc a) r l h e = omega arith

@@ -5,14 +5,18 @@ use mathlib.Core.List.{List}
 use lib.ListN.{length}
 use borrow.Author.Tests.{eq-eqb, ne_eqb, le-leb, lt-leb}
 use Rattle.limits.specs.Limits.{BLOCK, CHOICES}
-use Rattle.typing.specs.declared.Verdict.{Verdict}
-use Rattle.typing.specs.declared.Verdict.TheVariants.{Accepted, Refused}
-use Rattle.typing.specs.Check.{check_of, verdict_number, verdict_place}
+use Rattle.std.specs.declared.result.Result.TheVariants.{Ok, Err}
+use Rattle.typing.specs.Answers.{Verdict}
+use Rattle.typing.specs.Check.{check_of}
+use Rattle.script.specs.declared.Refusal.{Refusal}
+use Rattle.script.specs.Asking.{number_of}
 use Rattle.calls.specs.declared.LentQuestion.TheVariants.{BlockLength, BufferLength}
 use Rattle.calls.specs.Calls.{lent_number, parts_asked, block_asked, ran_from, run_of}
 use Rattle.c_replies.specs.declared.run.RunReply.{RunReply}
-use Rattle.replies.specs.declared.RunResult.{RunResult}
-use Rattle.replies.specs.RunResults.{Replied}
+use Rattle.calls.specs.declared.LentQuestion.{LentQuestion}
+use Rattle.std.specs.declared.result.Result.{Result}
+use Rattle.replies.specs.declared.Played.{Played}
+use Rattle.replies.specs.RunResults.{Replied, refusal_number, numbers_of}
 use Rattle.replies.proofs.Standing.{parts_place}
 
 module _ (s b ns : List ℕ) where
@@ -20,33 +24,32 @@ module _ (s b ns : List ℕ) where
   RunSays r after =
       (r.number ≡ (run_of s b ns).number) × ((r.place ≡ (run_of s b ns).place) × ((r.stop ≡ (run_of s b ns).stop) × ((r.read ≡ (run_of s b ns).read) × ((r.moves ≡ (run_of s b ns).moves) × (after ≡ (run_of s b ns).block)))))
 
-  abbrev Refusal : ℕ → ℕ → RunReply
-  Refusal number place = record { number = number; place = place; stop = 0; read = 0; moves = 0 }
+  -- a refusal of these numbers
+  abbrev Refused : ℕ → ℕ → RunReply
+  Refused number place = record { number = number; place = place; stop = 0; read = 0; moves = 0 }
 
-  pub run_script_refused : (r : RunReply) (number place : ℕ) → r ≡ Refusal number place → number ≡ verdict_number (check_of s) → place ≡ verdict_place (check_of s) → (number ≡ 0 → ⊥) → RunSays r b
+  pub run_script_refused : (r : RunReply) {no : Refusal} → r ≡ Refused (number_of no.question) no.place → ◌≡◌ {A = Verdict} (Err no) (check_of s) → RunSays r b
   unfolding run_of block_asked
-  run_script_refused r number place e n p ne = rw e (go (check_of s) refl n p)
-    where
-      go : (v : Verdict) → check_of s ≡ v → number ≡ verdict_number v → place ≡ verdict_place v → RunSays (Refusal number place) b
-      go (Accepted t) q n p = absurd (ne n)
-      go (Refused k at) q n p = rw (q, n, p) (refl, (refl, (refl, (refl, (refl, refl)))))
+  run_script_refused r e v = rw (e, ← v) (refl, (refl, (refl, (refl, (refl, refl)))))
 
-  module _ (t : ℕ) (acc : check_of s ≡ Accepted t) where
-    pub run_block_refused : (r : RunReply) (number : ℕ) → r ≡ Refusal number 0 → (length b ≡ BLOCK → ⊥) → number ≡ lent_number BlockLength → RunSays r b
+  module _ (t : ℕ) (acc : check_of s ≡ Ok t) where
+    pub run_block_refused : (r : RunReply) → r ≡ Refused (lent_number BlockLength) 0 → (length b ≡ BLOCK → ⊥) → RunSays r b
     unfolding run_of block_asked
-    run_block_refused r number e ne n = rw (e, acc, ne_eqb _ _ ne, n) (refl, (refl, (refl, (refl, (refl, refl)))))
+    run_block_refused r e ne = rw (e, acc, ne_eqb _ _ ne) (refl, (refl, (refl, (refl, (refl, refl)))))
 
     module _ (long : length b ≡ BLOCK) where
-      pub run_choices_refused : (r : RunReply) (number : ℕ) → r ≡ Refusal number 0 → CHOICES < length ns → number ≡ lent_number BufferLength → RunSays r b
+      pub run_choices_refused : (r : RunReply) → r ≡ Refused (lent_number BufferLength) 0 → CHOICES < length ns → RunSays r b
       unfolding run_of block_asked
-      run_choices_refused r number e l n = rw (e, acc, eq-eqb _ _ long, lt-leb _ _ l, n) (refl, (refl, (refl, (refl, (refl, refl)))))
+      run_choices_refused r e l = rw (e, acc, eq-eqb _ _ long, lt-leb _ _ l) (refl, (refl, (refl, (refl, (refl, refl)))))
 
       asked : length ns ≤ CHOICES → run_of s b ns ≡ ran_from s b ns (parts_asked s t b)
       unfolding run_of block_asked
       asked few = rw (acc, eq-eqb _ _ long, le-leb _ _ few)
 
       -- a part is bad, at place 0, or all are sound
-      pub run_part : {after : List ℕ} (r : RunReply) (p : RunResult) → r ≡ record { number = p.number; place = 0; stop = p.stop; read = p.read; moves = p.moves }
-          → length ns ≤ CHOICES → Replied (ran_from s b ns (parts_asked s t b)) after p → RunSays r after
-      run_part r p e few h =
+      pub run_part : {after : List ℕ} (r : RunReply) (p : Result Played LentQuestion)
+          → r ≡ record { number = refusal_number p; place = 0; stop = (numbers_of p).stop; read = (numbers_of p).read; moves = (numbers_of p).moves }
+          → length ns ≤ CHOICES → {array : List ℕ} → array ≡ b → Replied (ran_from s array ns (parts_asked s t array)) after p → RunSays r after
+      run_part r p e few same told =
+          let h = rw same at told in
           rw (e, asked few) (h.number, (parts_place s t b (λ q. (ran_from s b ns q).place) (λ m. refl) (λ c. refl), (h.stop, (h.read, (h.moves, h.block)))))

@@ -4,9 +4,8 @@
 ghost use Rattle.std.specs.Prelude.{◌≡◌};
 ghost use Rattle.calls.specs.Calls.{run_of};
 
-use c_replies::{RunReply, run_refusal, run_reply};
+use c_replies::RunReply;
 use calls::LentQuestion;
-use check_call::check_script;
 use limits::Limits;
 use names::FACTS;
 use subtypes::STARTS;
@@ -24,16 +23,18 @@ pub fn run(script: &[u8], block: &mut [u8], choices: &[u8]) -> RunReply
 {
     let mut starts = [0u16; STARTS];
     let mut facts = [0u16; FACTS];
-    let checked = check_script(script, &mut starts, &mut facts);
-    if checked.number != 0 {
-        return run_refusal(checked.number, checked.place);
-    }
-    if block.len() != Limits::BLOCK {
-        return run_refusal(numbers::lent_number(LentQuestion::BlockLength), 0);
-    }
+    let t = match checker::verdict_of(script, &mut starts, &mut facts) {
+        Ok(t) => t,
+        Err(refusal) => return RunReply::from(refusal),
+    };
+    let Some(block) = block.as_mut_array::<{ Limits::BLOCK }>() else {
+        return RunReply::from(LentQuestion::BlockLength);
+    };
     if Limits::CHOICES < choices.len() {
-        return run_refusal(numbers::lent_number(LentQuestion::BufferLength), 0);
+        return RunReply::from(LentQuestion::BufferLength);
     }
-    let played = replies::run(script, &starts, &facts, checked.start_type, block, choices);
-    run_reply(played.number, played.stop, played.read, played.moves)
+    match replies::run(script, &starts, &facts, t, block, choices) {
+        Ok(played) => RunReply::accepted(played.stop, played.read, played.moves),
+        Err(question) => RunReply::from(question),
+    }
 }

@@ -21,10 +21,9 @@ use Rattle.soundness.proofs.Run.{moved_choice}
 use Rattle.state.specs.Represents.{Represents}
 use Rattle.moves.specs.declared.Effect.{Effect}
 use Rattle.moves.specs.declared.Effect.TheVariants.{Still, Moved, Full}
-use Rattle.enabled.specs.declared.Looked.{Looked}
-use Rattle.enabled.specs.declared.Looked.TheVariants.{GoesOn as SeenOn, Ends}
-use Rattle.runs.specs.declared.Next.{Next}
-use Rattle.runs.specs.declared.Next.TheVariants.{GoesOn, Stops}
+use Rattle.std.specs.declared.option.Option.{Option as CodeOption}
+use Rattle.std.specs.declared.option.Option.TheVariants.{Some, None}
+use Rattle.std.specs.Option.{MatchOption, IsSomeAnd}
 use Rattle.runs.specs.declared.Taken.{Taken}
 use Rattle.choices.specs.PerformsChoice.{PerformsChoice, choice_still, choice_full, choice_moved}
 use Rattle.enabled.specs.Looks.{Standing, look_of}
@@ -42,25 +41,25 @@ store_in d Moved = d
 store_in d (Full k) = k
 
 -- what a look told
-pub look_on : (q : Option Ending) (l : Looked) → l ≡ look_of q → l ≡ SeenOn → q ≡ none
+pub look_on : (q : Option Ending) (l : CodeOption Ending) → l ≡ look_of q → l ≡ None → q ≡ none
 look_on none l e h = refl
 look_on (some k) l e h = absurd (let z : ◌≡◌ {A = ℕ} 0 1 = ap told (sym h ∙ e) in omega arith)
   where
-    told : Looked → ℕ
-    told SeenOn = 0
-    told (Ends k) = 1
+    told : CodeOption Ending → ℕ
+    told None = 0
+    told (Some k) = 1
 
-pub look_ends : (q : Option Ending) (l : Looked) (k : Ending) → l ≡ look_of q → l ≡ Ends k → q ≡ some k
+pub look_ends : (q : Option Ending) (l : CodeOption Ending) (k : Ending) → l ≡ look_of q → l ≡ Some k → q ≡ some k
 look_ends none l k e h = absurd (let z : ◌≡◌ {A = ℕ} 0 1 = ap told (sym e ∙ h) in omega arith)
   where
-    told : Looked → ℕ
-    told SeenOn = 0
-    told (Ends k) = 1
+    told : CodeOption Ending → ℕ
+    told None = 0
+    told (Some k) = 1
 look_ends (some j) l k e h = let z : j ≡ k = ap (ending_in j) (sym e ∙ h) in ap some z
   where
-    ending_in : Ending → Looked → Ending
-    ending_in d SeenOn = d
-    ending_in d (Ends k) = k
+    ending_in : Ending → CodeOption Ending → Ending
+    ending_in d None = d
+    ending_in d (Some k) = k
 
 same_counts : (j : Stop) (c : Config) (a b x y : ℕ) → a ≡ x → b ≡ y → ◌≡◌ {A = Report} (record { stop = j; read = a; moves = b; config = c }) (record { stop = j; read = x; moves = y; config = c })
 same_counts j c a b x y h k = rw (h, k)
@@ -93,22 +92,26 @@ pub did_as : {s b after : List ℕ} {effect : Effect} (x : Standing s b) (n : �
     → (o : Outcome) → choice (code_of s) limits x.config n ≡ o → PerformsChoice b o after effect
 did_as x n did o e = rw (← e) (did x.config (Upto x.type) x.represents x.formed.formed)
 
+-- the stop by the ending that a look told
+abbrev pub EndedBy : CodeOption Ending → CodeOption Stop → Type 0
+EndedBy how next = MatchOption how (next ≡ None) (λ k. IsSomeAnd next (λ j. j ≡ Ended k))
+
 -- what a choice did, by the effect that the code sees
 module _ {s b after : List ℕ} {effect : Effect} (x : Standing s b) (n : ℕ) (did : (o : Outcome) → choice (code_of s) limits x.config n ≡ o → PerformsChoice b o after effect) where
-  pub took_still : look (code_of s) limits x.config ≡ none → effect ≡ Still → TakenAs s after x.type x.config n (record { made = 0; next = GoesOn })
+  pub took_still : look (code_of s) limits x.config ≡ none → effect ≡ Still → TakenAs s after x.type x.config n (record { made = 0; next = None })
   unfolding effect_number
   took_still on e = go (choice (code_of s) limits x.config n) refl (did _ refl) e
     where
-      go : {now : List ℕ} {r : Effect} (o : Outcome) → choice (code_of s) limits x.config n ≡ o → PerformsChoice b o now r → r ≡ Still → TakenAs s now x.type x.config n (record { made = 0; next = GoesOn })
+      go : {now : List ℕ} {r : Effect} (o : Outcome) → choice (code_of s) limits x.config n ≡ o → PerformsChoice b o now r → r ≡ Still → TakenAs s now x.type x.config n (record { made = 0; next = None })
       go still q choice_still h = taken_on x.represents x.formed on (one_still (code_of s) x.config n on q)
       go (full k) q choice_full h = let z : ◌≡◌ {A = ℕ} 2 0 = ap effect_number h in absurd (omega arith)
       go (moved st t) q (choice_moved i) h = let z : ◌≡◌ {A = ℕ} 1 0 = ap effect_number h in absurd (omega arith)
 
-  pub took_full : (k : Store) → look (code_of s) limits x.config ≡ none → effect ≡ Full k → TakenAs s after x.type x.config n (record { made = 0; next = Stops (StopFull k) })
+  pub took_full : (k : Store) → look (code_of s) limits x.config ≡ none → effect ≡ Full k → TakenAs s after x.type x.config n (record { made = 0; next = Some (StopFull k) })
   unfolding effect_number store_in
   took_full k on e = go (choice (code_of s) limits x.config n) refl (did _ refl) e
     where
-      go : {now : List ℕ} {r : Effect} (o : Outcome) → choice (code_of s) limits x.config n ≡ o → PerformsChoice b o now r → r ≡ Full k → TakenAs s now x.type x.config n (record { made = 0; next = Stops (StopFull k) })
+      go : {now : List ℕ} {r : Effect} (o : Outcome) → choice (code_of s) limits x.config n ≡ o → PerformsChoice b o now r → r ≡ Full k → TakenAs s now x.type x.config n (record { made = 0; next = Some (StopFull k) })
       go still q choice_still h = let z : ◌≡◌ {A = ℕ} 0 2 = ap effect_number h in absurd (omega arith)
       go (full j) q choice_full h = let z : j ≡ k = ap (store_in j) h in taken_stops x.represents (rw z at (one_full (code_of s) x.config n on q))
       go (moved st t) q (choice_moved i) h = let z : ◌≡◌ {A = ℕ} 1 2 = ap effect_number h in absurd (omega arith)
@@ -140,16 +143,16 @@ module _ {s b after : List ℕ} {effect : Effect} (x : Standing s b) (n : ℕ) (
         formed = moved_choice x.accepted limits n x.formed m.moves;
       }
 
-  pub took_move : look (code_of s) limits x.config ≡ none → (e : effect ≡ Moved) (how : Looked) → how ≡ look_of (look (code_of s) limits (moved_standing e).config) → how ≡ SeenOn
-      → TakenAs s after x.type x.config n (record { made = 1; next = GoesOn })
+  took_move : look (code_of s) limits x.config ≡ none → (e : effect ≡ Moved) (how : CodeOption Ending) → how ≡ look_of (look (code_of s) limits (moved_standing e).config) → how ≡ None
+      → TakenAs s after x.type x.config n (record { made = 1; next = None })
   unfolding moved_standing
   took_move on e how l k =
       let m = after_move e in
       let y = moved_standing e in
       taken_on m.represents y.formed (look_on (look (code_of s) limits y.config) how l k) (one_moved (code_of s) x.config n on m.moves)
 
-  pub took_last : look (code_of s) limits x.config ≡ none → (e : effect ≡ Moved) (how : Looked) (j : Ending) → how ≡ look_of (look (code_of s) limits (moved_standing e).config) → how ≡ Ends j
-      → TakenAs s after x.type x.config n (record { made = 1; next = Stops (Ended j) })
+  took_last : look (code_of s) limits x.config ≡ none → (e : effect ≡ Moved) (how : CodeOption Ending) (j : Ending) → how ≡ look_of (look (code_of s) limits (moved_standing e).config) → how ≡ Some j
+      → TakenAs s after x.type x.config n (record { made = 1; next = Some (Ended j) })
   unfolding moved_standing
   took_last on e how j l k =
       let m = after_move e in
@@ -158,17 +161,24 @@ module _ {s b after : List ℕ} {effect : Effect} (x : Standing s b) (n : ℕ) (
       taken_stops m.represents
       (λ ns. one_moved (code_of s) x.config n on m.moves ns ∙ ap (added 1 1) (ended_report (code_of s) y.config j ns q) ∙ same_counts _ _ (1 + 0) (1 + 0) 1 1 refl refl)
 
+  -- the stop that the look after a move calls for
+  pub took_moved : look (code_of s) limits x.config ≡ none → (e : effect ≡ Moved) (how : CodeOption Ending) (next : CodeOption Stop) → how ≡ look_of (look (code_of s) limits (moved_standing e).config)
+      → EndedBy how next → TakenAs s after x.type x.config n (record { made = 1; next = next })
+  took_moved on e None next l h = rw h (took_move on e None l refl)
+  took_moved on e (Some k) None l h = absurd h
+  took_moved on e (Some k) (Some j) l h = rw h (took_last on e (Some k) k l refl)
+
 spent_report : (s : Code) (c : Config) → look s limits c ≡ none → report s limits c [] ≡ stopped Spent c
 unfolding report
 spent_report s c e = rw e
 
-next_number : Next → ℕ
-next_number GoesOn = 0
-next_number (Stops k) = 1
+next_number : CodeOption Stop → ℕ
+next_number None = 0
+next_number (Some k) = 1
 
-stop_in : Stop → Next → Stop
-stop_in d GoesOn = d
-stop_in d (Stops k) = k
+stop_in : Stop → CodeOption Stop → Stop
+stop_in d None = d
+stop_in d (Some k) = k
 
 -- A run that has read so many choices and made so many moves, and goes on.
 pub record Going (s b : List ℕ) (t : ℕ) (c : Config) (ns : List ℕ) (read moves : ℕ) : Type 0 where
@@ -187,7 +197,7 @@ pub record Loop (s b₀ ns b : List ℕ) (read moves : ℕ) : Type 0 where
 -- one choice more: the run stops with it, or goes on
 module _ {s after : List ℕ} {t : ℕ} (c d : Config) (ns : List ℕ) (read moves : ℕ)
     (so_far : report (code_of s) limits c ns ≡ added read moves (report (code_of s) limits d (get_or ns read 0 ∷ drop (suc read) ns))) where
-  stops : {taken : Taken} {stop : Stop} → TakenAs s after t d (get_or ns read 0) taken → taken.next ≡ Stops stop
+  stops : {taken : Taken} {stop : Stop} → TakenAs s after t d (get_or ns read 0) taken → taken.next ≡ Some stop
       → RanAs (report (code_of s) limits c ns) after (record { stop = stop; read = read + 1; moves = moves + taken.made })
   unfolding next_number stop_in
   stops (taken_on represents formed on rep) e = let z : ◌≡◌ {A = ℕ} 0 1 = ap next_number e in absurd (omega arith)
@@ -195,7 +205,7 @@ module _ {s after : List ℕ} {t : ℕ} (c d : Config) (ns : List ℕ) (read mov
       rw (so_far ∙ ap (added read moves) (rep (drop (suc read) ns)))
       (record { stop = sym (ap (stop_in j) e); read = refl; moves = refl; represents = represents })
 
-  goes : {taken : Taken} → TakenAs s after t d (get_or ns read 0) taken → taken.next ≡ GoesOn → Going s after t c ns (read + 1) (moves + taken.made)
+  goes : {taken : Taken} → TakenAs s after t d (get_or ns read 0) taken → taken.next ≡ None → Going s after t c ns (read + 1) (moves + taken.made)
   unfolding next_number
   goes (taken_on {made = made} {d = f} represents formed on rep) e =
       let n : read + 1 ≡ suc read = omega arith in
@@ -232,12 +242,12 @@ module _ {s b₀ ns : List ℕ} where
       split : (x : Standing s b₀) → report (code_of s) limits x.config ns ≡ added read moves (report (code_of s) limits (h.going x).config (get_or ns read 0 ∷ drop (suc read) ns))
       split x = (h.going x).rest ∙ ap (λ (l : List ℕ). added read moves (report (code_of s) limits (h.going x).config l)) (drop-cons ns read 0 more)
 
-      pub loop_stops : (stop : Stop) → taken.next ≡ Stops stop → (x : Standing s b₀)
+      pub loop_stops : (stop : Stop) → taken.next ≡ Some stop → (x : Standing s b₀)
           → RanAs (report (code_of s) limits x.config ns) after (record { stop = stop; read = read + 1; moves = moves + taken.made })
       unfolding loop_standing
       loop_stops stop e x = stops x.config (h.going x).config ns read moves (split x) (did_read (loop_standing x) (h.going x).on) e
 
-      pub loop_more : taken.next ≡ GoesOn → Loop s b₀ ns after (read + 1) (moves + taken.made)
+      pub loop_more : taken.next ≡ None → Loop s b₀ ns after (read + 1) (moves + taken.made)
       unfolding loop_standing
       loop_more e = record { going = λ x. goes x.config (h.going x).config ns read moves (split x) (did_read (loop_standing x) (h.going x).on) e; few = omega arith; fewer = omega (arith, h.fewer) }
 
@@ -249,7 +259,7 @@ module _ {s b₀ ns : List ℕ} where
         rw r (record { stop = refl; read = omega arith; moves = omega arith; represents = g.represents })
 
 -- a run that has ended before it reads a choice
-pub ended_first : {s b : List ℕ} (x : Standing s b) (ns : List ℕ) (how : Looked) (k : Ending) → how ≡ look_of (look (code_of s) limits x.config) → how ≡ Ends k
+pub ended_first : {s b : List ℕ} (x : Standing s b) (ns : List ℕ) (how : CodeOption Ending) (k : Ending) → how ≡ look_of (look (code_of s) limits x.config) → how ≡ Some k
     → RanAs (report (code_of s) limits x.config ns) b (record { stop = Ended k; read = 0; moves = 0 })
 ended_first {s} x ns how k e h =
     rw (ended_report (code_of s) x.config k ns (look_ends (look (code_of s) limits x.config) how k e h)) (record { stop = refl; read = refl; moves = refl; represents = x.represents })

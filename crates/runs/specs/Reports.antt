@@ -7,7 +7,7 @@ use Rattle.machine.specs.Machine.{limits}
 use Rattle.machine.specs.WellFormed.{WellFormed}
 use Rattle.machine.specs.Runs.{look, Report, report}
 use Rattle.state.specs.Represents.{Represents}
-use Rattle.runs.specs.declared.Next.TheVariants.{GoesOn, Stops}
+use Rattle.std.specs.declared.option.Option.TheVariants.{Some, None}
 use Rattle.runs.specs.declared.Taken.{Taken}
 use Rattle.runs.specs.declared.Ran.{Ran}
 
@@ -19,10 +19,10 @@ added read moves r = record { stop = r.stop; read = read + r.read; moves = moves
 pub data TakenAs (s b : List ℕ) (t : ℕ) (c : Config) (n : ℕ) : Taken → Type 0 where
   taken_on : {made : ℕ} {d : Config} → Represents b d → WellFormed (code_of s) limits t d → look (code_of s) limits d ≡ none
       → ((ns : List ℕ) → report (code_of s) limits c (n ∷ ns) ≡ added 1 made (report (code_of s) limits d ns))
-      → TakenAs s b t c n (record { made = made; next = GoesOn })
+      → TakenAs s b t c n (record { made = made; next = None })
   taken_stops : {made : ℕ} {stop : Stop} {d : Config} → Represents b d
       → ((ns : List ℕ) → report (code_of s) limits c (n ∷ ns) ≡ record { stop = stop; read = 1; moves = made; config = d })
-      → TakenAs s b t c n (record { made = made; next = Stops stop })
+      → TakenAs s b t c n (record { made = made; next = Some stop })
 
 -- The answer is the report's, and the block is the configuration that the run leaves.
 pub record RanAs (rep : Report) (b : List ℕ) (r : Ran) : Type 0 where

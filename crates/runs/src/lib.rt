@@ -6,18 +6,11 @@ mod runs;
 use machine::Stop;
 pub use runs::run_choices;
 
-// What comes after a choice: the next one, or the stop.
-#[derive(Clone, Copy)]
-pub enum Next {
-    GoesOn,
-    Stops(Stop),
-}
-
 // What a choice did: how many moves it made, and what comes after it.
 #[derive(Clone, Copy)]
 pub struct Taken {
     pub made: usize,
-    pub next: Next,
+    pub next: Option<Stop>,
 }
 
 // What Run returns.

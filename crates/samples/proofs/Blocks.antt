@@ -18,7 +18,7 @@ use Rattle.script.specs.Reading.{kind_of, view_at, last_exprs, expr_at, own_sign
 use Rattle.script.specs.Asking.{Decides, first_no, first_out_of, lowest_in}
 use Rattle.script.specs.Questions.{length_test, within_test, counts_test, placed_from, places_test, interface_test, interfaces_test, owners_test, type_test, interface_type_test, class_type_test, types_test, all_of, parts_from, uses_in, node_test, nodes_test, run_start, has_name, fresh_test, names_test, layout_questions}
 use Rattle.script.proofs.Tests.{says_yes, decides_and, decides_eq, decides_le, decides_lt, decides_all}
-use Rattle.typing.specs.declared.Verdict.TheVariants.{Accepted}
+use Rattle.std.specs.declared.result.Result.TheVariants.{Ok}
 use Rattle.typing.specs.Members.{values_to, value_at, reach, below, meaning, own_method, method_in, type_in, field_in}
 use Rattle.typing.specs.Typing.{without, fv, is_in, shares, answer, bodies_from, bodies_of, walk}
 use Rattle.typing.specs.Check.{names_in, joins_test, classes_test, member_questions, check_of}
@@ -49,7 +49,7 @@ use Rattle.calls.proofs.Answers.{accepts}
 use Rattle.samples.proofs.Tables.{in_map}
 
 -- the script is bytes and accepted, with type I
-block_script_lem : check_of block_script ≡ Accepted 2
+block_script_lem : check_of block_script ≡ Ok 2
 unfolding word_at bytes run sum_below named count_in sections body_at count_of end_of record_at record_word declaration_at kind_of view_at last_exprs expr_at own_signatures own_fields own_methods signature_at interface_at field_at method_at class_at program_of first_no first_out_of lowest_in length_test within_test counts_test placed_from places_test interface_test interfaces_test owners_test type_test interface_type_test class_type_test types_test all_of parts_from uses_in node_test nodes_test run_start has_name fresh_test names_test layout_questions values_to value_at reach below meaning own_method method_in type_in field_in without fv is_in shares answer bodies_from bodies_of walk names_in joins_test classes_test member_questions check_of block_script
 block_script_lem = refl
 

@@ -16,8 +16,8 @@ use Rattle.script.specs.Reading.{kind_of, view_at, last_exprs, expr_at, own_sign
 use Rattle.script.specs.Asking.{first_no, first_out_of, lowest_in}
 use Rattle.script.specs.Questions.{length_test, within_test, counts_test, placed_from, places_test, interface_test, interfaces_test, owners_test, type_test, interface_type_test, class_type_test, types_test, all_of, parts_from, uses_in, node_test, nodes_test, run_start, has_name, fresh_test, names_test, layout_questions}
 use Rattle.script.proofs.Tests.{says_yes, decides_and, decides_eq, decides_le, decides_lt, decides_all}
-use Rattle.typing.specs.declared.Verdict.{Verdict}
-use Rattle.typing.specs.declared.Verdict.TheVariants.{Accepted, Refused}
+use Rattle.std.specs.declared.result.Result.TheVariants.{Ok, Err}
+use Rattle.typing.specs.Answers.{Verdict}
 use Rattle.typing.specs.Members.{values_to, value_at, reach, below, meaning, own_method, method_in, type_in, field_in}
 use Rattle.typing.specs.Typing.{without, fv, is_in, shares, answer, bodies_from, bodies_of, walk}
 use Rattle.typing.specs.Check.{names_in, joins_test, classes_test, member_questions, check_of, verdict_number}
@@ -69,13 +69,13 @@ in_trials : {B : Type 0} (f g : Sample → Trial → B) → map (λ x. map (f x)
 in_trials f g e x m y k = in_map (f x) (g x) x.trials y (in_map (λ z. map (f z) z.trials) (λ z. map (g z) z.trials) samples x e m) k
 
 -- a reply with number 0 is that of an accepted script
-number_none : (s : List ℕ) → (checked_of s).number ≡ 0 → (t : ℕ) × (check_of s ≡ Accepted t)
+number_none : (s : List ℕ) → (checked_of s).number ≡ 0 → (t : ℕ) × (check_of s ≡ Ok t)
 unfolding checked_of
 number_none s e = go (check_of s) refl e
   where
-    go : (v : Verdict) → check_of s ≡ v → verdict_number v ≡ 0 → (t : ℕ) × (check_of s ≡ Accepted t)
-    go (Accepted t) i e = (t, i)
-    go (Refused q place) i e = absurd (number_some q e)
+    go : (v : Verdict) → check_of s ≡ v → verdict_number v ≡ 0 → (t : ℕ) × (check_of s ≡ Ok t)
+    go (Ok t) i e = (t, i)
+    go (Err r) i e = absurd (number_some r.question e)
 
 ready_says : (x : Sample) (y : Trial) → ready x y ≡ true → (x.checked.number ≡ 0) × (((n : ℕ) → n ∈ x.script → n < 256) × (length y.choices ≤ CHOICES))
 ready_says x y =
@@ -88,7 +88,7 @@ abbrev reply_of : Trial → Ran
 reply_of x = record { number = 0; place = 0; stop = x.stop; read = x.read; moves = x.moves; block = encode x.config }
 
 -- from the machine's run to the calls
-tried : (s : List ℕ) (t : ℕ) (y : Trial) → check_of s ≡ Accepted t → ((n : ℕ) → n ∈ s → n < 256) → length y.choices ≤ CHOICES → trial_of s y ≡ stated y
+tried : (s : List ℕ) (t : ℕ) (y : Trial) → check_of s ≡ Ok t → ((n : ℕ) → n ∈ s → n < 256) → length y.choices ≤ CHOICES → trial_of s y ≡ stated y
     → (b : List ℕ) → length b ≡ BLOCK → Tried s b y
 unfolding start_of start_asked
 tried s t y acc small few e b l =

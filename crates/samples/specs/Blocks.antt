@@ -6,7 +6,7 @@ use Rattle.words.specs.Word.{bytes}
 use Rattle.limits.specs.Limits.{BLOCK, CHOICES, FLAGS}
 use Rattle.script.specs.Asking.{Decides}
 use Rattle.script.specs.Lists.{◌∈◌}
-use Rattle.typing.specs.declared.Verdict.TheVariants.{Accepted}
+use Rattle.std.specs.declared.result.Result.TheVariants.{Ok}
 use Rattle.typing.specs.Check.{check_of}
 use Rattle.machine.specs.declared.Value.TheVariants.{Null as nil, Ref as ref, Int as int}
 use Rattle.machine.specs.declared.Frame.TheVariants.{Awaits as awaits, Casts as casts, Locks as locks}
@@ -180,6 +180,6 @@ block_cases =
 -- What is said of the table: Check accepts the script, with the type that `Judged` has; each case is judged as it says; and no choices lead from the initial
 -- configuration to `not_reached`.
 pub record BlocksJudged : Type 0 where
-  pub accepted : check_of block_script ≡ Accepted 2
+  pub accepted : check_of block_script ≡ Ok 2
   pub judged : (x : BlockCase) → x ∈ block_cases → Judged x
   pub unreached : (ns : List ℕ) → (report (code_of block_script) limits initial ns).config ≡ not_reached → ⊥

@@ -3,7 +3,7 @@ use Rattle.std.specs.Prelude.{ℕ, zero, suc, ◌+◌, ◌*◌, ◌/◌, ◌≡�
 use Rattle.words.specs.Word.{bytes}
 use Rattle.limits.specs.Limits.{BLOCK, FLAGS}
 use Rattle.script.specs.Lists.{◌∈◌}
-use Rattle.typing.specs.declared.Verdict.TheVariants.{Accepted}
+use Rattle.std.specs.declared.result.Result.TheVariants.{Ok}
 use Rattle.typing.specs.Check.{check_of}
 use Rattle.machine.specs.declared.Value.{Value}
 use Rattle.machine.specs.declared.Value.TheVariants.{Null as nil, Ref as ref, Int as int}
@@ -45,7 +45,7 @@ pub record Sample : Type 0 where
 pub record Tried (s b : List ℕ) (x : Trial) : Type 0 where
   pub started : start_of s b ≡ record { number = 0; place = 0; block = encode initial }
   pub type : ℕ
-  pub accepted : check_of s ≡ Accepted type
+  pub accepted : check_of s ≡ Ok type
   pub well : WellFormed (code_of s) limits type x.config
   pub ran : run_of s (start_of s b).block x.choices
       ≡ record { number = 0; place = 0; stop = x.stop; read = x.read; moves = x.moves; block = encode x.config }

@@ -19,7 +19,8 @@ use Rattle.script.specs.Lists.{sum_below, count_in}
 use Rattle.script.specs.Section.{Section, interfaces, signatures, classes, fields, methods, nodes, sections, most_of, size_of, body_at, count_of, end_of, record_word}
 use Rattle.script.specs.Syntax.{Point}
 use Rattle.script.specs.Reading.{own_signatures, own_fields, own_methods}
-use Rattle.script.specs.Asking.{Refusal, first_no, lowest_in, Decides, holds, fails, Each, LowestNo, Lowest}
+use Rattle.script.specs.declared.Refusal.{Refusal}
+use Rattle.script.specs.Asking.{first_no, lowest_in, Decides, holds, fails, Each, LowestNo, Lowest}
 use Rattle.script.specs.Questions.{length_test, within_test, counts_test, placed_from, places_test, earlier_test, interface_test, interfaces_test, owners_test, type_test, interface_type_test, class_type_test, type_word_test, words_test, two_types_test, types_test, part_test, word_test, uses_in, due_uses, node_test, nodes_test, run_start, has_name, fresh_test, names_test, layout_questions}
 use Rattle.script.specs.Statements.{LengthIs, CountsAre, Placed, PlacesAre, Earlier, InterfaceIs, a_list, a_join, InterfacesAre, OwnersAre, TypeWord, InterfaceWord, ClassWord, TypeWordIs, Words, TypesAre, Part, WordIs, NodeIs, NodesAre, Fresh, NamesAre, WithinLayout}
 use Rattle.script.proofs.Lists.{AtIndex, sum_more, owner_of_lem}

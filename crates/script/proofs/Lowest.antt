@@ -10,7 +10,8 @@ use native.Mathlib.Nat.{eq-or-lt_of_le, mul-le-mul_left}
 use Rattle.limits.specs.Limits.{CONTENTS}
 use Rattle.script.specs.declared.Question.{Question}
 use Rattle.script.specs.Section.{Section, sections, size_of, count_of, end_of, record_at}
-use Rattle.script.specs.Asking.{Asked, Refusal, first_no, at_zero, first_out_of, place_or, lowest_in, Decides, holds, fails, Asks, Each, FaultAt, LowestNo, Lowest, all_good, lowest_at}
+use Rattle.script.specs.declared.Refusal.{Refusal}
+use Rattle.script.specs.Asking.{Asked, first_no, at_zero, first_out_of, place_or, lowest_in, Decides, holds, fails, Asks, Each, FaultAt, LowestNo, Lowest, all_good, lowest_at}
 use Rattle.script.specs.Statements.{Placed, PlacesAre}
 
 -- Of the k records from i on: all are good, or j is the first that is not.

@@ -1,6 +1,6 @@
 -- The expressions of a script: each is built from those of its parts, and what goes from parts to nodes holds of all.
 use Prim.Native.Nat.{ℕ, zero, suc, ◌+◌, ◌-◌, ◌<◌, ◌≤◌}
-use mathlib.Core.Path.{◌≡◌, refl, ◌∙◌, ap, ap₂}
+use mathlib.Core.Path.{◌≡◌, refl, sym, ◌∙◌, ap, ap₂}
 use mathlib.Core.List.Memᴰ
 use mathlib.Core.List.{List, [], ◌∷◌}
 use mathlib.Core.Logic.{⊎_elim}
@@ -68,6 +68,89 @@ by_kind P p0 p1 p2 p3 p4 p5 p6 p7 p8 p9 p10 p11 more (suc (suc (suc (suc (suc (s
 by_kind P p0 p1 p2 p3 p4 p5 p6 p7 p8 p9 p10 p11 more (suc (suc (suc (suc (suc (suc (suc (suc (suc (suc (suc zero))))))))))) = p11
 by_kind P p0 p1 p2 p3 p4 p5 p6 p7 p8 p9 p10 p11 more (suc (suc (suc (suc (suc (suc (suc (suc (suc (suc (suc (suc k)))))))))))) = more k
 
+-- The number of a kind that has one, and that it has one.
+abbrev pub number_of : Kind → ℕ
+number_of null_kind = 0
+number_of var_kind = 1
+number_of select_kind = 2
+number_of update_kind = 3
+number_of call_kind = 4
+number_of bind_kind = 5
+number_of new_kind = 6
+number_of cast_kind = 7
+number_of fork_kind = 8
+number_of lock_kind = 9
+number_of constant_kind = 10
+number_of add_kind = 11
+number_of unknown_kind = 12
+
+abbrev pub Known : Kind → Type 0
+Known unknown_kind = ⊥
+Known null_kind = Unit {0}
+Known var_kind = Unit {0}
+Known select_kind = Unit {0}
+Known update_kind = Unit {0}
+Known call_kind = Unit {0}
+Known bind_kind = Unit {0}
+Known new_kind = Unit {0}
+Known cast_kind = Unit {0}
+Known fork_kind = Unit {0}
+Known lock_kind = Unit {0}
+Known constant_kind = Unit {0}
+Known add_kind = Unit {0}
+
+-- A word that is read as a known kind is its number, and the number of a kind is read as that kind.
+pub number_is : (w : ℕ) (k : Kind) → kind_of w ≡ k → Known k → w ≡ number_of k
+unfolding kind_of
+number_is w k e h = go w e
+  where
+    go : (j : ℕ) → kind_of j ≡ k → j ≡ number_of k
+    go =
+        by_kind
+        (λ j. kind_of j ≡ k → j ≡ number_of k)
+        (λ q. ap number_of q)
+        (λ q. ap number_of q)
+        (λ q. ap number_of q)
+        (λ q. ap number_of q)
+        (λ q. ap number_of q)
+        (λ q. ap number_of q)
+        (λ q. ap number_of q)
+        (λ q. ap number_of q)
+        (λ q. ap number_of q)
+        (λ q. ap number_of q)
+        (λ q. ap number_of q)
+        (λ q. ap number_of q)
+        (λ j q. absurd (rw (← q) at h))
+
+pub kind_back : (k : Kind) → kind_of (number_of k) ≡ k
+unfolding kind_of
+kind_back null_kind = refl
+kind_back var_kind = refl
+kind_back select_kind = refl
+kind_back update_kind = refl
+kind_back call_kind = refl
+kind_back bind_kind = refl
+kind_back new_kind = refl
+kind_back cast_kind = refl
+kind_back fork_kind = refl
+kind_back lock_kind = refl
+kind_back constant_kind = refl
+kind_back add_kind = refl
+kind_back unknown_kind = refl
+
+-- The same of a kind that code has read of the word w: that it is k, and that it is not.
+pub word_of_kind : (w : ℕ) (r k : Kind) → r ≡ kind_of w → r ≡ k → Known k → w ≡ number_of k
+word_of_kind w r k e q h = number_is w k (sym e ∙ q) h
+
+pub kind_read : {v w : ℕ} {r k : Kind} → w ≡ v → r ≡ kind_of w → r ≡ k → kind_of v ≡ k
+kind_read p e q = sym (e ∙ ap kind_of p) ∙ q
+
+pub other_word : (w : ℕ) (r k : Kind) → r ≡ kind_of w → (r ≡ k → ⊥) → w ≡ number_of k → ⊥
+other_word w r k e n q = n (e ∙ ap kind_of q ∙ kind_back k)
+
+pub other_number : {v w : ℕ} {r : Kind} (k : Kind) → w ≡ v → r ≡ kind_of w → (r ≡ k → ⊥) → v ≡ number_of k → ⊥
+other_number {v} {w} {r} k p e n q = other_word w r k e n (p ∙ q)
+
 -- Kinds 1 to 11 are not null, and every other one is read as null.
 pub only_null : (k a b c : ℕ) → (k ≡ 1 → ⊥) → (k ≡ 2 → ⊥) → (k ≡ 3 → ⊥) → (k ≡ 4 → ⊥) → (k ≡ 5 → ⊥) → (k ≡ 6 → ⊥) → (k ≡ 7 → ⊥) → (k ≡ 8 → ⊥)
     → (k ≡ 9 → ⊥) → (k ≡ 10 → ⊥) → (k ≡ 11 → ⊥) → node_of (kind_of k) a b c ≡ n_null
@@ -99,6 +182,14 @@ node_by s n k = node_of (kind_of k) (node_word s n 1) (node_word s n 2) (node_wo
 pub view_by : (s : List ℕ) (n : Point) (k : ℕ) → node_word s n 0 ≡ k → view_at s n ≡ node_by s n k
 unfolding view_at
 view_by s n k e = rw e
+
+-- The same by its kind.
+abbrev pub node_as : List ℕ → Point → Kind → Node
+node_as s n k = node_of k (node_word s n 1) (node_word s n 2) (node_word s n 3)
+
+pub view_as : (s : List ℕ) (n : Point) (k : Kind) → kind_of (node_word s n 0) ≡ k → view_at s n ≡ node_as s n k
+unfolding view_at
+view_as s n k e = rw e
 
 module _ (s : List ℕ) where
   -- The table of the last j + k nodes ends in that of the last k.
@@ -159,6 +250,13 @@ module _ (s : List ℕ) where
 
     pub part_by : (k : ℕ) → node_word s n 0 ≡ k → (p : Point) → p ∈ parts (node_by s n k) → Part s n p
     part_by k e p m = in_order p (rw (view_by s n k e) m)
+
+    -- By its kind, its expression and its parts.
+    pub expr_as : (k : Kind) → kind_of (node_word s n 0) ≡ k → expr_at s n ≡ build n (expr_at s) (node_as s n k)
+    expr_as k e = expr_at_lem n h in_order ∙ ap (build n (expr_at s)) (view_as s n k e)
+
+    pub part_as : (k : Kind) → kind_of (node_word s n 0) ≡ k → (p : Point) → p ∈ parts (node_as s n k) → Part s n p
+    part_as k e p m = in_order p (rw (view_as s n k e) m)
 
   -- What holds of a node whenever it holds of the node's parts holds of every node, since parts stand later.
   module _ (P : Point → Type 0)

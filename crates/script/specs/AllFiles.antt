@@ -4,7 +4,8 @@ use Rattle.std.proofs.Math.Option.{Option, none, some}
 use Rattle.words.specs.Word.{bytes}
 use Rattle.script.specs.declared.Question.{Question}
 use Rattle.script.specs.declared.Question.TheVariants.{Length, Counts, Places, Interfaces, Owners, Types, Nodes, Names}
-use Rattle.script.specs.Asking.{Refusal, first_no}
+use Rattle.script.specs.declared.Refusal.{Refusal}
+use Rattle.script.specs.Asking.{first_no}
 use Rattle.script.specs.Questions.{layout_questions}
 
 -- The words of a file with these bodies: interfaces, signatures, classes, fields, methods and nodes.

@@ -2,6 +2,7 @@
 use Rattle.std.specs.Prelude.{ℕ, zero, suc, ◌+◌, ◌<◌, ◌≤◌, ◌≡◌, Bool, true, false, cond, List, [], ◌∷◌, ◌⊎◌}
 use Rattle.std.proofs.Math.Option.{Option, none, some}
 use Rattle.script.specs.declared.Question.{Question}
+use Rattle.script.specs.declared.Refusal.{Refusal}
 use Rattle.script.specs.declared.Question.TheVariants.{Length, Counts, Places, Interfaces, Owners, Types, Nodes, Names, Joins, Classes}
 use Rattle.script.specs.declared.Question.TheVariants.{Variables, Nulls, Members, Fits, Sharing}
 use Rattle.script.specs.Section.{Section, count_of, record_at}
@@ -46,11 +47,6 @@ rank_of Sharing = 10
 pub record Asked : Type 0 where
   pub question : Question
   pub no_at : Option ℕ
-
--- The question that gets a no, and the place.
-pub record Refusal : Type 0 where
-  pub question : Question
-  pub place : ℕ
 
 abbrev pub or_next : Question → Option ℕ → Option Refusal → Option Refusal
 or_next q none r = r

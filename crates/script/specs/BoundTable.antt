@@ -4,7 +4,8 @@ use Rattle.std.specs.Prelude.{ℕ, ◌+◌, ◌*◌, List, [], ◌∷◌, ◌++�
 use Rattle.std.proofs.Math.Option.{Option, none, some}
 use Rattle.words.specs.Word.{bytes}
 use Rattle.limits.specs.Limits.{BLOCK, OBJECTS, BINDINGS, FRAMES, THREADS, POSITIONS, CHOICES, FLAGS, SILENT}
-use Rattle.script.specs.Asking.{number_of, Refusal, first_no}
+use Rattle.script.specs.declared.Refusal.{Refusal}
+use Rattle.script.specs.Asking.{number_of, first_no}
 use Rattle.script.specs.Questions.{layout_questions}
 use Rattle.script.specs.KindTable.{every_section}
 

@@ -1,6 +1,10 @@
 -- The bytes of a script read as a program.
 use Rattle.std.specs.Prelude.{ℕ, zero, suc, ◌-◌, cond, List, [], ◌∷◌, eqb, get_or}
 use Rattle.words.specs.Integer.{integer}
+pub use Rattle.script.specs.declared.Kind.{Kind}
+pub use Rattle.script.specs.declared.Kind.TheVariants.{Null as null_kind, Variable as var_kind, Select as select_kind, Update as update_kind, Call as call_kind}
+pub use Rattle.script.specs.declared.Kind.TheVariants.{Let as bind_kind, New as new_kind, Cast as cast_kind, Fork as fork_kind, Lock as lock_kind}
+pub use Rattle.script.specs.declared.Kind.TheVariants.{Constant as constant_kind, Sum as add_kind, Unknown as unknown_kind}
 use Rattle.script.specs.declared.Role.TheVariants.{Unused, Variable, Member, Bound, NewClass, CastType, Expression, Constant, Unknown}
 use Rattle.script.specs.declared.Shape.{Shape}
 use Rattle.script.specs.Lists.{run, sum_below}
@@ -11,9 +15,6 @@ use Rattle.script.specs.Syntax.{n_constant, n_add, build, Slot, Signature, Metho
 -- "Kinds: 0 null; 1 variable a; 2 read field b of variable a; 3 the same field gets the value of c; 4 call method b of variable a with argument c;
 -- 5 let a = b in c; 6 new class a; 7 cast to type a of b; 8 fork, asyncs a and b, then c; 9 lock variable a during b." "Kind 10 is a constant (a low word, b
 -- high word, two's complement)", "kind 11 adds variables a and b".
-pub data Kind : Type 0 where
-  null_kind var_kind select_kind update_kind call_kind bind_kind new_kind cast_kind fork_kind lock_kind constant_kind add_kind unknown_kind : Kind
-
 unfoldable pub kind_of : ℕ → Kind
 kind_of k =
     get_or

@@ -1,10 +1,10 @@
 // The script file on paper: its sections and questions.
 #![tactic(auto)]
 
-// The questions of document 01 that a script can get a no to, in the order of their numbers.
+// The questions of document 01 that a script can get a no to, with their numbers.
 #[derive(Clone, Copy)]
 pub enum Question {
-    Length,
+    Length = 1,
     Counts,
     Places,
     Interfaces,
@@ -32,6 +32,24 @@ pub enum Section {
     Nodes,
 }
 
+// The kinds of nodes, in the order of their numbers, and one for every number that no kind has.
+#[derive(Clone, Copy, PartialEq, Eq)]
+pub enum Kind {
+    Null,
+    Variable,
+    Select,
+    Update,
+    Call,
+    Let,
+    New,
+    Cast,
+    Fork,
+    Lock,
+    Constant,
+    Sum,
+    Unknown,
+}
+
 // What a word of a node is there for.
 #[derive(Clone, Copy)]
 pub enum Role {
@@ -50,9 +68,9 @@ pub enum Role {
 #[derive(Clone, Copy)]
 pub struct Shape(pub Role, pub Role, pub Role);
 
-// What a search finds: an index or a place.
+// A refusal: the question that gets a no, and the place.
 #[derive(Clone, Copy)]
-pub enum Found {
-    At(usize),
-    Nothing,
+pub struct Refusal {
+    pub question: Question,
+    pub place: u16,
 }

@@ -3,3 +3,4 @@ pub mod SizeLaws
 pub mod RowLaws
 pub mod AppendLaws
 pub mod FileLaws
+pub mod SourceLaws

@@ -1,12 +1,19 @@
 -- Where the records of a section begin, and how many begin before a token.
 use mathlib.Core.Path.{◌≡◌, refl, sym, ap, ◌∙◌}
-use mathlib.Core.Bool.{Bool, true, false}
+use mathlib.Core.Bool.{Bool, true, false, cond}
 use mathlib.Core.List.{List, [], ◌∷◌, ◌++◌}
 use mathlib.Core.Logic.{⊎_elim}
 use Prim.Native.Nat.{ℕ, zero, suc, ◌+◌, ◌-◌, ◌≤◌, ◌<◌}
 use native.Mathlib.Omega.{arith}
+use native.Mathlib.Nat.{eq-or-lt_of_le}
 use native.Mathlib.Numerals.{add-one}
-use lib.ListN.{length, get_or, take, drop, length-drop, take-append-drop, drop_of_length-le}
+use lib.Dec.{ltb}
+use borrow.Author.Tests.{lt-ltb, ltb-true, ltb-false}
+use Rattle.std.specs.List.{count_by}
+use Rattle.std.specs.List.Sorted.{IsPartitionPoint, IsPartitionedBy}
+use Rattle.std.proofs.lemmas.List.{get_or_default}
+use Rattle.std.proofs.lemmas.List.Recursion.{is_count_by}
+use lib.ListN.{length, get_or, take, drop, length-drop, take-append-drop}
 use lib.Seq.{drop-cons, length-take-le, take_all, take-add, get_or-take, get_or-drop, ext_get_or}
 use Rattle.script.specs.declared.Section.{Section}
 use Rattle.grammar.specs.Faults.{begins_test}
@@ -27,10 +34,6 @@ pub begun_step :
     → begun_among s (drop i roles) ≡ one_added_if (begins_test s (get_or roles i 0)) 0 + begun_among s (drop (i + 1) roles)
 unfolding begun_among
 begun_step s roles i h = rw (drop-cons roles i 0 h, add-one) (one_more (begins_test s (get_or roles i 0)) (begun_among s (drop (suc i) roles)))
-
-pub begun_end : (s : Section) (roles : List ℕ) (i : ℕ) → length roles ≤ i → begun_among s (drop i roles) ≡ 0
-unfolding begun_among
-begun_end s roles i h = rw (drop_of_length-le roles {i = i} h)
 
 begun_append : (s : Section) (xs ys : List ℕ) → begun_among s (xs ++ ys) ≡ begun_among s xs + begun_among s ys
 unfolding begun_among
@@ -141,6 +144,42 @@ module _ (s : Section) (roles : List ℕ) {places : List ℕ} (e : places ≡ pl
       let f = place_from s 0 roles k (omega (arith, places_count)) in
       let a : get_or places k 0 ≡ f.behind = ap (λ (l : List ℕ). get_or l k 0) e ∙ f.at_is ∙ omega arith in
       rw a f.place
+
+  -- the places before token i are as many as the records that begin before it
+  pub parted : (i : ℕ) → IsPartitionedBy (λ y. ltb y i) places
+  parted i j k d h l t =
+      ⊎_elim
+      (λ (q : j ≡ k). rw q t)
+      (λ (q : j < k).
+      let z = place_at_lem j (omega arith) in
+      let y = place_at_lem k l in
+      let m : get_or places j d ≤ get_or places k d = rw (get_or_default places j d 0 (omega arith), get_or_default places k d 0 l) (place_after y (omega (arith, z.passed))) in
+      lt-ltb _ _ (omega (arith, ltb-true _ _ t)))
+      (eq-or-lt_of_le h)
+
+  pub parts_are : (i r : ℕ) → r ≤ length places → IsPartitionPoint (λ y. ltb y i ≡ true) (λ y. ltb y i ≡ false) places r → r ≡ begun_among s (take i roles)
+  parts_are i r h p =
+      let low : r ≤ begun_among s (take i roles) = go r (λ k l. ltb-true _ _ (p.0 k 0 (omega arith) l)) h in
+      let high : begun_among s (take i roles) ≤ r =
+      ⊎_elim
+      (λ (q : r ≡ length places). omega (arith, places_count, begun_split s roles i))
+      (λ (q : r < length places). place_until (place_at_lem r q) (ltb-false _ _ (p.1 r 0 (omega arith) q)))
+      (eq-or-lt_of_le h)
+      in
+      omega arith
+    where
+      go : (n : ℕ) → ((k : ℕ) → k < n → get_or places k 0 < i) → n ≤ length places → n ≤ begun_among s (take i roles)
+      go zero f h = omega arith
+      go (suc n) f h = omega (arith, place_behind (place_at_lem n (omega arith)) {i = i} (f n (omega arith)))
+
+-- records are counted by their first tokens
+pub begun_counted : (s : Section) (roles : List ℕ) → begun_among s roles ≡ count_by (begins_test s) roles
+unfolding begun_among
+begun_counted s = is_count_by (begun_among s) (begins_test s) refl (λ r roles. go (begins_test s r) (begun_among s roles))
+  where
+    go : (t : Bool) (n : ℕ) → one_added_if t n ≡ cond t (1 + n) n
+    go true n = omega arith
+    go false n = refl
 
 -- the places of a section, as a part of the index
 pub index_part : {roles index : List ℕ} → IndexIs roles index → (s : Section) {n m : ℕ} → n ≡ begun_among s roles → index_of s + n ≤ RECORDS → m ≡ n → take m (drop (index_of s) index) ≡ places_from s 0 roles

@@ -8,7 +8,6 @@ use native.Mathlib.Numerals.{add-one}
 use lib.Dec.{leb}
 use lib.ListN.{length, get_or, take, drop, set, length-set, length-drop}
 use lib.Seq.{drop-cons, drop-set-lt, get_or-set_same}
-use borrow.Author.Tests.{ne_eqb}
 use Rattle.script.specs.declared.Section.TheVariants.{Nodes as nodes}
 use Rattle.grammar.specs.Faults.{begins_test}
 use Rattle.rows.specs.Rows.{Item, one_added_if, arity_of, hop, sizes_of}
@@ -17,10 +16,6 @@ use Rattle.token_words.proofs.TokenLaws.{item_cons, role_here}
 use Rattle.token_words.proofs.TokenLaws.{hop_within, nested_drop}
 use Rattle.section_rows.specs.Records.{begun_among}
 use Rattle.section_rows.proofs.PlaceLaws.{Place, place_next}
-
-pub no_parts : (r : ℕ) → (r ≡ 19 → ⊥) → (r ≡ 20 → ⊥) → (r ≡ 21 → ⊥) → (r ≡ 23 → ⊥) → (r ≡ 24 → ⊥) → (r ≡ 25 → ⊥) → 0 ≡ arity_of r
-unfolding arity_of
-no_parts r a b c d e f = rw (ne_eqb r 19 a, ne_eqb r 20 b, ne_eqb r 23 d, ne_eqb r 25 f, ne_eqb r 21 c, ne_eqb r 24 e)
 
 -- nested sizes
 nested_more : (v : ℕ) (sizes : List ℕ) → Nested sizes → v ≤ suc (length sizes) → Nested (v ∷ sizes)

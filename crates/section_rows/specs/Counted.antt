@@ -5,41 +5,25 @@ use Rattle.script.specs.declared.Section.{Section}
 use Rattle.script.specs.declared.Section.TheVariants.{Interfaces as interfaces, Signatures as signatures, Classes as classes}
 use Rattle.script.specs.declared.Section.TheVariants.{Fields as fields, Methods as methods, Nodes as nodes}
 use Rattle.script.specs.Section.{most_of}
-use Rattle.bounds.specs.Places.{IndexIs}
 use Rattle.rows.specs.Rows.{Item, sizes_of}
 use Rattle.token_words.specs.Items.{Readable, items_of}
-use Rattle.section_rows.specs.declared.Counts.{Counts}
+use Rattle.bounds.specs.declared.counts.Counts.{Counts}
+use Rattle.bounds.specs.Counting.{counted_of}
 use Rattle.section_rows.specs.Records.{begun_among, rows_of}
-
--- The count of a section.
-abbrev pub records_in : Counts → Section → ℕ
-records_in c interfaces = c.interfaces
-records_in c signatures = c.signatures
-records_in c classes = c.classes
-records_in c fields = c.fields
-records_in c methods = c.methods
-records_in c nodes = c.nodes
 
 -- No section has too many records.
 pub record CountsFit (c : Counts) : Type 0 where
-  pub within : (s : Section) → records_in c s ≤ most_of s
+  pub within : (s : Section) → counted_of c s ≤ most_of s
 
 -- These are the counts of the records that begin at tokens with these roles.
 pub record CountsRight (roles : List ℕ) (c : Counts) : Type 0 where
-  pub counts_are : (s : Section) → records_in c s ≡ begun_among s roles
+  pub counts_are : (s : Section) → counted_of c s ≡ begun_among s roles
 
 -- What is written of the text's tokens: they can be read, and `sizes` are those of all nodes; the first `base` numbers are the start's nodes'.
 pub record SizesKnown (text roles offsets values sizes : List ℕ) (types base : ℕ) : Type 0 where
   pub readable : Readable text roles offsets values sizes types
   pub sizes_are : sizes ≡ sizes_of (items_of text roles offsets values)
   pub few_nodes : base + 1 + 2 * length sizes < WORD
-
--- And all records are indexed and counted. The start's nodes are at most all.
-pub record Prepared (text roles offsets values index sizes : List ℕ) (types : ℕ) (c : Counts) : Type 0 where
-  pub sized : SizesKnown text roles offsets values sizes types (length sizes)
-  pub indexed : IndexIs roles index
-  pub counted : CountsRight roles c
-  pub few_records : CountsFit c
 
 -- The records of a section among all items.
 abbrev pub all_rows : Section → ℕ → ℕ → List Item → List ℕ

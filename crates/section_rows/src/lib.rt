@@ -2,19 +2,11 @@
 #![tactic(auto)]
 
 mod append;
-mod sections;
+mod parts;
 mod sizes;
+mod source;
+mod whole;
 
-pub use sections::{append_expressions, append_records};
 pub use sizes::{count_nodes, fill_sizes};
-
-// How many records each section has.
-#[derive(Clone, Copy)]
-pub struct Counts {
-    pub interfaces: usize,
-    pub signatures: usize,
-    pub classes: usize,
-    pub fields: usize,
-    pub methods: usize,
-    pub nodes: usize,
-}
+pub use source::{Records, Source};
+pub use whole::{append_expressions, append_records};

@@ -35,15 +35,6 @@ module _ (s : List ℕ) (k : Section) (i : ℕ) (l : Laid s) where
   unfolding end_of record_at
   word_within j h b = omega (arith, mul-le-mul_left (size_of k) h, end_within s k l, mul-suc (size_of k) i)
 
--- Every record has a first word.
-pub first_word : (k : Section) → 1 < size_of k
-first_word interfaces = omega arith
-first_word signatures = omega arith
-first_word classes = omega arith
-first_word fields = omega arith
-first_word methods = omega arith
-first_word nodes = omega arith
-
 -- No section has more records than there may be nodes.
 pub count_within : (s : List ℕ) (k : Section) → Laid s → count_of s k ≤ NODES
 count_within s interfaces l = omega (arith, l.counts_are.within interfaces)

@@ -7,20 +7,22 @@ use Prim.Native.Nat.{ℕ, zero, suc, ◌+◌, ◌-◌, ◌<◌, ◌≤◌}
 use native.Mathlib.Omega.{arith}
 use lib.Dec.{eqb}
 use borrow.Author.Tests.{eq-eqb, ne_eqb}
-use Rattle.script.specs.declared.Found.{Found}
-use Rattle.script.specs.declared.Found.TheVariants.{At, Nothing}
+use Rattle.std.specs.declared.result.Result.{Result}
+use Rattle.std.specs.declared.result.Result.TheVariants.{Ok, Err}
+use Rattle.std.specs.declared.option.Option.{Option as CodeOption}
+use Rattle.std.specs.declared.option.Option.TheVariants.{Some, None}
 use Rattle.script.specs.declared.Section.{Section}
 use Rattle.script.specs.Section.{count_of, record_at, record_word}
 use Rattle.script.specs.Asking.{first_out_of, place_or, lowest_in}
 use Rattle.script.specs.Questions.{has_name}
-use Rattle.sections.specs.Laid.{found_of, name_of, other_name, new_in}
+use Rattle.sections.specs.Laid.{found_of, passed_of, name_of, other_name, new_in}
 
 -- What is found says what the search answers.
-pub nothing_is : (o : Option ℕ) → Nothing ≡ found_of o → o ≡ none
+pub nothing_is : (o : Option ℕ) → None ≡ found_of o → o ≡ none
 nothing_is none e = refl
 nothing_is (some i) e = absurd (let z : ◌≡◌ {A = ℕ} 0 1 = cc in omega arith)
 
-pub at_is : (o : Option ℕ) (i : ℕ) → At i ≡ found_of o → o ≡ some i
+pub at_is : (o : Option ℕ) (i : ℕ) → Some i ≡ found_of o → o ≡ some i
 at_is none i e = absurd (let z : ◌≡◌ {A = ℕ} 0 1 = cc in omega arith)
 at_is (some j) i e = cc
 
@@ -72,10 +74,10 @@ module _ (test : ℕ → Bool) where
     unfolding first_out_of
     search_fail h e = let z : n - i ≡ suc (n - (i + 1)) = omega arith in rw (z, e) at left
 
-    pub found_end : n ≤ i → Nothing ≡ found_of whole
+    pub found_end : n ≤ i → None ≡ found_of whole
     found_end h = rw (search_end h)
 
-    pub found_fail : i < n → test i ≡ false → At i ≡ found_of whole
+    pub found_fail : i < n → test i ≡ false → Some i ≡ found_of whole
     found_fail h e = rw (search_fail h e)
 
 -- Tests that say the same of the records find the same.
@@ -86,39 +88,39 @@ out_same f g i (suc k) e = rw (e i (omega arith) (omega arith), out_same f g (i 
 
 -- The lowest record at fault, section by section: what was found in one, and then in those after it.
 module _ (s : List ℕ) (k : Section) (test : ℕ → Bool) where
-  pub lowest_here : (i r : ℕ) → At i ≡ found_of (first_out_of test 0 (count_of s k)) → r ≡ record_at s k i → At r ≡ found_of (lowest_in s ((k, test) ∷ []))
+  pub lowest_here : (i r : ℕ) → Some i ≡ found_of (first_out_of test 0 (count_of s k)) → r ≡ record_at s k i → Err r ≡ passed_of (lowest_in s ((k, test) ∷ []))
   unfolding lowest_in
   lowest_here i r e p = rw (at_is (first_out_of test 0 (count_of s k)) i e, p)
 
-  pub lowest_none : Nothing ≡ found_of (first_out_of test 0 (count_of s k)) → Nothing ≡ found_of (lowest_in s ((k, test) ∷ []))
+  pub lowest_none : None ≡ found_of (first_out_of test 0 (count_of s k)) → Ok tt ≡ passed_of (lowest_in s ((k, test) ∷ []))
   unfolding lowest_in
   lowest_none e = rw (nothing_is (first_out_of test 0 (count_of s k)) e)
 
-  module _ (l : List (Section × (ℕ → Bool))) (r : Found) (e : r ≡ found_of (lowest_in s ((k, test) ∷ []))) where
-    pub lowest_found : (p : ℕ) → r ≡ At p → r ≡ found_of (lowest_in s ((k, test) ∷ l))
+  module _ (l : List (Section × (ℕ → Bool))) (r : Result (Unit {0}) ℕ) (e : r ≡ passed_of (lowest_in s ((k, test) ∷ []))) where
+    pub lowest_found : (p : ℕ) → r ≡ Err p → Err p ≡ passed_of (lowest_in s ((k, test) ∷ l))
     unfolding lowest_in
-    lowest_found p f = go (first_out_of test 0 (count_of s k)) e
+    lowest_found p f = go (first_out_of test 0 (count_of s k)) (sym f ∙ e)
       where
-        go : (o : Option ℕ) → r ≡ found_of (place_or s k o none) → r ≡ found_of (place_or s k o (lowest_in s l))
+        go : (o : Option ℕ) → Err p ≡ passed_of (place_or s k o none) → Err p ≡ passed_of (place_or s k o (lowest_in s l))
         go none g = absurd (let z : ◌≡◌ {A = ℕ} 0 1 = cc in omega arith)
         go (some i) g = g
 
-    pub lowest_later : (x : Found) → r ≡ Nothing → x ≡ found_of (lowest_in s l) → x ≡ found_of (lowest_in s ((k, test) ∷ l))
+    pub lowest_later : (x : Result (Unit {0}) ℕ) → r ≡ Ok tt → x ≡ passed_of (lowest_in s l) → x ≡ passed_of (lowest_in s ((k, test) ∷ l))
     unfolding lowest_in
-    lowest_later x f h = go (first_out_of test 0 (count_of s k)) e
+    lowest_later x f h = go (first_out_of test 0 (count_of s k)) (sym f ∙ e)
       where
-        go : (o : Option ℕ) → r ≡ found_of (place_or s k o none) → x ≡ found_of (place_or s k o (lowest_in s l))
+        go : (o : Option ℕ) → Ok tt ≡ passed_of (place_or s k o none) → x ≡ passed_of (place_or s k o (lowest_in s l))
         go none g = h
         go (some i) g = absurd (let z : ◌≡◌ {A = ℕ} 0 1 = cc in omega arith)
 
 -- A search for a name: at record i the answer for what is left is the answer for the whole.
 module _ (s : List ℕ) (k : Section) (x to i : ℕ) (o : Option ℕ) (rest : o ≡ first_out_of (other_name s k x) i (to - i)) where
-  pub seek_end : to ≤ i → Nothing ≡ found_of o
+  pub seek_end : to ≤ i → None ≡ found_of o
   unfolding first_out_of
   seek_end h = let e : to - i ≡ 0 = omega arith in rw (rest, e)
 
   module _ (name : ℕ) (h : i < to) (e : name ≡ record_word s k i 0) where
-    pub seek_hit : name ≡ x → At i ≡ found_of o
+    pub seek_hit : name ≡ x → Some i ≡ found_of o
     unfolding first_out_of
     seek_hit q = let z : to - i ≡ suc (to - suc i) = omega arith in rw (rest, z, eq-eqb _ x (sym e ∙ q))
 
@@ -141,9 +143,9 @@ module _ (s : List ℕ) (k : Section) (x : ℕ) where
       go true e = refl
       go false e = e
 
-  module _ (start i : ℕ) (f : Found) (p : x ≡ name_of s k i) (q : f ≡ found_of (first_out_of (other_name s k x) start (i - start))) where
-    pub name_old : (j : ℕ) → f ≡ At j → new_in (name_of s k) start i ≡ false
+  module _ (start i : ℕ) (f : CodeOption ℕ) (p : x ≡ name_of s k i) (q : f ≡ found_of (first_out_of (other_name s k x) start (i - start))) where
+    pub name_old : (j : ℕ) → f ≡ Some j → new_in (name_of s k) start i ≡ false
     name_old j e = rw (← p, has_seen start (i - start), at_is (first_out_of (other_name s k x) start (i - start)) j (sym e ∙ q))
 
-    pub name_new : f ≡ Nothing → new_in (name_of s k) start i ≡ true
+    pub name_new : f ≡ None → new_in (name_of s k) start i ≡ true
     name_new e = rw (← p, has_seen start (i - start), nothing_is (first_out_of (other_name s k x) start (i - start)) (sym e ∙ q))

@@ -1,22 +1,34 @@
 -- What code may rely on: a script whose contents are in order, and the owners of its records.
-use Rattle.std.specs.Prelude.{ℕ, ◌-◌, Bool, not, List, eqb}
+use Rattle.std.specs.Prelude.{ℕ, ◌-◌, Bool, not, List, [], ◌∷◌, eqb}
+use Rattle.std.proofs.Props.{props}
+use Rattle.limits.specs.Limits.{CONTENTS}
 use Rattle.std.proofs.Math.Option.{Option, none, some}
-use Rattle.script.specs.declared.Found.{Found}
-use Rattle.script.specs.declared.Found.TheVariants.{At, Nothing}
+use Rattle.std.specs.declared.option.Option.{Option as CodeOption}
+use Rattle.std.specs.declared.option.Option.TheVariants.{Some, None}
+use Rattle.std.specs.declared.result.Result.{Result}
+use Rattle.std.specs.declared.result.Result.TheVariants.{Ok, Err}
 use Rattle.script.specs.Lists.{sum_below}
 use Rattle.script.specs.declared.Section.{Section}
 use Rattle.script.specs.declared.Section.TheVariants.{Interfaces as interfaces, Signatures as signatures, Classes as classes, Fields as fields}
 use Rattle.script.specs.declared.Section.TheVariants.{Methods as methods, Nodes as nodes}
-use Rattle.script.specs.Section.{count_of, record_word}
+use Rattle.script.specs.Section.{sections, count_of, end_of, record_word}
 use Rattle.script.specs.Reading.{own_signatures, own_fields, own_methods}
 use Rattle.script.specs.Questions.{has_name, fresh_test}
-use Rattle.script.specs.Statements.{LengthIs, CountsAre, PlacesAre}
+use Rattle.script.specs.Statements.{LengthIs, CountsAre, Placed, PlacesAre}
 
 -- Questions 1 to 3 got a yes: every record that the contents count lies within the file.
 pub record Laid (s : List ℕ) : Type 0 where
   pub length_is : LengthIs s
   pub counts_are : CountsAre s
   pub places_are : PlacesAre s
+
+-- Any two proofs of it are equal, as a ghost field asks.
+Placed-prop : (s : List ℕ) (at : ℕ) (ks : List Section) → IsProp (Placed s at ks)
+Placed-prop s at [] = Prim.hlevel props
+Placed-prop s at (k ∷ ks) = Prim.hlevel (props, Placed-prop s (end_of s k) ks)
+
+pub Laid-prop : (s : List ℕ) → IsProp (Laid s)
+Laid-prop s = let places : IsProp (PlacesAre s) = Placed-prop s CONTENTS sections in Prim.hlevel (props, places)
 
 -- The section whose records own those of section k, and how many of them belong to owner o: "Runs of signatures, fields and methods belong to their owners in
 -- order."
@@ -40,9 +52,14 @@ abbrev pub owned_test : List ℕ → Section → Bool
 owned_test s k = eqb (sum_below (own_of s k) (count_of s (owner_of k))) (count_of s k)
 
 -- What a search finds, as the code says it.
-abbrev pub found_of : Option ℕ → Found
-found_of none = Nothing
-found_of (some i) = At i
+abbrev pub found_of : Option ℕ → CodeOption ℕ
+found_of none = None
+found_of (some i) = Some i
+
+-- What a question gets that has a place for its no, as the code says it: a yes, or a no at this place.
+abbrev pub passed_of : Option ℕ → Result (Unit {0}) ℕ
+passed_of none = Ok tt
+passed_of (some place) = Err place
 
 -- The name of record j of section k, one of those whose records begin with a name.
 abbrev pub name_of : List ℕ → Section → ℕ → ℕ

@@ -1,28 +1,41 @@
 // Questions 1, 2, 3 and 5: the script as a whole.
-ghost use Rattle.std.specs.Prelude.{◌≡◌, ◌<◌, ◌≤◌, leb, length};
-ghost use Rattle.words.specs.Word.{WORD};
+ghost use Rattle.std.specs.Prelude.{◌≡◌, ◌≤◌, leb, length};
 ghost use Rattle.limits.specs.Limits.{CONTENTS};
-ghost use Rattle.script.specs.Section.{most_of, count_of, end_of};
+ghost use Rattle.std.specs.List.{list_all};
+ghost use Rattle.script.specs.Section.{sections, most_of, count_of, end_of};
 ghost use Rattle.script.specs.Questions.{length_test, counts_test, places_test, owners_test};
-ghost use Rattle.sections.specs.Laid.{Laid, owned_test, owner_of, own_of};
+ghost use Rattle.sections.specs.Laid.{owned_test, owner_of};
 
-use crate::contents::{body_at, count_of, most_of, record_word, size_of};
+use crate::contents::{body_at, count_of, most_of, size_of};
+use crate::files::File;
 use limits::Limits;
 use script::Section;
 
+// The sections, in the order of their bodies.
+const SECTIONS: [Section; 6] = [
+    Section::Interfaces,
+    Section::Signatures,
+    Section::Classes,
+    Section::Fields,
+    Section::Methods,
+    Section::Nodes,
+];
+
 // 1. Is the file 24 to 13,592 bytes?
+#[tactic(auto, unfolding(script::specs::Questions::length_test))]
 pub fn length_fits(s: &[u8]) -> bool
     ensures { result ≡ length_test s.now }
 {
     Limits::CONTENTS <= s.len() && s.len() <= Limits::FILE
 }
 
-// Is a section's count within the table?
-fn count_fits(s: &[u8], k: Section) -> bool
+// Is each section's count within the table?
+#[tactic(auto, unfolding(script::specs::Section::sections))]
+fn counts_within(s: &[u8]) -> bool
     requires { CONTENTS ≤ length s.now }
-    ensures { result ≡ leb (count_of s.now k) (most_of k) }
+    ensures { result ≡ list_all (λ k. leb (count_of s.now k) (most_of k)) sections }
 {
-    count_of(s, k) <= most_of(k)
+    SECTIONS.iter().all(|k| count_of(s, *k) <= most_of(*k))
 }
 
 // 2. Are counts within the table, and is there a node?
@@ -30,28 +43,11 @@ pub fn counts_fit(s: &[u8]) -> bool
     requires { CONTENTS ≤ length s.now }
     ensures { result ≡ counts_test s.now }
 {
-    if !count_fits(s, Section::Interfaces) {
-        return false;
-    }
-    if !count_fits(s, Section::Signatures) {
-        return false;
-    }
-    if !count_fits(s, Section::Classes) {
-        return false;
-    }
-    if !count_fits(s, Section::Fields) {
-        return false;
-    }
-    if !count_fits(s, Section::Methods) {
-        return false;
-    }
-    if !count_fits(s, Section::Nodes) {
-        return false;
-    }
-    0 < count_of(s, Section::Nodes)
+    counts_within(s) && 0 < count_of(s, Section::Nodes)
 }
 
 // The first byte after a section's body. A count is a word, so nothing overflows.
+#[tactic(auto, unfolding(script::specs::Section::end_of))]
 fn end_of(s: &[u8], k: Section) -> usize
     requires { CONTENTS ≤ length s.now }
     ensures { result ≡ end_of s.now k }
@@ -67,25 +63,14 @@ pub fn places_fit(s: &[u8]) -> bool
     requires { CONTENTS ≤ length s.now }
     ensures { result ≡ places_test s.now }
 {
-    if body_at(s, Section::Interfaces) != Limits::CONTENTS {
-        return false;
+    let mut at = Limits::CONTENTS;
+    for k in SECTIONS {
+        if body_at(s, k) != at {
+            return false;
+        }
+        at = end_of(s, k);
     }
-    if body_at(s, Section::Signatures) != end_of(s, Section::Interfaces) {
-        return false;
-    }
-    if body_at(s, Section::Classes) != end_of(s, Section::Signatures) {
-        return false;
-    }
-    if body_at(s, Section::Fields) != end_of(s, Section::Classes) {
-        return false;
-    }
-    if body_at(s, Section::Methods) != end_of(s, Section::Fields) {
-        return false;
-    }
-    if body_at(s, Section::Nodes) != end_of(s, Section::Methods) {
-        return false;
-    }
-    end_of(s, Section::Nodes) == s.len()
+    at == s.len()
 }
 
 // The section whose records own those of section k.
@@ -93,62 +78,30 @@ pub fn owner_of(k: Section) -> Section
     ensures { result ≡ owner_of k }
 {
     match k {
-        Section::Interfaces => Section::Interfaces,
         Section::Signatures => Section::Interfaces,
-        Section::Classes => Section::Classes,
-        Section::Fields => Section::Classes,
-        Section::Methods => Section::Classes,
-        Section::Nodes => Section::Nodes,
-    }
-}
-
-// How many records of section k belong to owner o.
-pub fn own_count(s: &[u8], k: Section, o: usize) -> usize
-    requires { Laid s.now × (o < count_of s.now (owner_of k)) }
-    ensures { (result ≡ own_of s.now k o) × (result < WORD) }
-{
-    match k {
-        Section::Signatures => {
-            let form = record_word(s, Section::Interfaces, o, 0);
-            if form != 0 {
-                return 0;
-            }
-            record_word(s, Section::Interfaces, o, 1) as usize
-        }
-        Section::Fields => record_word(s, Section::Classes, o, 1) as usize,
-        Section::Methods => record_word(s, Section::Classes, o, 2) as usize,
-        Section::Interfaces => 0,
-        Section::Classes => 0,
-        Section::Nodes => 0,
+        Section::Fields | Section::Methods => Section::Classes,
+        _ => k,
     }
 }
 
 // Do the owners' counts add up to a section's count?
-fn owned_fit(s: &[u8], k: Section) -> bool
-    requires { Laid s.now }
-    ensures { result ≡ owned_test s.now k }
+fn owned_fit(file: &File, k: Section) -> bool
+    ensures { result ≡ owned_test file.now.bytes.now k }
 {
-    let owner = owner_of(k);
-    let n = count_of(s, owner);
+    let n = file.count_of(owner_of(k));
     let mut sum: usize = 0;
-    let mut o: usize = 0;
-    while o < n {
-        sum += own_count(s, k, o);
-        o += 1;
+    for o in 0..n {
+        sum += file.own_count(k, o);
     }
-    sum == count_of(s, k)
+    sum == file.count_of(k)
 }
 
 // 5. Do owners' counts add up to each section's count?
-pub fn owners_fit(s: &[u8]) -> bool
-    requires { Laid s.now }
-    ensures { result ≡ owners_test s.now }
+#[tactic(auto, unfolding(script::specs::Questions::owners_test))]
+pub fn owners_fit(file: &File) -> bool
+    ensures { result ≡ owners_test file.now.bytes.now }
 {
-    if !owned_fit(s, Section::Signatures) {
-        return false;
-    }
-    if !owned_fit(s, Section::Fields) {
-        return false;
-    }
-    owned_fit(s, Section::Methods)
+    owned_fit(file, Section::Signatures)
+        && owned_fit(file, Section::Fields)
+        && owned_fit(file, Section::Methods)
 }

@@ -11,52 +11,49 @@ use Rattle.script.specs.declared.Section.TheVariants.{Nodes as nodes}
 use Rattle.script.specs.Lists.{◌∈◌, run}
 use Rattle.script.specs.Section.{count_of, node_word}
 use Rattle.script.specs.Syntax.{Point, Expr, parts, build}
-use Rattle.script.specs.Reading.{unknown_kind, kind_of, node_of, expr_at}
+use Rattle.script.specs.declared.Kind.{Kind}
+use Rattle.script.specs.declared.Kind.TheVariants.{Null, Variable, Select, Update, Call, Let, New, Cast, Fork, Lock, Constant, Sum, Unknown}
+use Rattle.script.specs.Reading.{kind_of, node_of, expr_at}
 use Rattle.script.specs.Statements.{WithinLayout}
-use Rattle.script.proofs.Reading.{by_kind, node_by, known, expr_by, part_by}
+use Rattle.script.proofs.Reading.{node_as, known, expr_as, part_as}
 use Rattle.machine.specs.Config.{code_of}
 use Rattle.machine.specs.Silent.{chain, silent_from, largest, most_silent}
 use Rattle.machine.proofs.Counts.{node_count_lem}
 use Rattle.silent.specs.CountTable.{CountIs, CountedFrom, Counting, DescendsBy}
 
 -- Every other kind has no count.
-no_chain : (n : Point) (f : Point → Expr) (k a b c : ℕ) → (k ≡ 0 → ⊥) → (k ≡ 3 → ⊥) → (k ≡ 4 → ⊥) → (k ≡ 5 → ⊥) → (k ≡ 7 → ⊥) → (k ≡ 10 → ⊥) → (kind_of k ≡ unknown_kind → ⊥)
-    → chain (build n f (node_of (kind_of k) a b c)) ≡ 0
-unfolding kind_of
-no_chain n f k a b c h0 h3 h4 h5 h7 h10 u = go k refl
-  where
-    go : (j : ℕ) → k ≡ j → chain (build n f (node_of (kind_of j) a b c)) ≡ 0
-    go =
-        by_kind
-        (λ j. k ≡ j → chain (build n f (node_of (kind_of j) a b c)) ≡ 0)
-        (λ q. absurd (h0 q))
-        (λ q. refl)
-        (λ q. refl)
-        (λ q. absurd (h3 q))
-        (λ q. absurd (h4 q))
-        (λ q. absurd (h5 q))
-        (λ q. refl)
-        (λ q. absurd (h7 q))
-        (λ q. refl)
-        (λ q. refl)
-        (λ q. absurd (h10 q))
-        (λ q. refl)
-        (λ j q. absurd (u (ap kind_of q)))
+no_chain : (n : Point) (f : Point → Expr) (k : Kind) (a b c : ℕ) → (k ≡ Null → ⊥) → (k ≡ Constant → ⊥) → (k ≡ Update → ⊥) → (k ≡ Call → ⊥) → (k ≡ Let → ⊥) → (k ≡ Cast → ⊥)
+    → (k ≡ Unknown → ⊥) → chain (build n f (node_of k a b c)) ≡ 0
+no_chain n f Null a b c h0 h10 h3 h4 h5 h7 u = absurd (h0 refl)
+no_chain n f Variable a b c h0 h10 h3 h4 h5 h7 u = refl
+no_chain n f Select a b c h0 h10 h3 h4 h5 h7 u = refl
+no_chain n f Update a b c h0 h10 h3 h4 h5 h7 u = absurd (h3 refl)
+no_chain n f Call a b c h0 h10 h3 h4 h5 h7 u = absurd (h4 refl)
+no_chain n f Let a b c h0 h10 h3 h4 h5 h7 u = absurd (h5 refl)
+no_chain n f New a b c h0 h10 h3 h4 h5 h7 u = refl
+no_chain n f Cast a b c h0 h10 h3 h4 h5 h7 u = absurd (h7 refl)
+no_chain n f Fork a b c h0 h10 h3 h4 h5 h7 u = refl
+no_chain n f Lock a b c h0 h10 h3 h4 h5 h7 u = refl
+no_chain n f Constant a b c h0 h10 h3 h4 h5 h7 u = absurd (h10 refl)
+no_chain n f Sum a b c h0 h10 h3 h4 h5 h7 u = refl
+no_chain n f Unknown a b c h0 h10 h3 h4 h5 h7 u = absurd (u refl)
 
 module _ {s counts : List ℕ} {n : ℕ} (a : Counting s counts n) where
   -- a node that ends the chain
-  pub count_end : (k r : ℕ) → node_word s n 0 ≡ k → r ≤ 1 → chain (build n (expr_at s) (node_by s n k)) ≡ r → CountIs s n r
-  count_end k r e l h = record { is = sym (ap chain (expr_by s a.layout n a.there k e) ∙ h); few = omega (arith, a.there) }
+  pub count_end : (k : Kind) (r : ℕ) → kind_of (node_word s n 0) ≡ k → r ≤ 1 → chain (build n (expr_at s) (node_as s n k)) ≡ r → CountIs s n r
+  count_end k r e l h = record { is = sym (ap chain (expr_as s a.layout n a.there k e) ∙ h); few = omega (arith, a.there) }
 
-  pub count_rest : (k : ℕ) → k ≡ node_word s n 0 → (k ≡ 0 → ⊥) → (k ≡ 3 → ⊥) → (k ≡ 4 → ⊥) → (k ≡ 5 → ⊥) → (k ≡ 7 → ⊥) → (k ≡ 10 → ⊥) → CountIs s n 0
-  count_rest k e h0 h3 h4 h5 h7 h10 =
-      count_end k 0 (sym e) (omega arith)
-      (no_chain n (expr_at s) k (node_word s n 1) (node_word s n 2) (node_word s n 3) h0 h3 h4 h5 h7 h10 (λ q. known s a.layout n a.there (rw e at q)))
+  pub count_rest :
+      (k : Kind) → kind_of (node_word s n 0) ≡ k → (k ≡ Null → ⊥) → (k ≡ Constant → ⊥) → (k ≡ Update → ⊥) → (k ≡ Call → ⊥) → (k ≡ Let → ⊥) → (k ≡ Cast → ⊥)
+      → CountIs s n 0
+  count_rest k e h0 h10 h3 h4 h5 h7 =
+      count_end k 0 e (omega arith)
+      (no_chain n (expr_at s) k (node_word s n 1) (node_word s n 2) (node_word s n 3) h0 h10 h3 h4 h5 h7 (λ q. known s a.layout n a.there (e ∙ q)))
 
   -- one that descends
-  pub descends_by : (k j : ℕ) → node_word s n 0 ≡ k → j < 4 → node_word s n j ∈ parts (node_by s n k)
-      → chain (build n (expr_at s) (node_by s n k)) ≡ suc (chain (expr_at s (node_word s n j))) → DescendsBy s n j
-  descends_by k j e l m h = record { word = l; part = part_by s a.layout n a.there k e (node_word s n j) m; more = ap chain (expr_by s a.layout n a.there k e) ∙ h }
+  pub descends_by : (k : Kind) (j : ℕ) → kind_of (node_word s n 0) ≡ k → j < 4 → node_word s n j ∈ parts (node_as s n k)
+      → chain (build n (expr_at s) (node_as s n k)) ≡ suc (chain (expr_at s (node_word s n j))) → DescendsBy s n j
+  descends_by k j e l m h = record { word = l; part = part_as s a.layout n a.there k e (node_word s n j) m; more = ap chain (expr_as s a.layout n a.there k e) ∙ h }
 
   module _ {j : ℕ} (d : DescendsBy s n j) where
     pub part_there : node_word s n j < length counts

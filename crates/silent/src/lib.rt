@@ -2,7 +2,7 @@
 // the last node to the first, since a node's parts stand behind it.
 #![tactic(auto)]
 
-ghost use Rattle.std.specs.Prelude.{◌≡◌, max, length};
+ghost use Rattle.std.specs.Prelude.{◌≡◌, length};
 ghost use Rattle.limits.specs.Limits.{NODES};
 ghost use Rattle.script.specs.Statements.{WithinLayout};
 ghost use Rattle.machine.specs.Config.{code_of};
@@ -10,14 +10,15 @@ ghost use Rattle.machine.specs.Silent.{silent_from, most_silent};
 ghost use Rattle.silent.specs.CountTable.{CountIs, CountedFrom, Counting, DescendsBy};
 
 use limits::Limits;
-use script::Section;
+use script::{Kind, Section};
+use sections::{count_of, kind_of, record_word};
 
 // The count of node n, which descends into the node that its word j names.
 fn descent_count(s: &[u8], counts: &[u16], n: usize, j: usize) -> u16
     requires { Counting s.now counts.now n × DescendsBy s.now n j }
     ensures { CountIs s.now n result }
 {
-    let p = sections::record_word(s, Section::Nodes, n, j) as usize;
+    let p = record_word(s, Section::Nodes, n, j) as usize;
     1 + counts[p]
 }
 
@@ -26,39 +27,25 @@ fn node_count(s: &[u8], counts: &[u16], n: usize) -> u16
     requires { Counting s.now counts.now n }
     ensures { CountIs s.now n result }
 {
-    let kind = sections::record_word(s, Section::Nodes, n, 0);
-    match kind {
-        0 => 1,
-        3 => descent_count(s, counts, n, 3),
-        4 => descent_count(s, counts, n, 3),
-        5 => descent_count(s, counts, n, 2),
-        7 => descent_count(s, counts, n, 2),
-        10 => 1,
+    match kind_of(record_word(s, Section::Nodes, n, 0)) {
+        Kind::Null | Kind::Constant => 1,
+        Kind::Update | Kind::Call => descent_count(s, counts, n, 3),
+        Kind::Let | Kind::Cast => descent_count(s, counts, n, 2),
         _ => 0,
     }
 }
 
-fn larger(a: u16, b: u16) -> u16
-    ensures { result ≡ max a b }
-{
-    if a < b {
-        return b;
-    }
-    a
-}
-
+// These take a script's bytes with a fact about them and no Script: docs/THEOREMS.md names two of them, and Silent's call has no table of starts.
 // Fills the table with the counts of all nodes, and answers the largest.
 fn fill_counts(s: &[u8], counts: &mut [u16]) -> u16
     requires { WithinLayout s.now × (length counts.old ≡ NODES) }
     ensures { CountedFrom s.now counts.new 0 × (result ≡ most_silent (code_of s.now)) }
 {
     let mut most = 0;
-    let mut n = sections::count_of(s, Section::Nodes);
-    while n > 0 {
-        n -= 1;
+    for n in (0..count_of(s, Section::Nodes)).rev() {
         let count = node_count(s, counts, n);
         counts[n] = count;
-        most = larger(count, most);
+        most = count.max(most);
     }
     most
 }
@@ -78,7 +65,7 @@ pub fn silent_from(s: &[u8], node: u32) -> u16
     ensures { result ≡ silent_from (code_of s.now) node }
 {
     let n = node as usize;
-    if sections::count_of(s, Section::Nodes) <= n {
+    if count_of(s, Section::Nodes) <= n {
         return 0;
     }
     let mut counts = [0u16; Limits::NODES];

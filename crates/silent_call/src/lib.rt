@@ -4,7 +4,7 @@
 ghost use Rattle.std.specs.Prelude.{◌≡◌};
 ghost use Rattle.calls.specs.Calls.{silent_of};
 
-use c_replies::{SilentReply, silent_refusal, silent_reply};
+use c_replies::SilentReply;
 
 // Silent: questions 1 to 15 about the script, and then how many silent moves a thread at the node makes in a row, 0 where no such node is.
 pub fn silent(script: &[u8], node: u32) -> SilentReply
@@ -13,10 +13,8 @@ pub fn silent(script: &[u8], node: u32) -> SilentReply
     ensures place { result.place ≡ (silent_of script.now node).place }
     ensures count { result.count ≡ (silent_of script.now node).count }
 {
-    let asked = check_call::ask_script(script);
-    if asked.number != 0 {
-        return silent_refusal(asked.number, asked.place);
+    match check_call::ask_script(script) {
+        Ok(_) => SilentReply::accepted(silent::silent_from(script, node)),
+        Err(refusal) => SilentReply::from(refusal),
     }
-    let count = silent::silent_from(script, node);
-    silent_reply(count)
 }

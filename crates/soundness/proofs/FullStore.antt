@@ -7,7 +7,7 @@ use mathlib.Core.List.{List, [], ◌∷◌, ◌++◌}
 use mathlib.Core.Logic.{◌↔◌}
 use mathlib.Core.Option.{Option, none, some}
 use Rattle.script.specs.Syntax.{Point, Node, n_null, n_var, n_select, n_update, n_call, n_bind, n_new, n_cast, n_fork, n_lock, n_constant, n_add, Method}
-use Rattle.typing.specs.declared.Answer.TheVariants.{Typed}
+use Rattle.std.specs.declared.result.Result.TheVariants.{Ok}
 use Rattle.typing.specs.Typing.{inferred}
 use Rattle.machine.specs.declared.Store.{Store}
 use Rattle.machine.specs.declared.Store.TheVariants.{Bindings, Frames}
@@ -50,7 +50,7 @@ module _ {s : Code} {start : ℕ} (acc : AcceptedCode s start) (room : Places) (
   descend_stops above fs e p (n_constant i) d z = absurd (let z : ◌≡◌ {A = ℕ} 0 1 = cc in omega arith)
   descend_stops above fs e p (n_add x y) d z = absurd (let z : ◌≡◌ {A = ℕ} 0 1 = cc in omega arith)
 
-  let_typed : (e : ℕ) {x t : ℕ} {a b : Point} {v : Want} → Awaits s (context st.bindings e) (n_bind x a b) t v → inferred s.program (context st.bindings e) (s.expr a) ≡ Typed t
+  let_typed : (e : ℕ) {x t : ℕ} {a b : Point} {v : Want} → Awaits s (context st.bindings e) (n_bind x a b) t v → inferred s.program (context st.bindings e) (s.expr a) ≡ Ok t
   let_typed e (a_let h k) = infer_computes acc h
 
   call_defined : {e x m t : ℕ} {a : Point} {v : Want} {y : Object} → Awaits s (context st.bindings e) (n_call x m a) t v → TargetObject st e x y → (u : ℕ) × Defined s y.class (record { name = m; param = t; result = u })

@@ -15,7 +15,7 @@ use Rattle.script.specs.Syntax.{Point, Node, n_null, n_var, n_select, n_update, 
 use Rattle.script.specs.Regular.{IsClass}
 use Rattle.script.proofs.Declarations.{is_class, declared_int}
 use Rattle.script.proofs.Reading.{first, second, third}
-use Rattle.typing.specs.declared.Answer.TheVariants.{Typed}
+use Rattle.std.specs.declared.result.Result.TheVariants.{Ok}
 use Rattle.typing.specs.Members.{type_in, fields_of}
 use Rattle.typing.specs.Published.{WfType, Sub, FieldIn, MsigIn, BD-INFER-VAR, BD-INFER-CALL, BD-INFER-CAST, BD-INFER-SELECT, BD-INFER-UPDATE, BD-INFER-NEW, BD-INFER-INT, BD-INFER-ADD}
 use Rattle.typing.proofs.Types.{type_wf}
@@ -207,7 +207,7 @@ module _ {s : Code} {w : Want} {st : Stores} (ok : StoresOk s st) where
     bind_good : {Q : Type 0} (n e t : ℕ) (b : Point) (fs : List Frame) (v : Want) → n < 65536 → b < s.size → e ≤ length st.bindings → WfType s.program t
         → Gives s (record { name = n; type = t } ∷ context st.bindings e) (s.expr b) v → FramesOk s st.bindings w fs v
         → ValueFits s st.objects x (upto t) → (k : ℕ)
-        → Judged s w st (returning x (awaits i e ∷ fs)) Q (extend st fs n x b e (Typed t) k)
+        → Judged s w st (returning x (awaits i e ∷ fs)) Q (extend st fs n x b e (Ok t) k)
     bind_good n e t b fs v a y le d q r f zero = no_room
     bind_good n e t b fs v a y le d q r f (suc k) =
         let z : Binding = record { name = n; type = t; value = x; link = e } in

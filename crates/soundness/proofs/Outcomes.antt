@@ -12,8 +12,8 @@ use lib.ListN.{length, length-append}
 use Rattle.words.specs.Integer.{range_test}
 use Rattle.words.proofs.Integers.{range_exactly}
 use Rattle.script.specs.Syntax.{Point, Node, n_null, n_var, n_select, n_update, n_call, n_bind, n_new, n_cast, n_fork, n_lock, n_constant, n_add, Method}
-use Rattle.typing.specs.declared.Answer.{Answer}
-use Rattle.typing.specs.declared.Answer.TheVariants.{Typed, Faulty}
+use Rattle.std.specs.declared.result.Result.TheVariants.{Ok, Err}
+use Rattle.typing.specs.Answers.{Answer}
 use Rattle.typing.specs.Members.{fields_of, defined_in}
 use Rattle.typing.specs.Typing.{inferred}
 use Rattle.machine.specs.declared.Store.{Store}
@@ -165,9 +165,9 @@ module _ (s : Code) (room : Places) (st : Stores) where
     -- a value at a waiting node
     module _ (v : Value) where
       extend_why : (x : ℕ) (a b : Point) → s.view p ≡ n_bind x a b → (q : Answer) (k : ℕ) → room.bindings ≡ k → Why s room st (returning v (awaits p e ∷ fs)) (extend st fs x v b e q k)
-      extend_why x a b i (Faulty q n) k h = tt
-      extend_why x a b i (Typed t) zero h = (no_binding i (omega arith))
-      extend_why x a b i (Typed t) (suc k) h = (record { objects = omega arith; bindings = omega arith; frames = omega arith; threads = omega arith }, inl u_running)
+      extend_why x a b i (Err _) k h = tt
+      extend_why x a b i (Ok t) zero h = (no_binding i (omega arith))
+      extend_why x a b i (Ok t) (suc k) h = (record { objects = omega arith; bindings = omega arith; frames = omega arith; threads = omega arith }, inl u_running)
 
       update_why : (f o : ℕ) (q : Option Object) → Why s room st (returning v (awaits p e ∷ fs)) (update_object s st fs f v o q)
       update_why f o none = tt

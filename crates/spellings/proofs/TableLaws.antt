@@ -1,6 +1,7 @@
 -- What the code of a table relies on.
 use Prim.Native.Nat.{ℕ, suc, ◌+◌, ◌-◌, ◌<◌, ◌≤◌}
-use mathlib.Core.Path.{◌≡◌, sym, ap, ◌∙◌}
+use mathlib.Core.Path.{◌≡◌, refl, sym, ap, ◌∙◌}
+use Rattle.std.specs.Prelude.{Some, None}
 use mathlib.Core.Bool.{Bool, true, false}
 use mathlib.Core.List.{List, [], ◌∷◌, ◌++◌}
 use mathlib.Core.Logic.{⊎_elim}
@@ -14,7 +15,8 @@ use Rattle.script.proofs.Lists.{zeros, lt_or_le}
 use Rattle.grammar.specs.Tokens.{Spelling, same_spelling}
 use Rattle.grammar.specs.Files.{rank_in}
 use Rattle.tokens.specs.Runs.{spelling_hash, HASHES}
-use Rattle.spellings.specs.Table.{name_from, Leads, leads_here, leads_on, TableHolds, TableFilled, PlaceIs, Grows}
+use Rattle.spellings.specs.declared.table.NameTable.{NameTable}
+use Rattle.spellings.specs.Table.{name_from, Leads, leads_here, leads_on, TableHolds, Holds, TableFilled, IsEmpty, OfNames, PlaceIs, EntryIs, Grows, CountGrows}
 use Rattle.spellings.proofs.Places.{same_is, not_same, place_le, at_place, place_before, place_behind, grown_not, grown_by}
 
 -- Cleared heads hold no name.
@@ -33,17 +35,14 @@ holds_none text firsts links heads z =
       leads = λ e h. absurd (omega arith);
     }
 
+-- The same of a table.
+pub none_held : {N : ℕ} (text : List ℕ) (t : NameTable N) → IsEmpty t → Holds text t []
+none_held text t e = holds_none text t.firsts t.links t.heads e.0
+
 -- What the loop of a search keeps: from here on the links lead to whatever entry has the name.
-pub record Looking (text firsts links heads : List ℕ) (count : ℕ) (y : Spelling) (next : ℕ) : Type 0 where
-  pub few : next ≤ count
-  pub leads_to :
-      (names : List Spelling)
-      → TableHolds text firsts links heads names
-      → length names ≡ count
-      → (e : ℕ)
-      → e < count
-      → get_or names e [] ≡ y
-      → Leads links next e
+pub record Looking {N : ℕ} (text : List ℕ) (t : NameTable N) (y : Spelling) (next : ℕ) : Type 0 where
+  pub few : next ≤ t.count
+  pub leads_to : OfNames text t (λ names. (e : ℕ) → e < t.count → get_or names e [] ≡ y → Leads t.links next e)
 
 no_lead : {links : List ℕ} {e : ℕ} (v : ℕ) → v ≡ 0 → Leads links v e → ⊥
 no_lead v z leads_here = omega arith
@@ -54,37 +53,37 @@ past : {links : List ℕ} {v d : ℕ} (e : ℕ) → v ≡ suc e → (e ≡ d →
 past e q n leads_here = absurd (n (omega arith))
 past {links} {v} {d} e q n (leads_on {k = k} t) = let p : k ≡ e = omega arith in rw p at t
 
-module _ (text firsts links heads : List ℕ) (count : ℕ) (y : Spelling) where
-  pub look_start : (hash v : ℕ) → TableFilled text firsts links heads count → hash ≡ spelling_hash y → v ≡ get_or heads hash 0 → Looking text firsts links heads count y v
+module _ {N : ℕ} (text : List ℕ) (t : NameTable N) (y : Spelling) where
+  pub look_start : (hash v : ℕ) → TableFilled text t → hash ≡ spelling_hash y → v ≡ get_or t.heads hash 0 → Looking text t y v
   look_start hash v h p q =
       record {
         few = omega (arith, q, h.holds.begun hash, h.counted);
-        leads_to = λ names k l e b s. let t : Leads links (get_or heads (spelling_hash (get_or names e [])) 0) e = k.leads e (omega arith) in rw (q, p) (rw s at t);
+        leads_to = λ names k l e b s. let w : Leads t.links (get_or t.heads (spelling_hash (get_or names e [])) 0) e = k.leads e (omega arith) in rw (q, p) (rw s at w);
       }
 
   pub look_hit :
       (v o : ℕ) (same : Bool)
-      → Looking text firsts links heads count y v
+      → Looking text t y v
       → 0 < v
-      → o ≡ get_or firsts (v - 1) 0
+      → o ≡ get_or t.firsts (v - 1) 0
       → same ≡ same_spelling (name_from text o) y
       → same ≡ true
-      → PlaceIs text firsts links heads count y (v - 1)
+      → EntryIs text t y (Some (v - 1))
   look_hit v o same w p i q s names k l =
       let b : v - 1 < length names = omega (arith, w.few) in
       let z : get_or names (v - 1) [] ≡ y = sym (k.spelled (v - 1) b) ∙ same_is _ _ (rw i at (sym q ∙ s)) in
-      sym (rw z at (k.once (v - 1) b))
+      (sym (rw z at (k.once (v - 1) b)), omega arith)
 
   pub look_on :
       (v u o : ℕ) (same : Bool)
-      → TableFilled text firsts links heads count
-      → Looking text firsts links heads count y v
+      → TableFilled text t
+      → Looking text t y v
       → 0 < v
-      → o ≡ get_or firsts (v - 1) 0
+      → o ≡ get_or t.firsts (v - 1) 0
       → same ≡ same_spelling (name_from text o) y
       → same ≡ false
-      → u ≡ get_or links (v - 1) 0
-      → Looking text firsts links heads count y u
+      → u ≡ get_or t.links (v - 1) 0
+      → Looking text t y u
   look_on v u o same h w p i r s q =
       record {
         few = omega (arith, q, h.holds.falls (v - 1) (omega (arith, w.few, h.counted)), w.few);
@@ -94,7 +93,7 @@ module _ (text firsts links heads : List ℕ) (count : ℕ) (y : Spelling) where
             rw q (past (v - 1) (omega arith) other (w.leads_to names k l e b z));
       }
 
-  pub look_end : (v : ℕ) → Looking text firsts links heads count y v → v ≤ 0 → PlaceIs text firsts links heads count y count
+  pub look_end : (v : ℕ) → Looking text t y v → v ≤ 0 → EntryIs text t y None
   look_end v w z names k l =
       ⊎_elim
       (λ (b : rank_in names y < length names). absurd (no_lead v (omega arith) (w.leads_to names k l (rank_in names y) (omega arith) (at_place names y b))))
@@ -188,25 +187,35 @@ module _ (text firsts links heads : List ℕ) (names : List Spelling) (at hash :
       }
 
 -- What `enter` answers: a name that is there, and one that is put there.
-module _ (text firsts links heads : List ℕ) (count : ℕ) (y : Spelling) (r : ℕ) (found : PlaceIs text firsts links heads count y r) where
-  pub enter_known : r < count → Grows text firsts links heads count y firsts links heads
-  enter_known b names h l = rw (grown_not names y (omega (arith, found names h l))) h
+module _ {N : ℕ} (text : List ℕ) (t : NameTable N) (y : Spelling) where
+  pub known_place : (e : ℕ) → EntryIs text t y (Some e) → PlaceIs text t y e
+  known_place e found names h l = (found names h l).0
 
-  pub enter_new :
-      (at hash : ℕ) (firsts₁ links₁ heads₁ : List ℕ)
-      → count ≤ r
+  pub known_grows : (e : ℕ) → EntryIs text t y (Some e) → Grows text t y t
+  known_grows e found names h l = rw (grown_not names y (let f = found names h l in omega (arith, f.0, f.1))) h
+
+  pub known_count : (e : ℕ) → EntryIs text t y (Some e) → CountGrows text t y t
+  known_count e found names h l = rw (grown_not names y (let f = found names h l in omega (arith, f.0, f.1))) l
+
+  pub new_place : EntryIs text t y None → PlaceIs text t y t.count
+  new_place found names h l = sym (found names h l)
+
+  pub new_count : (t' : NameTable N) → EntryIs text t y None → t'.count ≡ t.count + 1 → CountGrows text t y t'
+  new_count t' found c names h l = rw (grown_by names y (found names h l ∙ sym l), length-append names (y ∷ []), l, c) refl
+
+  pub new_grows :
+      (at hash : ℕ) (t' : NameTable N)
+      → EntryIs text t y None
       → name_from text at ≡ y
-      → count < length firsts
-      → count < length links
-      → count < WORD
+      → t.count < N
       → at ≤ length text
       → hash ≡ spelling_hash y
       → hash < HASHES
-      → firsts₁ ≡ set firsts count at
-      → links₁ ≡ set links count (get_or heads hash 0)
-      → heads₁ ≡ set heads hash (count + 1)
-      → Grows text firsts links heads count y firsts₁ links₁ heads₁
-  enter_new at hash firsts₁ links₁ heads₁ b n f k w i j u p q z names h l =
-      let new : rank_in names y ≡ length names = omega (arith, found names h l, place_le names y) in
+      → t'.firsts ≡ set t.firsts t.count at
+      → t'.links ≡ set t.links t.count (get_or t.heads hash 0)
+      → t'.heads ≡ set t.heads hash (t.count + 1)
+      → Grows text t y t'
+  new_grows at hash t' found n f i j u p q z names h l =
+      let new : rank_in names y ≡ length names = found names h l ∙ sym l in
       rw (grown_by names y new, p, q, z, ← l)
-      (holds_more text firsts links heads names at hash y h n new (omega arith) (omega arith) (omega arith) i j u)
+      (holds_more text t.firsts t.links t.heads names at hash y h n new (omega (arith, t.room.0)) (omega (arith, t.room.1)) (omega (arith, t.small)) i j u)

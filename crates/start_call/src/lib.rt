@@ -8,13 +8,12 @@ ghost use Rattle.block.specs.Block.{encode};
 ghost use Rattle.calls.specs.Calls.{start_of};
 
 use block::{Area, Layout};
-use c_replies::{StartReply, start_refusal};
+use c_replies::StartReply;
 use calls::LentQuestion;
 use limits::Limits;
 
 // "Start writes the initial block over anything"
-fn write_initial(block: &mut [u8])
-    requires { length block.old ≡ BLOCK }
+fn write_initial(block: &mut [u8; Limits::BLOCK])
     ensures { block.new ≡ encode initial }
 {
     slices::clear(block);
@@ -30,16 +29,12 @@ pub fn start(script: &[u8], block: &mut [u8]) -> StartReply
     ensures place { result.place ≡ (start_of script.now block.old).place }
     ensures block { block.new ≡ (start_of script.now block.old).block }
 {
-    let checked = check_call::ask_script(script);
-    if checked.number != 0 {
-        return start_refusal(checked.number, checked.place);
+    if let Err(refusal) = check_call::ask_script(script) {
+        return StartReply::from(refusal);
     }
-    if block.len() != Limits::BLOCK {
-        return start_refusal(numbers::lent_number(LentQuestion::BlockLength), 0);
-    }
+    let Some(block) = block.as_mut_array::<{ Limits::BLOCK }>() else {
+        return StartReply::from(LentQuestion::BlockLength);
+    };
     write_initial(block);
-    StartReply {
-        number: 0,
-        place: 0,
-    }
+    StartReply::ACCEPTED
 }

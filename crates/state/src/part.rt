@@ -18,11 +18,12 @@ use crate::frames_before;
 use crate::reading::{frames_within, part_end};
 use crate::whole::{put_entry, put_tree, take_tree};
 use block::{Area, Layout};
+use limits::Limits;
 use machine::Frame;
 use tree::{Cell, Entry};
 
 // How many frames wait at position `i`.
-fn frames_at(block: &[u8], i: usize) -> u16
+fn frames_at(block: &[u8; Limits::BLOCK], i: usize) -> u16
     requires { SomeState block.now i }
     ensures { result ≡ (entry_at block.now i).frames }
 {
@@ -30,7 +31,7 @@ fn frames_at(block: &[u8], i: usize) -> u16
 }
 
 // The thread at `i` becomes another with the same frames.
-pub fn set_cell(block: &mut [u8], i: usize, cell: Cell)
+pub fn set_cell(block: &mut [u8; Limits::BLOCK], i: usize, cell: Cell)
     requires { SomeState block.old i × Storable (result_of cell) }
     ensures { (x : Rest) (st : Stores) (u w : machine.Tree) →
         size u ≡ 1 →
@@ -41,18 +42,11 @@ pub fn set_cell(block: &mut [u8], i: usize, cell: Cell)
         StateAt block.new i x st w }
 {
     let frames = frames_at(block, i);
-    put_entry(
-        block,
-        i,
-        Entry {
-            cell: cell,
-            frames: frames,
-        },
-    );
+    put_entry(block, i, Entry { cell, frames });
 }
 
 // The thread at `i` goes on at node a in environment e, with the frame f more.
-pub fn push(block: &mut [u8], i: usize, f: Frame, a: u16, e: u16)
+pub fn push(block: &mut [u8; Limits::BLOCK], i: usize, f: Frame, a: u16, e: u16)
     requires { SomeState block.old i × (counted block.old Frames < FRAMES) }
     ensures { (x : Rest) (st : Stores) (a₀ e₀ : ℕ) (fs : List Frame) →
         StateAt block.old i x st (running a₀ e₀ fs) →
@@ -72,7 +66,7 @@ pub fn push(block: &mut [u8], i: usize, f: Frame, a: u16, e: u16)
 }
 
 // The thread at `i` becomes another, without its innermost frame.
-pub fn pop(block: &mut [u8], i: usize, cell: Cell)
+pub fn pop(block: &mut [u8; Limits::BLOCK], i: usize, cell: Cell)
     requires { SomeState block.old i × (0 < (entry_at block.old i).frames) × Storable (result_of cell) }
     ensures { (x : Rest) (st : Stores) (v : Value) (f : Frame) (fs : List Frame) (w : machine.Tree) →
         size w ≡ 1 →
@@ -84,18 +78,11 @@ pub fn pop(block: &mut [u8], i: usize, cell: Cell)
     let left = frames_at(block, i) - 1;
     let at = frames_before(block, i) + left as usize;
     areas::remove_frames(block, at, 1);
-    put_entry(
-        block,
-        i,
-        Entry {
-            cell: cell,
-            frames: left,
-        },
-    );
+    put_entry(block, i, Entry { cell, frames: left });
 }
 
 // The part at `i` becomes failed: all beneath is dropped, and all its frames.
-pub fn fail(block: &mut [u8], i: usize)
+pub fn fail(block: &mut [u8; Limits::BLOCK], i: usize)
     requires { SomeState block.old i }
     ensures { (x : Rest) (st : Stores) (u : machine.Tree) → StateAt block.old i x st u → StateAt block.new i x st failed }
 {
@@ -108,7 +95,7 @@ pub fn fail(block: &mut [u8], i: usize)
 }
 
 // The thread at `i` becomes a join of threads at the nodes a and b, which goes on at c and keeps the frames.
-pub fn fork(block: &mut [u8], i: usize, a: u16, b: u16, c: u16, e: u16)
+pub fn fork(block: &mut [u8; Limits::BLOCK], i: usize, a: u16, b: u16, c: u16, e: u16)
     requires { SomeState block.old i × (counted block.old Positions + 2 ≤ POSITIONS) }
     ensures { (x : Rest) (st : Stores) (a₀ e₀ : ℕ) (fs : List Frame) →
         StateAt block.old i x st (running a₀ e₀ fs) →
@@ -119,7 +106,7 @@ pub fn fork(block: &mut [u8], i: usize, a: u16, b: u16, c: u16, e: u16)
 }
 
 // The join at `i`, with no frame beneath it, goes on as a thread at its last part, with its frames.
-pub fn rejoin(block: &mut [u8], i: usize)
+pub fn rejoin(block: &mut [u8; Limits::BLOCK], i: usize)
     requires { SomeState block.old i }
     ensures { (x : Rest) (st : Stores) (fs : List Frame) (a e : ℕ) (left right : machine.Tree) →
         frames_of left ≡ [] →
@@ -133,7 +120,7 @@ pub fn rejoin(block: &mut [u8], i: usize)
 }
 
 // The innermost frame at `i`.
-pub fn top_frame(block: &[u8], i: usize) -> Frame
+pub fn top_frame(block: &[u8; Limits::BLOCK], i: usize) -> Frame
     requires { SomeState block.now i × (0 < (entry_at block.now i).frames) }
     ensures { (x : Rest) (st : Stores) (u : machine.Tree) (f : Frame) (fs : List Frame) → waiting u ≡ f ∷ fs → StateAt block.now i x st u → result ≡ f }
 {

@@ -12,11 +12,12 @@ ghost use Rattle.state.specs.Positions.{entry_at, entries_in, ThreadsOf};
 
 use crate::entry_at;
 use block::{Area, Layout};
+use limits::Limits;
 use tree::{Fold, fold_by, phase_of};
 
 // How many trees stand beneath position i.
-pub fn beneath_at(block: &[u8], i: usize) -> usize
-    requires { (length block.now ≡ BLOCK) × (i < POSITIONS) }
+pub fn beneath_at(block: &[u8; Limits::BLOCK], i: usize) -> usize
+    requires { i < POSITIONS }
     ensures { (result ≡ beneath_cell (entry_at block.now i).cell) × (result ≤ 2) }
 {
     let kind = areas::word(block, Area::Positions, i, Layout::KIND);
@@ -27,25 +28,23 @@ pub fn beneath_at(block: &[u8], i: usize) -> usize
 }
 
 // Where the part at `i` ends: `need` trees are still to come.
-pub fn part_end(block: &[u8], i: usize) -> usize
-    requires { (length block.now ≡ BLOCK) × (counted block.now Positions ≤ POSITIONS) × (i < counted block.now Positions) }
+pub fn part_end(block: &[u8; Limits::BLOCK], i: usize) -> usize
+    requires { (counted block.now Positions ≤ POSITIONS) × (i < counted block.now Positions) }
     ensures { Ends (entries_in block.now) i result }
 {
     let n = areas::count(block, Area::Positions);
-    let mut p = i;
     let mut need: usize = 1;
-    while p < n {
+    for p in i..n {
         if need == 0 {
             return p;
         }
         need = need - 1 + beneath_at(block, p);
-        p += 1;
     }
-    p
+    n
 }
 
 // What the move of the part at `i` as a join comes to.
-pub fn fold_at(block: &[u8], i: usize) -> Fold
+pub fn fold_at(block: &[u8; Limits::BLOCK], i: usize) -> Fold
     requires { SomeState block.now i }
     ensures { FoldAt (entries_in block.now) i result }
 {
@@ -60,39 +59,36 @@ pub fn fold_at(block: &[u8], i: usize) -> Fold
 }
 
 // How many frames wait at the positions from `from` up to `to`.
-fn frames_from(block: &[u8], from: usize, to: usize) -> usize
-    requires { (length block.now ≡ BLOCK) × (from ≤ to) × (to ≤ counted block.now Positions) × (counted block.now Positions ≤ POSITIONS) }
+fn frames_from(block: &[u8; Limits::BLOCK], from: usize, to: usize) -> usize
+    requires { (from ≤ to) × (to ≤ counted block.now Positions) × (counted block.now Positions ≤ POSITIONS) }
     ensures { result ≡ frame_sum (slice from to (entries_in block.now)) }
 {
     let mut sum: usize = 0;
-    let mut i = from;
-    while i < to {
+    for i in from..to {
         let n = areas::word(block, Area::Positions, i, Layout::WAITING);
         sum += n as usize;
-        i += 1;
     }
     sum
 }
 
 // How many frames wait at the positions before `i`.
-pub fn frames_before(block: &[u8], i: usize) -> usize
-    requires { (length block.now ≡ BLOCK) × (i ≤ counted block.now Positions) × (counted block.now Positions ≤ POSITIONS) }
+pub fn frames_before(block: &[u8; Limits::BLOCK], i: usize) -> usize
+    requires { (i ≤ counted block.now Positions) × (counted block.now Positions ≤ POSITIONS) }
     ensures { result ≡ frame_sum (take i (entries_in block.now)) }
 {
     frames_from(block, 0, i)
 }
 
 // How many frames wait in the part at `i`, which ends before `end`.
-pub fn frames_within(block: &[u8], i: usize, end: usize) -> usize
-    requires { (length block.now ≡ BLOCK) × (counted block.now Positions ≤ POSITIONS) × Ends (entries_in block.now) i end }
+pub fn frames_within(block: &[u8; Limits::BLOCK], i: usize, end: usize) -> usize
+    requires { (counted block.now Positions ≤ POSITIONS) × Ends (entries_in block.now) i end }
     ensures { FramesWithin (entries_in block.now) i result }
 {
     frames_from(block, i, end)
 }
 
 // How many threads the block has: one more than joins, and there are two positions more for each join.
-pub fn thread_count(block: &[u8]) -> usize
-    requires { length block.now ≡ BLOCK }
+pub fn thread_count(block: &[u8; Limits::BLOCK]) -> usize
     ensures { ThreadsOf block.now result }
 {
     areas::count(block, Area::Positions) / 2 + 1

@@ -21,21 +21,17 @@ use tree::{Cell, Entry, Tree};
 fn cell_of(kind: u16, node: u16, env: u16, value: Value) -> Cell
     ensures { result ≡ cell_from kind node env value }
 {
-    if kind == Layout::RUNNING {
-        return Cell::Running(node, env);
+    match kind {
+        Layout::RUNNING => Cell::Running(node, env),
+        Layout::RETURNING => Cell::Returning(value),
+        Layout::JOIN => Cell::Join(node, env),
+        _ => Cell::Failed,
     }
-    if kind == Layout::RETURNING {
-        return Cell::Returning(value);
-    }
-    if kind == Layout::JOIN {
-        return Cell::Join(node, env);
-    }
-    Cell::Failed
 }
 
 // Position i of the block.
-pub fn entry_at(block: &[u8], i: usize) -> Entry
-    requires { (length block.now ≡ BLOCK) × (i < POSITIONS) }
+pub fn entry_at(block: &[u8; Limits::BLOCK], i: usize) -> Entry
+    requires { i < POSITIONS }
     ensures { (result ≡ entry_at block.now i) × Storable (result_of result.cell) }
 {
     let kind = areas::word(block, Area::Positions, i, Layout::KIND);
@@ -45,13 +41,13 @@ pub fn entry_at(block: &[u8], i: usize) -> Entry
     let frames = areas::word(block, Area::Positions, i, Layout::WAITING);
     Entry {
         cell: cell_of(kind, node, env, result),
-        frames: frames,
+        frames,
     }
 }
 
 // The tree of the block.
-pub fn take_tree(block: &[u8]) -> Tree
-    requires { (length block.now ≡ BLOCK) × (counted block.now Positions ≤ POSITIONS) }
+pub fn take_tree(block: &[u8; Limits::BLOCK]) -> Tree
+    requires { counted block.now Positions ≤ POSITIONS }
     ensures { Taken block.now result }
 {
     let n = areas::count(block, Area::Positions);
@@ -60,10 +56,8 @@ pub fn take_tree(block: &[u8]) -> Tree
         frames: 0,
     };
     let mut out = [blank; Limits::POSITIONS];
-    let mut i = 0;
-    while i < n {
+    for i in 0..n {
         out[i] = entry_at(block, i);
-        i += 1;
     }
     Tree {
         entries: out,
@@ -99,20 +93,18 @@ fn row_of(x: Entry) -> [u16; Layout::POSITION_WIDTH]
 }
 
 // Puts the words of record i of the positions.
-fn put_row(block: &mut [u8], i: usize, row: [u16; Layout::POSITION_WIDTH])
-    requires { (length block.old ≡ BLOCK) × (i < POSITIONS) × (length row ≡ width Positions) }
+fn put_row(block: &mut [u8; Limits::BLOCK], i: usize, row: [u16; Layout::POSITION_WIDTH])
+    requires { (i < POSITIONS) × (length row ≡ width Positions) }
     ensures { (ws : List ℕ) → block.old ≡ bytes ws → block.new ≡ bytes (sets ws (begins Positions + width Positions * i) row) }
 {
-    let mut j = 0;
-    while j < Layout::POSITION_WIDTH {
+    for j in 0..Layout::POSITION_WIDTH {
         areas::put(block, Area::Positions, i, j, row[j]);
-        j += 1;
     }
 }
 
 // Puts x as position i.
-pub fn put_entry(block: &mut [u8], i: usize, x: Entry)
-    requires { (length block.old ≡ BLOCK) × (i < POSITIONS) × Storable (result_of x.cell) }
+pub fn put_entry(block: &mut [u8; Limits::BLOCK], i: usize, x: Entry)
+    requires { (i < POSITIONS) × Storable (result_of x.cell) }
     ensures { (p : Parts) (t : machine.Tree) →
         block.old ≡ bytes (laid p) →
         i < length p.positions →
@@ -140,20 +132,16 @@ fn row_at(x: Entry, i: usize, len: usize) -> [u16; Layout::POSITION_WIDTH]
 }
 
 // How many records of the positions to write for a tree: those that it has, and those that the block has.
-fn rows_of(block: &[u8], len: usize) -> usize
-    requires { (length block.now ≡ BLOCK) × (counted block.now Positions ≤ POSITIONS) × (len ≤ POSITIONS) }
+fn rows_of(block: &[u8; Limits::BLOCK], len: usize) -> usize
+    requires { (counted block.now Positions ≤ POSITIONS) × (len ≤ POSITIONS) }
     ensures { (counted block.now Positions ≤ result) × (len ≤ result) × (result ≤ POSITIONS) }
 {
-    let n = areas::count(block, Area::Positions);
-    if n < len {
-        return len;
-    }
-    n
+    areas::count(block, Area::Positions).max(len)
 }
 
 // Writes the tree into the block: every record that the tree has or the block had, and their count. All records after them are zeros.
-pub fn put_tree(block: &mut [u8], tree: Tree)
-    requires { (length block.old ≡ BLOCK) × (counted block.old Positions ≤ POSITIONS) × Bounded tree × Worded (used tree) }
+pub fn put_tree(block: &mut [u8; Limits::BLOCK], tree: Tree)
+    requires { (counted block.old Positions ≤ POSITIONS) × Bounded tree × Worded (used tree) }
     ensures { (p : Parts) (ts : List machine.Tree) →
         block.old ≡ bytes (laid p) →
         map root_entry ts ≡ used tree →
@@ -161,11 +149,9 @@ pub fn put_tree(block: &mut [u8], tree: Tree)
 {
     let len = tree.len;
     let n = rows_of(block, len);
-    let mut i = 0;
-    while i < n {
+    for i in 0..n {
         let row = row_at(tree.entries[i], i, len);
         put_row(block, i, row);
-        i += 1;
     }
     areas::put_count(block, Area::Positions, len as u16);
 }

@@ -9,7 +9,8 @@ use lib.ListN.{length, get_or, set, replicate}
 use lib.Seq.{get_or-set_other}
 use borrow.Author.Tests.{eq-eqb, ne_eqb, le-ltb, eqb-true, eqb-false}
 use Rattle.limits.specs.Limits.{INTERFACES, CLASSES}
-use Rattle.script.specs.declared.Section.TheVariants.{Interfaces as interfaces, Classes as classes}
+use Rattle.script.specs.declared.Section.{Section}
+use Rattle.script.specs.declared.Section.TheVariants.{Interfaces as interfaces, Signatures as signatures, Classes as classes, Fields as fields, Methods as methods, Nodes as nodes}
 use Rattle.script.specs.Lists.{run, sum_below}
 use Rattle.script.specs.Section.{count_of, record_word}
 use Rattle.script.specs.Syntax.{Signature, Interface, lists, extends, Program, Declaration, a_unit, an_interface, a_class, an_int, no_type, int_of, declared, declaration_at}
@@ -24,7 +25,7 @@ use Rattle.typing.specs.Members.{reach, reach_from, below}
 use Rattle.subtypes.specs.Subtypes.{Memberless, DeclaredAs, as_interface, as_class, as_neither}
 use Rattle.typing.proofs.Types.{from_parents}
 use Rattle.typing.proofs.Values.{value_lists, value_extends}
-use Rattle.sections.specs.Laid.{Laid}
+use Rattle.sections.specs.Laid.{Laid, own_of}
 
 -- A script that gets a yes to questions 1 to 8 got one to the first three.
 pub laid : {s : List ℕ} → WithinLayout s → Laid s
@@ -244,3 +245,35 @@ below_itself s t u e = rw (eq-eqb t u e)
 -- A class's interface is an interface.
 pub class_interface : {s : List ℕ} (w : WithinLayout s) (c i : ℕ) → c < count_of s classes → i ≡ record_word s classes c 0 → InterfaceWord s i
 class_interface w c i h e = rw e (w.types_are.1.0 c h)
+
+-- What is read off a declaration, and is the same for all but a class, is so for a type that is declared as none.
+pub but_class :
+    {A : Type 0} (f : Declaration → A) (e : A) → f a_unit ≡ e → ((i : Interface) → f (an_interface i) ≡ e) → f an_int ≡ e → f no_type ≡ e
+    → {s : List ℕ} {t : ℕ} {d : Declared} → DeclaredAs s t d → ((c : ℕ) → d ≡ is_class c → ⊥) → f (declaration_at (program_of s) t) ≡ e
+but_class {A} f e unit interface int none {s} {t} {d} h n = go d refl
+  where
+    none_of : (x : Declaration) → Memberless x → f x ≡ e
+    none_of a_unit m = unit
+    none_of (an_interface i) m = absurd m
+    none_of (a_class c) m = absurd m
+    none_of an_int m = int
+    none_of no_type m = none
+
+    go : (x : Declared) → d ≡ x → f (declaration_at (program_of s) t) ≡ e
+    go (is_interface i) q = ap f (type_interface h q) ∙ interface (interface_at s i)
+    go (is_class c) q = absurd (n c q)
+    go is-neither q = none_of (declaration_at (program_of s) t) (type_neither h q)
+
+-- Interfaces, classes and nodes have no owners' runs.
+pub sum_none : (n : ℕ) → sum_below (λ o. 0) n ≡ 0
+unfolding sum_below
+sum_none zero = refl
+sum_none (suc n) = omega (arith, sum_none n)
+
+pub run_of_none : (s : List ℕ) (k : Section) (o : ℕ) → (k ≡ signatures → ⊥) → (k ≡ fields → ⊥) → (k ≡ methods → ⊥) → 0 ≡ sum_below (own_of s k) o
+run_of_none s interfaces o a b c = sym (sum_none o)
+run_of_none s signatures o a b c = absurd (a refl)
+run_of_none s classes o a b c = sym (sum_none o)
+run_of_none s fields o a b c = absurd (b refl)
+run_of_none s methods o a b c = absurd (c refl)
+run_of_none s nodes o a b c = sym (sum_none o)

@@ -2,13 +2,17 @@
 #![tactic(auto)]
 
 mod rows;
+mod scripts;
 mod subtyping;
+mod types;
 
 ghost use Rattle.std.specs.Prelude.{◌≡◌};
 ghost use Rattle.subtypes.specs.Tables.{BITS as WORD_BITS, ROW as ROW_WORDS, RUNS as RUN_WORDS, STARTS as START_WORDS};
 
 use limits::Limits;
-pub use subtyping::{declared_as, fill_rows, int_of, is_below};
+pub use scripts::Script;
+pub use subtyping::fill_rows;
+pub use types::{declared_as, int_of};
 
 // A word for each run of signatures, fields and methods.
 const RUNS: usize = Limits::INTERFACES + Limits::CLASSES + Limits::CLASSES;

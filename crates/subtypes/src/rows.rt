@@ -33,9 +33,7 @@ pub fn join(rows: &mut [u16], i: usize, l: usize, r: usize)
     let at = RUNS + i * ROW;
     let left = RUNS + l * ROW;
     let right = RUNS + r * ROW;
-    let mut w = 0;
-    while w < ROW {
+    for w in 0..ROW {
         rows[at + w] = rows[left + w] | rows[right + w];
-        w += 1;
     }
 }

@@ -218,42 +218,45 @@ pub closed_more :
 unfolding closed_to
 closed_more k l m h = rw (add-one k, h)
 
--- Every place of the code's list is one of the table.
-abbrev low_test : List ℕ → Bool
+-- Every place of the code's rules is one of the table.
+abbrev pub Placed : Type 0
+Placed = ℕ × ℕ
+
+abbrev low_test : List Placed → Bool
 low_test [] = true
-low_test (p ∷ ps) = ltb p 2048 && low_test ps
+low_test (r ∷ rs) = ltb r.0 2048 && low_test rs
 
-low_place : (ps : List ℕ) (n : ℕ) → low_test ps ≡ true → get_or ps n 0 < 2048
+low_place : (rs : List Placed) (n : ℕ) → low_test rs ≡ true → (get_or rs n (0, 0)).0 < 2048
 low_place [] n h = omega arith
-low_place (p ∷ ps) zero h = (below_and p 2048 (low_test ps) h).0
-low_place (p ∷ ps) (suc n) h = low_place ps n (below_and p 2048 (low_test ps) h).1
+low_place (r ∷ rs) zero h = (below_and r.0 2048 (low_test rs) h).0
+low_place (r ∷ rs) (suc n) h = low_place rs n (below_and r.0 2048 (low_test rs) h).1
 
--- The table with the first n rules of the code's lists put in; the next one has a place in it.
-unfoldable pub ruled_to : (ps es : List ℕ) → ℕ → List ℕ → List ℕ
-ruled_to ps es zero l = l
-ruled_to ps es (suc n) l = set (ruled_to ps es n l) (get_or ps n 0) (get_or es n 0)
+-- The table with the first n of the code's rules put in; the next one has a place in it.
+unfoldable pub ruled_to : (rs : List Placed) → ℕ → List ℕ → List ℕ
+ruled_to rs zero l = l
+ruled_to rs (suc n) l = set (ruled_to rs n l) (get_or rs n (0, 0)).0 (get_or rs n (0, 0)).1
 
-pub record Ruled (ps es : List ℕ) (n : ℕ) (l m : List ℕ) : Type 0 where
-  pub next_low : get_or ps n 0 < 2048
-  pub is : m ≡ ruled_to ps es n l
+pub record Ruled (rs : List Placed) (n : ℕ) (l m : List ℕ) : Type 0 where
+  pub next_low : (get_or rs n (0, 0)).0 < 2048
+  pub is : m ≡ ruled_to rs n l
 
-pub ruled_none : (ps es l : List ℕ) → low_test ps ≡ true → Ruled ps es 0 l l
+pub ruled_none : (rs : List Placed) (l : List ℕ) → low_test rs ≡ true → Ruled rs 0 l l
 unfolding ruled_to
-ruled_none ps es l h = record { next_low = low_place ps 0 h; is = refl }
+ruled_none rs l h = record { next_low = low_place rs 0 h; is = refl }
 
 pub ruled_more :
-    (ps es : List ℕ) (n : ℕ) (l m : List ℕ)
-    → low_test ps ≡ true
-    → Ruled ps es n l m
-    → Ruled ps es (n + 1) l (set m (get_or ps n 0) (get_or es n 0))
+    (rs : List Placed) (n : ℕ) (l m : List ℕ)
+    → low_test rs ≡ true
+    → Ruled rs n l m
+    → Ruled rs (n + 1) l (set m (get_or rs n (0, 0)).0 (get_or rs n (0, 0)).1)
 unfolding ruled_to
-ruled_more ps es n l m h r = record { next_low = low_place ps (n + 1) h; is = rw (add-one n, r.is) }
+ruled_more rs n l m h r = record { next_low = low_place rs (n + 1) h; is = rw (add-one n, r.is) }
 
 pub ruled_all :
-    (ps es : List ℕ) (n : ℕ) (l m : List ℕ)
-    → Ruled ps es n l m
+    (rs : List Placed) (n : ℕ) (l m : List ℕ)
+    → Ruled rs n l m
     → n ≡ 117
     → l ≡ closed_to 32 (replicate 2048 0)
-    → ruled_to ps es 117 (closed_to 32 (replicate 2048 0)) ≡ table_entries
+    → ruled_to rs 117 (closed_to 32 (replicate 2048 0)) ≡ table_entries
     → m ≡ table_entries
-ruled_all ps es n l m r e p q = r.is ∙ ap (λ (i : ℕ). ruled_to ps es i l) e ∙ ap (ruled_to ps es 117) p ∙ q
+ruled_all rs n l m r e p q = r.is ∙ ap (λ (i : ℕ). ruled_to rs i l) e ∙ ap (ruled_to rs 117) p ∙ q

@@ -13,7 +13,8 @@ use Rattle.script.specs.declared.Section.TheVariants.{Fields as fields, Methods 
 use Rattle.script.specs.Lists.{run}
 use Rattle.script.specs.Section.{most_of, size_of, count_of, record_at, record_word}
 use Rattle.script.specs.Reading.{own_signatures, own_fields, own_methods}
-use Rattle.script.specs.Asking.{Refusal, first_no}
+use Rattle.script.specs.declared.Refusal.{Refusal}
+use Rattle.script.specs.Asking.{first_no}
 use Rattle.script.specs.Questions.{parts_from, uses_in, layout_questions}
 use Rattle.script.specs.Statements.{OwnersAre, NodeIs, NodesAre}
 use Rattle.script.proofs.Lists.{run_has}

@@ -1,18 +1,18 @@
 -- Items by their roles and numbers.
 use mathlib.Core.Path.{◌≡◌, refl, sym, ap, ◌∙◌}
 use mathlib.Core.Bool.{true, ◌||◌}
-use mathlib.Core.Logic.{◌⊎◌, inl, inr}
+use mathlib.Core.Logic.{◌⊎◌, inl, inr, ⊎_elim}
 use mathlib.Core.List.{List, [], ◌∷◌}
-use Prim.Native.Nat.{ℕ, zero, suc, ◌+◌, ◌-◌, ◌/◌, ◌%◌, ◌<◌, ◌≤◌}
+use Prim.Native.Nat.{ℕ, zero, suc, ◌+◌, ◌-◌, ◌<◌, ◌≤◌}
 use native.Mathlib.Omega.{arith}
-use native.Mathlib.Nat.{add-zero}
+use native.Mathlib.Nat.{add-zero, eq-or-lt_of_le}
 use native.Mathlib.Numerals.{add-one}
 use lib.ListN.{length, get_or, drop, length-drop, length-map, get_or-map, drop_of_length-le}
 use lib.Seq.{get_or-drop, drop-cons, drop-drop}
 use lib.Dec.{eqb}
 use borrow.Author.Tests.{eq-eqb, ne_eqb}
 use Rattle.grammar.specs.Roles.{R_INTERFACE, R_CLASS, R_SIGNATURE, R_FIELD, R_METHOD}
-use Rattle.rows.specs.Rows.{Item, no_item, row_item, type_word, variable_word, one_added_if, owned, hop}
+use Rattle.rows.specs.Rows.{Item, no_item, row_item, one_added_if, owned, hop}
 use Rattle.token_words.specs.declared.Members.{Members}
 use Rattle.token_words.specs.Row.{Owns}
 use Rattle.token_words.specs.Items.{Roled, Labelled, Nested, Described, amount_at, items_of, ForRoles}
@@ -25,26 +25,6 @@ role_in {roles} {es} e {i} j k h =
 pub value_in_lem : {roles values : List ℕ} {es : List Item} → Labelled roles values es → {i : ℕ} (j k : ℕ) → j + k ≡ i → (row_item (drop j es) k).value ≡ get_or values i 0
 value_in_lem {es = es} m {i} j k h =
     ap (λ (x : Item). x.value) (get_or-drop j es k no_item) ∙ sym (get_or-map (λ (x : Item). x.value) es (j + k) no_item) ∙ rw (m.values_are, h)
-
--- the role, without its binding, of the first of the items from a token on
-pub role_here_in : {roles : List ℕ} {es : List Item} → Roled roles es → (i : ℕ) {role : ℕ} → role ≡ get_or roles i 0 → {r : ℕ} → role % 32 ≡ r → (row_item (drop i es) 0).role % 32 ≡ r
-role_here_in e i p q = rw (role_in e i 0 (add-zero i), ← p) q
-
--- words of variables and of types
-pub other_word : (e : Item) (role value : ℕ) → e.role ≡ role → e.value ≡ value → role / 32 ≡ 2 → value + 2 ≡ variable_word e
-other_word e role value r v h = rw (r, v, eq-eqb _ _ h)
-
-pub bound_word_lem : (e : Item) (role : ℕ) → e.role ≡ role → (role / 32 ≡ 2 → ⊥) → role / 32 ≡ variable_word e
-bound_word_lem e role r h = rw (r, ne_eqb _ _ h)
-
-pub unit_word : (types : ℕ) (e : Item) → e.role ≡ 8 → 0 ≡ type_word types e
-unit_word types e r = rw r
-
-pub int_word : (types : ℕ) (e : Item) → e.role ≡ 9 → types + 1 ≡ type_word types e
-int_word types e r = rw r
-
-pub named_word : (types : ℕ) (e : Item) (role value : ℕ) → e.role ≡ role → e.value ≡ value → (role ≡ 8 → ⊥) → (role ≡ 9 → ⊥) → value + 1 ≡ type_word types e
-named_word types e role value r v u i = rw (r, v, ne_eqb _ _ u, ne_eqb _ _ i)
 
 -- the items from a token on
 pub item_cons : {roles : List ℕ} {es : List Item} → Roled roles es → (i : ℕ) → i < length roles → drop i es ≡ row_item es i ∷ drop (i + 1) es
@@ -59,9 +39,6 @@ role_here {es = es} e i = sym (get_or-map (λ (x : Item). x.role) es i no_item) 
 pub record Counting (roles : List ℕ) (from i role count : ℕ) : Type 0 where
   pub bound : count + from ≤ i
   pub rest : (es : List Item) → Roled roles es → count + owned role (drop i es) ≡ owned role (drop from es)
-
-pub counting_starts : {roles : List ℕ} {from role : ℕ} → Counting roles from from role 0
-counting_starts = record { bound = omega arith; rest = λ es e. omega arith }
 
 -- nothing is counted from token i on; or token i itself, if it has the role, and what is behind it
 abbrev pub Stops : List ℕ → ℕ → Type 0
@@ -80,6 +57,13 @@ module _ {roles : List ℕ} {i : ℕ} where
   pub stops_at : i < length roles → {r : ℕ} → get_or roles i 0 ≡ r → eqb r R_INTERFACE || eqb r R_CLASS ≡ true → Stops roles i
   unfolding owned
   stops_at h p q role es e = rw (item_cons e i h, role_here e i, p, q)
+
+  pub stops_between : i < length roles → 0 < get_or roles i 0 → get_or roles i 0 < 3 → Stops roles i
+  stops_between h l u =
+      ⊎_elim
+      (λ (e : get_or roles i 0 ≡ 2). stops_at h {r = R_CLASS} e refl)
+      (λ (e : get_or roles i 0 < 2). stops_at h {r = R_INTERFACE} (omega arith) refl)
+      (eq-or-lt_of_le (omega arith))
 
   pub goes_on : i < length roles → (get_or roles i 0 ≡ R_INTERFACE → ⊥) → (get_or roles i 0 ≡ R_CLASS → ⊥) → GoesOn roles i
   unfolding owned
@@ -105,6 +89,28 @@ pub record CountingMembers (roles : List ℕ) (from i : ℕ) (m : Members) : Typ
   pub signatures : Counting roles from i R_SIGNATURE m.signatures
   pub fields : Counting roles from i R_FIELD m.fields
   pub methods : Counting roles from i R_METHOD m.methods
+
+abbrev pub Step : ℕ → ℕ → ℕ → ℕ → Type 0
+Step r role count next = ((r ≡ role) × (next ≡ count + 1)) ⊎ ((r ≡ role → ⊥) × (next ≡ count))
+
+pub members_step :
+    {roles : List ℕ} {from i : ℕ} {m next : Members}
+    → CountingMembers roles from i m
+    → i < length roles
+    → (get_or roles i 0 ≡ R_INTERFACE → ⊥)
+    → (get_or roles i 0 ≡ R_CLASS → ⊥)
+    → Step (get_or roles i 0) R_SIGNATURE m.signatures next.signatures
+    → Step (get_or roles i 0) R_FIELD m.fields next.fields
+    → Step (get_or roles i 0) R_METHOD m.methods next.methods
+    → CountingMembers roles from (i + 1) next
+members_step {roles} {i = i} n h x y s f m =
+    let g : GoesOn roles i = goes_on h x y in
+    record {
+      inside = omega arith;
+      signatures = counting_step g n.signatures s (λ e. e) (λ e. e);
+      fields = counting_step g n.fields f (λ e. e) (λ e. e);
+      methods = counting_step g n.methods m (λ e. e) (λ e. e);
+    }
 
 pub all_members : {roles : List ℕ} {from i : ℕ} {m : Members} → CountingMembers roles from i m → Stops roles i → ForRoles roles from (Owns m)
 all_members n s es e j k h =

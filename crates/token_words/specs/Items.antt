@@ -40,13 +40,6 @@ pub record Small (values : List ℕ) : Type 0 where
 pub record WithinText (text offsets : List ℕ) : Type 0 where
   pub within : (i : ℕ) → get_or offsets i 0 ≤ length text
 
--- A row is read off from token i on, of a text that declares `types` types. There are no more tokens than bytes.
-pub record RowFrom (roles values : List ℕ) (types i : ℕ) : Type 0 where
-  pub small : Small values
-  pub few_types : types + 1 < WORD
-  pub few_tokens : length roles ≤ TEXT
-  pub inside : i < length roles
-
 -- Answers for token i, which is k behind token j: in all items with the same roles, and with the same numbers.
 abbrev pub ForRoles : List ℕ → ℕ → (List Item → Type 0) → Type 0
 ForRoles roles i P = (es : List Item) → Roled roles es → (j k : ℕ) → j + k ≡ i → P (drop k (drop j es))

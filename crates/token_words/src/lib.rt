@@ -1,15 +1,23 @@
 // What the words of records are made of: what one token says, and what some tokens together say.
 #![tactic(auto)]
 
+mod behind;
+mod from;
+mod items;
 mod leaves;
+mod node;
 
 ghost use Rattle.std.specs.Prelude.{◌≡◌};
 ghost use Rattle.grammar.specs.Roles.{R_INTERFACE, R_CLASS, R_METHOD, R_SIGNATURE, R_FIELD, R_TYPE, R_UNIT, R_INT, R_NULL, R_VARIABLE, R_SELECT, R_UPDATE};
+ghost use Rattle.grammar.specs.Roles.{R_DECLARED, R_METHOD_NAME, R_BINDER, R_FIELD_USED, R_METHOD_USED};
 ghost use Rattle.grammar.specs.Roles.{R_CALL, R_LET, R_NEW, R_CAST, R_FORK, R_LOCK, R_INTEGER, R_SUM, R_NEGATIVE, BINDING, B_OTHER};
 
-pub use leaves::{hop, owned, role_at, type_word, value_at, variable_word};
+pub use from::ItemsFrom;
+pub use items::Items;
+pub use node::{Node, hop};
 
-// Roles of tokens. The definitions of the same names say what each one is.
+// Roles of tokens. The definitions of the same names say what each one is. They are numbers and no enum: a token's role and a variable's binding share the byte
+// that the passes have for each token in fixed memory.
 #[derive(Clone, Copy)]
 pub struct Roles {}
 
@@ -24,11 +32,21 @@ impl Roles {
 
     pub const FIELD: u8 = 5;
 
+    pub const DECLARED: u8 = 6;
+
     pub const TYPE: u8 = 7;
 
     pub const UNIT: u8 = 8;
 
     pub const INT: u8 = 9;
+
+    pub const METHOD_NAME: u8 = 10;
+
+    pub const BINDER: u8 = 11;
+
+    pub const FIELD_USED: u8 = 12;
+
+    pub const METHOD_USED: u8 = 13;
 
     pub const NULL: u8 = 16;
 
@@ -68,9 +86,14 @@ pub fn agreed()
     ensures method { Roles.METHOD ≡ R_METHOD }
     ensures signature { Roles.SIGNATURE ≡ R_SIGNATURE }
     ensures field { Roles.FIELD ≡ R_FIELD }
+    ensures declared { Roles.DECLARED ≡ R_DECLARED }
     ensures the_type { Roles.TYPE ≡ R_TYPE }
     ensures unit { Roles.UNIT ≡ R_UNIT }
     ensures int { Roles.INT ≡ R_INT }
+    ensures method_name { Roles.METHOD_NAME ≡ R_METHOD_NAME }
+    ensures binder { Roles.BINDER ≡ R_BINDER }
+    ensures field_used { Roles.FIELD_USED ≡ R_FIELD_USED }
+    ensures method_used { Roles.METHOD_USED ≡ R_METHOD_USED }
     ensures null { Roles.NULL ≡ R_NULL }
     ensures variable { Roles.VARIABLE ≡ R_VARIABLE }
     ensures select { Roles.SELECT ≡ R_SELECT }
@@ -96,7 +119,7 @@ pub struct Members {
     pub methods: u16,
 }
 
-// The words of a record.
+// The words of a record, which has two, three or four.
 #[derive(Clone, Copy)]
 pub enum Row {
     Two(u16, u16),

@@ -17,7 +17,7 @@ use Rattle.grammar.specs.Tokens.{Lexeme, fixed, name_token, digits_token, TEXT_E
 use Rattle.grammar.proofs.Splitting.{first_test, run_lexeme, blank_skipped, sign_taken, run_taken}
 use Rattle.grammar.proofs.Fixed.{every_true, fixed_or_lem}
 use Rattle.tokens.specs.Runs.{byte_run, word_from, digits_from}
-use Rattle.tokens.specs.Next.{K_NAME, K_DIGITS, KINDS, token_kind, lexeme_of, tokens_at, Skipped, NextIs}
+use Rattle.tokens.specs.Next.{K_NAME, K_DIGITS, KINDS, token_kind, lexeme_of, tokens_at, Skipped, TokenIs}
 use Rattle.word_kinds.specs.Words.{word_lexeme, sign_lexeme}
 use Rattle.word_kinds.proofs.RunLaws.{run_on, run_is, run_length}
 
@@ -123,16 +123,8 @@ module _ (text : List ℕ) (start : ℕ) (inside : start < length text) where
 
 -- The answers of `next_token`.
 module _ (text : List ℕ) (at start : ℕ) (skipped : Skipped text at start) where
-  pub on_end : start ≡ length text → NextIs text at (record { kind = TEXT_END; start = start; end = start })
-  on_end e =
-      record {
-        known = omega arith;
-        from = skipped.from;
-        order = omega arith;
-        within = skipped.within;
-        ended = λ _. record { none = skipped.same ∙ none_left text start (omega arith); start_is = e; end_is = e };
-        token = λ n. absurd (n refl);
-      }
+  pub on_end : start ≡ length text → tokens_at text at ≡ []
+  on_end e = skipped.same ∙ none_left text start (omega arith)
 
   answers :
       (kind end bound : ℕ) (l : Lexeme)
@@ -144,25 +136,20 @@ module _ (text : List ℕ) (at start : ℕ) (skipped : Skipped text at start) wh
       → tokens_at text start ≡ token_at start l ∷ tokens_at text end
       → (kind < bound → kind ≡ K_NAME → start + length (word_from (drop start text)) ≡ end)
       → (kind < bound → kind ≡ K_DIGITS → start + length (digits_from (drop start text)) ≡ end)
-      → NextIs text at (record { kind = kind; start = start; end = end })
+      → TokenIs text at (record { kind = kind; start = start; end = end })
   answers kind end bound l t k m i j f p q =
       let below : kind < bound = omega (arith, t.below) in
       let told : lexeme_of kind (drop start text) ≡ l = ap (λ (h : ℕ). lexeme_of h (drop start text)) k ∙ t.is in
       record {
         known = omega arith;
+        real = λ e. t.real (sym k ∙ e);
         from = skipped.from;
-        order = omega arith;
+        some = i;
         within = j;
-        ended = λ e. absurd (t.real (sym k ∙ e));
-        token =
-            λ _.
-            record {
-              first = skipped.same ∙ f ∙ ap (λ (x : Lexeme). token_at start x ∷ tokens_at text end) (sym told);
-              kind_is = ap token_kind told ∙ sym k;
-              some = i;
-              name_ends = p below;
-              digits_end = q below;
-            };
+        first = skipped.same ∙ f ∙ ap (λ (x : Lexeme). token_at start x ∷ tokens_at text end) (sym told);
+        kind_is = ap token_kind told ∙ sym k;
+        name_ends = p below;
+        digits_end = q below;
       }
 
   module _ (inside : start < length text) where
@@ -171,7 +158,7 @@ module _ (text : List ℕ) (at start : ℕ) (skipped : Skipped text at start) wh
         → letter_test (get_or text start 0) ≡ true
         → kind ≡ token_kind (word_lexeme (word_from (drop start text)))
         → end ≡ start + length (word_from (drop start text))
-        → NextIs text at (record { kind = kind; start = start; end = end })
+        → TokenIs text at (record { kind = kind; start = start; end = end })
     at_word kind end e k m =
         answers kind end K_DIGITS (word_lexeme (word_from (drop start text))) (told_word (drop start text)) k (omega arith)
         (omega (arith, ap length (run_on word_byte_test text start inside (first_on false (get_or text start 0) e))))
@@ -184,7 +171,7 @@ module _ (text : List ℕ) (at start : ℕ) (skipped : Skipped text at start) wh
         (end : ℕ)
         → digit_test (get_or text start 0) ≡ true
         → end ≡ start + length (digits_from (drop start text))
-        → NextIs text at (record { kind = K_DIGITS; start = start; end = end })
+        → TokenIs text at (record { kind = K_DIGITS; start = start; end = end })
     unfolding token_kind
     at_digits end e m =
         answers K_DIGITS end KINDS (digits_token (digits_from (drop start text))) (told_digits (drop start text)) refl (omega arith)
@@ -199,7 +186,7 @@ module _ (text : List ℕ) (at start : ℕ) (skipped : Skipped text at start) wh
         → letter_test (get_or text start 0) ≡ false
         → digit_test (get_or text start 0) ≡ false
         → kind ≡ token_kind (sign_lexeme (get_or text start 0))
-        → NextIs text at (record { kind = kind; start = start; end = start + 1 })
+        → TokenIs text at (record { kind = kind; start = start; end = start + 1 })
     at_sign kind e f k =
         answers kind (start + 1) K_NAME (sign_lexeme (get_or text start 0)) (told_sign (drop start text) (get_or text start 0)) k (omega arith)
         (omega arith)

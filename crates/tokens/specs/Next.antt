@@ -1,5 +1,5 @@
 -- The next token of a text, as the contracts of the code say it.
-use Rattle.std.specs.Prelude.{ℕ, ◌+◌, ◌≤◌, ◌<◌, ◌≡◌, false, List, [], ◌∷◌, eqb, length, drop, get_or}
+use Rattle.std.specs.Prelude.{ℕ, ◌+◌, ◌≤◌, ◌<◌, ◌≡◌, false, List, [], ◌∷◌, Option, MatchOption, eqb, length, drop, get_or}
 use Rattle.grammar.specs.Tokens.{Lexeme, fixed, name_token, digits_token, TEXT_END, chosen_lexeme, blank_test, Token, token_at, tokens_from, b_nothing}
 use Rattle.tokens.specs.declared.Next.{Next}
 use Rattle.tokens.specs.Runs.{word_from, digits_from}
@@ -25,25 +25,18 @@ pub record Skipped (text : List ℕ) (at r : ℕ) : Type 0 where
   pub within : r ≤ length text
   pub blankless : r < length text → blank_test (get_or text r 0) ≡ false
 
--- Only blanks are left: the answer stands at the text's end.
-pub record EndIs (text : List ℕ) (at : ℕ) (r : Next) : Type 0 where
-  pub none : tokens_at text at ≡ []
-  pub start_is : r.start ≡ length text
-  pub end_is : r.end ≡ length text
-
 -- The first token that is left, that its kind is this one, and how long names and digits are.
 pub record TokenIs (text : List ℕ) (at : ℕ) (r : Next) : Type 0 where
+  pub known : r.kind < KINDS
+  pub real : r.kind ≡ TEXT_END → ⊥
+  pub from : at ≤ r.start
+  pub some : r.start < r.end
+  pub within : r.end ≤ length text
   pub first : tokens_at text at ≡ token_at r.start (lexeme_of r.kind (drop r.start text)) ∷ tokens_at text r.end
   pub kind_is : token_kind (lexeme_of r.kind (drop r.start text)) ≡ r.kind
-  pub some : r.start < r.end
   pub name_ends : r.kind ≡ K_NAME → r.start + length (word_from (drop r.start text)) ≡ r.end
   pub digits_end : r.kind ≡ K_DIGITS → r.start + length (digits_from (drop r.start text)) ≡ r.end
 
--- What stands from `at` on, blanks skipped.
-pub record NextIs (text : List ℕ) (at : ℕ) (r : Next) : Type 0 where
-  pub known : r.kind < KINDS
-  pub from : at ≤ r.start
-  pub order : r.start ≤ r.end
-  pub within : r.end ≤ length text
-  pub ended : r.kind ≡ TEXT_END → EndIs text at r
-  pub token : (r.kind ≡ TEXT_END → ⊥) → TokenIs text at r
+-- What stands from `at` on, blanks skipped: a token, or nothing.
+abbrev pub NextIs : List ℕ → ℕ → Option Next → Type 0
+NextIs text at r = MatchOption r (tokens_at text at ≡ []) (TokenIs text at)

@@ -1,12 +1,13 @@
 -- Laws of lists: an array that is written over from the front, elements moved down or up in place, and a splice.
-use mathlib.Core.Path.{◌≡◌, sym, ap, ◌∙◌}
-use mathlib.Core.List.{List, [], ◌∷◌, ◌++◌}
+use mathlib.Core.Path.{◌≡◌, ap, ◌∙◌}
+use mathlib.Core.List.{List, [], ◌∷◌, ◌++◌, append_assoc}
 use Prim.Native.Nat.{ℕ, zero, suc, ◌+◌, ◌-◌, ◌≤◌, ◌<◌}
 use native.Mathlib.Nat.{zero-add, suc-add}
 use native.Mathlib.Numerals.{add-one}
 use native.Mathlib.Omega.{arith}
-use lib.ListN.{length, take, drop, get_or, set, length-set, length-append, length-take, length-drop, take-append-drop, get_or-append}
-use lib.Seq.{length-take-le, take-suc, drop-cons, append_snoc, set_at, take_at, slice, slice_empty, slice-cons, take-set-le, drop-set-lt, get_or-set_same, get_or-take, get_or-drop, get_or-append-add, take-append-add, take-take}
+use lib.ListN.{length, take, drop, get_or, set, length-set, length-append, length-take, length-drop}
+use lib.Seq.{length-take-le, take-suc, drop-cons, append_snoc, set_at, take_at, slice, take-set-le, drop-set-lt, get_or-set_same, take-append-add, take-take}
+use Rattle.std.specs.List.{copy_within}
 use Rattle.representation.specs.Preorder.{splice}
 
 module _ {ℓ} {A : Type ℓ} where
@@ -26,44 +27,9 @@ module _ {ℓ} {A : Type ℓ} where
   abbrev pub moved_down : List A → ℕ → ℕ → ℕ → List A
   moved_down l at old m = take m (take at l ++ drop (at + old) l) ++ drop m l
 
-  pub down_none : (l : List A) (at old : ℕ) → at ≤ length l → l ≡ moved_down l at old at
-  down_none l at old h = rw (take_at (take at l) (drop (at + old) l) at (length-take-le at l h)) (sym (take-append-drop at l))
-
-  -- a turn of a loop that moves them, from the front
-  pub down_turn : (l : List A) (z : A) (at old m : ℕ) → at ≤ m → m + old < length l → set (moved_down l at old m) m (get_or (moved_down l at old m) (m + old) z) ≡ moved_down l at old (m + 1)
-  down_turn l z at old m h k =
-      let cut = take at l ++ drop (at + old) l in
-      let front : length (take at l) ≡ at = length-take-le at l (omega arith) in
-      let long : length cut ≡ length l - old = simp (length-append, length-take, length-drop) (omega arith) in
-      let e : m + old ≡ length (take m cut) + old = omega (arith, length-take-le m cut (omega (arith, long))) in
-      let f : m ≡ length (take at l) + (m - at) = omega (arith, front) in
-      let g : at + old + (m - at) ≡ m + old = omega arith in
-      let read : get_or (moved_down l at old m) (m + old) z ≡ get_or l (m + old) z =
-      ap (λ (n : ℕ). get_or (moved_down l at old m) n z) e ∙ get_or-append-add (take m cut) (drop m l) old z ∙ get_or-drop m l old z
-      in
-      let next : get_or cut m z ≡ get_or l (m + old) z =
-      ap (λ (n : ℕ). get_or cut n z) f ∙ get_or-append-add (take at l) (drop (at + old) l) (m - at) z ∙ get_or-drop (at + old) l (m - at) z ∙ ap (λ (n : ℕ). get_or l n z) g
-      in
-      over_turn cut l z (get_or (moved_down l at old m) (m + old) z) m (omega (arith, long)) (omega arith) (read ∙ sym next)
-
   -- the elements from m up to u moved two places up
   abbrev pub moved_up : List A → ℕ → ℕ → List A
   moved_up l m u = take (m + 2) l ++ (slice m u l ++ drop (u + 2) l)
-
-  pub up_none : (l : List A) (u : ℕ) → l ≡ moved_up l u u
-  up_none l u = rw (slice_empty u l) (sym (take-append-drop (u + 2) l))
-
-  -- a turn of a loop that moves them, from the back
-  pub up_turn : (l : List A) (z : A) (m n u : ℕ) → n ≡ m + 1 → m < u → u + 2 ≤ length l → set (moved_up l n u) (m + 2) (get_or (moved_up l n u) m z) ≡ moved_up l m u
-  up_turn l z m n u e h k =
-      let t : n + 2 ≡ suc (m + 2) = omega arith in
-      let f : n ≡ suc m = omega arith in
-      let long : length (take (m + 2) l) ≡ m + 2 = length-take-le (m + 2) l (omega arith) in
-      let past = slice n u l ++ drop (u + 2) l in
-      let read : get_or (moved_up l n u) m z ≡ get_or l m z = get_or-append (take (n + 2) l) past z m (omega (arith, length-take-le (n + 2) l (omega arith))) ∙ get_or-take (n + 2) l m z (omega arith) in
-      let old : moved_up l n u ≡ take (m + 2) l ++ get_or l (m + 2) z ∷ past = rw (t, take-suc l (m + 2) z (omega arith)) (append_snoc (take (m + 2) l) (get_or l (m + 2) z) past) in
-      let new : moved_up l m u ≡ take (m + 2) l ++ get_or l m z ∷ past = rw (slice-cons m u l z h (omega arith), f) in
-      rw (read, old, new) (set_at (take (m + 2) l) (get_or l (m + 2) z) past (get_or l m z) (m + 2) long)
 
   -- and two others put in their place
   pub up_put : (l : List A) (z x y : A) (m u : ℕ) → m + 2 ≤ length l → set (set (moved_up l m u) m x) (m + 1) y ≡ take m l ++ (x ∷ y ∷ (slice m u l ++ drop (u + 2) l))
@@ -88,6 +54,21 @@ module _ {ℓ} {A : Type ℓ} where
   pub set_splice : (l : List A) (x : A) (i k : ℕ) (p : List A) → i < length l → i < k → take (i + 1) (set l i x) ++ (p ++ drop k (set l i x)) ≡ take i l ++ ((x ∷ p) ++ drop k l)
   set_splice l x i k p h hk =
       rw (drop-set-lt k l i x hk, add-one i, take-suc (set l i x) i x (omega (arith, length-set l i x)), take-set-le i l i x (omega arith), get_or-set_same l i x x h, append_snoc (take i l) x (p ++ drop k l))
+
+module _ {A : Type 0} where
+  -- what the library's copy within a list has put there is the elements moved down, or two places up
+  pub down_within : (l : List A) (at old n : ℕ) → at + old ≤ n → n ≤ length l → copy_within l (at + old) n at ≡ moved_down l at old (n - old)
+  down_within l at old n h k =
+      let front : length (take at l) ≡ at = length-take-le at l (omega arith) in
+      let e : n - old ≡ length (take at l) + (n - (at + old)) = omega (arith, front) in
+      let f : at + (n - (at + old)) ≡ n - old = omega arith in
+      rw (f, ap (λ (m : ℕ). take m (take at l ++ drop (at + old) l)) e, take-append-add (take at l) (drop (at + old) l) (n - (at + old)))
+
+  pub up_within : (l : List A) (at n : ℕ) → at ≤ n → copy_within l at n (at + 2) ≡ moved_up l at n
+  up_within l at n h =
+      let e : at + (n - at) ≡ n = omega arith in
+      let f : at + 2 + (n - at) ≡ n + 2 = omega arith in
+      rw (f, ← drop_take at (n - at) l, e) (append_assoc (take (at + 2) l) (slice at n l) (drop (n + 2) l))
 
 module _ {A : Type 0} (l : List A) (at old : ℕ) (new : List A) where
   -- the front of a splice of l is the splice of the front of l

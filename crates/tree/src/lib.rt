@@ -54,16 +54,11 @@ pub enum Fold {
 pub fn phase_of(x: Entry) -> Phase
     ensures { PhaseIs x result }
 {
-    let c = x.cell;
-    match c {
+    match x.cell {
         Cell::Failed => Phase::Broken,
+        Cell::Returning(_) if x.frames == 0 => Phase::Finished,
+        Cell::Returning(_) => Phase::Busy,
         Cell::Running(_, _) => Phase::Busy,
-        Cell::Returning(_) => {
-            if x.frames == 0 {
-                return Phase::Finished;
-            }
-            Phase::Busy
-        }
         Cell::Join(_, _) => Phase::Busy,
     }
 }
@@ -72,18 +67,10 @@ pub fn phase_of(x: Entry) -> Phase
 pub fn fold_by(left: Phase, right: Phase) -> Fold
     ensures { FoldIs left right result }
 {
-    match left {
-        Phase::Finished => match right {
-            Phase::Finished => Fold::GoesOn,
-            Phase::Broken => Fold::Fails,
-            Phase::Busy => Fold::Still,
-        },
-        Phase::Broken => Fold::Fails,
-        Phase::Busy => match right {
-            Phase::Finished => Fold::Still,
-            Phase::Broken => Fold::Fails,
-            Phase::Busy => Fold::Still,
-        },
+    match (left, right) {
+        (Phase::Finished, Phase::Finished) => Fold::GoesOn,
+        (Phase::Broken, _) | (_, Phase::Broken) => Fold::Fails,
+        _ => Fold::Still,
     }
 }
 
@@ -93,12 +80,9 @@ impl Tree {
         requires { Bounded self × (at + old ≤ self.len) }
         ensures { Spliced self at old [] result }
     {
-        let len = self.len - old;
-        let mut m = at;
-        while m < len {
-            self.entries[m] = self.entries[m + old];
-            m += 1;
-        }
+        let end = self.len;
+        let len = end - old;
+        self.entries.copy_within(at + old..end, at);
         self.len = len;
         self
     }
@@ -108,11 +92,8 @@ impl Tree {
         requires { Bounded self × (at ≤ self.len) × (self.len + 2 ≤ POSITIONS) }
         ensures { Spliced self at 0 (x ∷ y ∷ []) result }
     {
-        let mut m = self.len;
-        while at < m {
-            m -= 1;
-            self.entries[m + 2] = self.entries[m];
-        }
+        let end = self.len;
+        self.entries.copy_within(at..end, at + 2);
         self.entries[at] = x;
         self.entries[at + 1] = y;
         self.len += 2;

@@ -1,17 +1,18 @@
 -- Laws of stacks in arrays: the elements newest first, and behind them the rest of the array.
 use Prim.Native.Nat.{ℕ, zero, suc, ◌+◌, ◌*◌, ◌-◌, ◌/◌, ◌<◌, ◌≤◌}
 use mathlib.Core.Path.{◌≡◌, refl, sym, ap, ◌∙◌, subst}
-use mathlib.Core.Bool.{Bool, true, false, cond}
+use mathlib.Core.Bool.{Bool, false, cond}
 use mathlib.Core.List.{List, [], ◌∷◌, reverse, reverse_aux, reverse_aux-eq}
 use native.Mathlib.Omega.{arith}
 use native.Mathlib.Numerals.{add-one}
 use lib.ListN.{length, get_or, set, drop, length-set, length-reverse, length-reverse_aux}
-use lib.Seq.{set_at, get_or_at, set_out}
-use borrow.Author.Tests.{le-leb, lt-leb}
+use lib.Seq.{set_at, get_or_at}
+use borrow.Author.Tests.{le-leb}
 use Rattle.grammar.specs.Roles.{BINDING}
 use Rattle.flat.specs.declared.Turn.{Turn}
 use Rattle.flat.specs.Flat.{top_of, settled, replaced_last, role_by, roles_by, closers_by, pops_test, kept_by, PUSH_LET, CLOSERS, POINTS}
-use Rattle.turns.specs.Stacks.{Stacked, Closers}
+use Rattle.std.specs.Prelude.{Option, Some, None}
+use Rattle.turns.specs.Stacks.{Stacked, Closers, TopIs, top_number}
 
 set_seam : (l : List ℕ) (a : ℕ) (rest : List ℕ) (v : ℕ) → set (reverse_aux l (a ∷ rest)) (length l) v ≡ reverse_aux l (v ∷ rest)
 set_seam l a rest v =
@@ -33,23 +34,21 @@ get_onto (a ∷ l) rest zero h = let e : suc (length l) - 1 ≡ length l = omega
 get_onto (a ∷ l) rest (suc i) h =
     let e : suc (length l) - suc (suc i) ≡ length l - suc i = omega arith in rw e (get_onto l (a ∷ rest) i (omega arith))
 
--- The top.
-pub top_none : (array : List ℕ) (n : ℕ) → n ≡ 0 → (l rest : List ℕ) → Stacked array n l rest → 0 ≡ top_of l
-top_none array n z [] rest s = refl
-top_none array n z (a ∷ l) rest s = absurd (omega (arith, s.high))
+-- The top, and the number that the machine has for it.
+pub number_there : (top : Option ℕ) (cs : List ℕ) → TopIs top cs → top_number top ≡ top_of cs
+number_there None cs e = rw e
+number_there (Some c) cs e = rw e
 
-pub top_some : (array : List ℕ) (n : ℕ) → (n ≡ 0 → ⊥) → (l rest : List ℕ) → Stacked array n l rest → get_or array (n - 1) 0 ≡ top_of l
-top_some array n z [] rest s = absurd (omega (arith, s.high))
-top_some array n z (a ∷ l) rest s = let e : n - 1 ≡ length l = omega (arith, s.high) in rw (e, s.holds) (get_seam l a rest)
+pub head_of : List ℕ → Option ℕ
+head_of [] = None
+head_of (c ∷ cs) = Some c
+
+pub head_is : (cs : List ℕ) → TopIs (head_of cs) cs
+unfolding head_of
+head_is [] = refl
+head_is (c ∷ cs) = refl
 
 -- Elements settled and replaced.
-pub settled_none : (array : List ℕ) (n d r : ℕ) → d ≡ 0 → (l rest : List ℕ) → Stacked array n l rest → Stacked array n (settled d r l) rest
-settled_none array n d r z l rest s = rw z s
-
-pub settled_out : (array : List ℕ) (n d r : ℕ) → n < d → (l rest : List ℕ) → Stacked array n l rest → Stacked array n (settled d r l) rest
-settled_out array n zero r h l rest s = absurd (omega arith)
-settled_out array n (suc i) r h l rest s = rw (set_out l i (r + BINDING * (get_or l i 0 / BINDING)) (omega (arith, s.high))) s
-
 pub settled_in :
     (array : List ℕ) (n d r : ℕ)
     → (d ≡ 0 → ⊥)
@@ -67,14 +66,6 @@ settled_in array n (suc i) r z h l rest s =
       holds = rw (w, e, s.holds) (set_onto l rest i (r + BINDING * (get_or l i 0 / BINDING)) low);
       high = s.high ∙ sym (length-set l i (r + BINDING * (get_or l i 0 / BINDING)));
     }
-
-pub replaced_none : (array : List ℕ) (n r : ℕ) → r ≡ 0 → (l rest : List ℕ) → Stacked array n l rest → Stacked array n (replaced_last r l) rest
-replaced_none array n r z l rest s = rw z s
-
-pub replaced_out : (array : List ℕ) (n r : ℕ) → n ≡ 0 → (l rest : List ℕ) → Stacked array n l rest → Stacked array n (replaced_last r l) rest
-replaced_out array n zero z l rest s = s
-replaced_out array n (suc r) z [] rest s = s
-replaced_out array n (suc r) z (a ∷ l) rest s = absurd (omega (arith, s.high))
 
 pub replaced_in :
     (array : List ℕ) (n r : ℕ)
@@ -114,21 +105,6 @@ role_put roles roles₁ roles₂ n m own r f g e low l rest s =
     (pushed roles₂ n r (replaced_last m.before settled-l) rest low (g settled-l rest (f l rest s)))
 
 -- Closers: one is taken off, none is touched, one is pushed.
-pub popped_none :
-    (array : List ℕ) (n d : ℕ) (v own : Bool) → pops_test d ≡ true → n ≡ 0 → (cs : List ℕ) → Closers array n cs → Closers array 0 (closers_by d v own cs)
-popped_none array n d v own p z [] c = rw p (record { rest = c.rest; stacked = record { holds = c.stacked.holds; high = refl } })
-popped_none array n d v own p z (a ∷ cs) c = absurd (omega (arith, c.stacked.high))
-
-pub popped_one :
-    (array : List ℕ) (n d : ℕ) (v own : Bool) → pops_test d ≡ true → (n ≡ 0 → ⊥) → (cs : List ℕ) → Closers array n cs → Closers array (n - 1) (closers_by d v own cs)
-popped_one array n d v own p z [] c = absurd (omega (arith, c.stacked.high))
-popped_one array n d v own p z (a ∷ cs) c =
-    rw p (record { rest = a ∷ c.rest; stacked = record { holds = c.stacked.holds; high = omega (arith, c.stacked.high) } })
-
-pub kept_all :
-    (array : List ℕ) (n d : ℕ) (v own : Bool) → pops_test d ≡ false → d < 11 → (cs : List ℕ) → Closers array n cs → Closers array n (closers_by d v own cs)
-kept_all array n d v own p h cs c = rw (p, lt-leb PUSH_LET d h) c
-
 pub pushed_one :
     (array : List ℕ) (n d r : ℕ) (v own : Bool)
     → pops_test d ≡ false

@@ -1,5 +1,5 @@
 -- Laws of what a token does, one for each answer of the code.
-use Prim.Native.Nat.{◌≤◌, ℕ, ◌%◌}
+use Prim.Native.Nat.{◌≤◌, ℕ}
 use mathlib.Core.Path.{◌≡◌, refl, sym, ap, ◌∙◌}
 use mathlib.Core.Bool.{Bool, true, false, cond}
 use mathlib.Core.List.{List, [], ◌∷◌}
@@ -12,15 +12,16 @@ use Rattle.grammar.specs.Tokens.{Spelling, same_spelling, fixed, name_token, dig
 use Rattle.tokens.specs.Next.{K_NAME, K_DIGITS, lexeme_of}
 use Rattle.tokens.specs.Runs.{word_from, digits_from, byte_run}
 use Rattle.flat.specs.declared.Turn.{Turn}
-use Rattle.flat.specs.Flat.{turn_at, turn_under, closer_turn, stuck_turn, top_of, own_test, CLOSE, BINDS, LEAVE, POINTS}
+use Rattle.flat.specs.Flat.{turn_at, turn_under, closer_turn, stuck_turn, own_test, CLOSE, BINDS, LEAVE}
 use Rattle.table.specs.Table.{TurnIs, Tight}
+use Rattle.std.specs.Prelude.{Option}
 use Rattle.turns.specs.Stacks.{TurnUnder, ParameterIs}
 
 -- A point's own token; a token that is left to closers, where there is none; and one that the innermost closer takes or not.
-pub under_own : (p depth top k : ℕ) (m : Turn) → TurnIs p k m → (m.deed ≡ CLOSE → ⊥) → TurnUnder p depth top k m
-under_own p depth top k m t n =
+pub under_own : (p : ℕ) (top : Option ℕ) (k : ℕ) (m : Turn) → TurnIs p k m → (m.deed ≡ CLOSE → ⊥) → TurnUnder p top k m
+under_own p top k m t n =
     record {
-      is = λ cs s d o.
+      is = λ cs s o.
           let e : m ≡ turn_at p (lexeme_of k s) = t.is s in
           let c : eqb (turn_at p (lexeme_of k s)).deed CLOSE ≡ false = rw (← e) (ne_eqb m.deed CLOSE n) in
           e ∙ ap (λ (q : Bool). cond q (closer_turn cs (lexeme_of k s)) (turn_at p (lexeme_of k s))) (sym c);
@@ -42,21 +43,6 @@ tight_stuck k =
       before_low = omega arith;
       binds_name = λ b. absurd (omega arith);
     }
-
-pub under_none : (p depth top k : ℕ) (m : Turn) → TurnIs p k m → m.deed ≡ CLOSE → depth ≡ 0 → TurnUnder p depth top k stuck_turn
-under_none p depth top k m t h z = record { is = go; tight = tight_stuck k }
-  where
-    go : (cs s : List ℕ) → depth ≡ length cs → top ≡ top_of cs → stuck_turn ≡ turn_under p cs (lexeme_of k s)
-    go [] s d o = left_to_closers p k m [] s t h
-    go (c ∷ cs) s d o = absurd (omega arith)
-
-pub under_closer :
-    (p depth top k : ℕ) (m r : Turn) → TurnIs p k m → m.deed ≡ CLOSE → (depth ≡ 0 → ⊥) → TurnIs (top % POINTS) k r → TurnUnder p depth top k r
-under_closer p depth top k m r t h z u = record { is = go; tight = u.tight }
-  where
-    go : (cs s : List ℕ) → depth ≡ length cs → top ≡ top_of cs → r ≡ turn_under p cs (lexeme_of k s)
-    go [] s d o = absurd (z d)
-    go (c ∷ cs) s d o = u.is s ∙ ap (λ (n : ℕ). turn_at (n % POINTS) (lexeme_of k s)) o ∙ left_to_closers p k m (c ∷ cs) s t h
 
 -- The parameter's own name.
 pub name_here : (s : List ℕ) (k : ℕ) → k ≡ K_NAME → lexeme_of k s ≡ name_token (word_from s)
@@ -99,6 +85,3 @@ bound_here text k start d p h n w = record { within = w; spells = rw (eq-eqb d B
 pub left_none : (text : List ℕ) (k start d p : ℕ) → (d ≡ BINDS → ⊥) → d ≡ LEAVE → ParameterIs text k start d p (length text)
 unfolding byte_run
 left_none text k start d p n h = record { within = omega arith; spells = rw (ne_eqb d BINDS n, eq-eqb d LEAVE h, drop-length text) }
-
-pub bound_still : (text : List ℕ) (k start d p : ℕ) → (d ≡ BINDS → ⊥) → (d ≡ LEAVE → ⊥) → p ≤ length text → ParameterIs text k start d p p
-bound_still text k start d p n m w = record { within = w; spells = rw (ne_eqb d BINDS n, ne_eqb d LEAVE m) }

@@ -1,22 +1,19 @@
-// The two stacks of the machine: the roles of the tokens read, of which the last few may still be settled, and the closers waited for.
+// The two stacks of the machine: the roles of the tokens read, of which the last few may still be settled, and the closers waited for. Each is an array that
+// the caller lends, with its height beside it: there is no heap, and what is above the height counts too, as room.
 ghost use Rattle.std.specs.Prelude.{◌≡◌, List, ℕ, ◌+◌, ◌<◌, ◌≤◌, length};
 ghost use Rattle.grammar.specs.Roles.{BINDING};
-ghost use Rattle.flat.specs.Flat.{top_of, settled, replaced_last, roles_by, closers_by};
-ghost use Rattle.table.specs.Table.{Tight};
-ghost use Rattle.turns.specs.Stacks.{Stacked, Restacked, Pushed, Closers};
+ghost use Rattle.flat.specs.Flat.{settled, replaced_last, roles_by, closers_by};
+ghost use Rattle.turns.specs.Stacks.{Stacked, Restacked, Pushed, Closers, TopIs};
 
 use crate::{closer, pops, role_of};
 use flat::Turn;
 
-// The innermost closer, or 0 if there is none.
-pub fn top_of(closers: &[u8], depth: usize) -> u8
+// The innermost closer, if there is one.
+pub fn top_of(closers: &[u8], depth: usize) -> Option<u8>
     requires { depth ≤ length closers.now }
-    ensures { (cs rest : List ℕ) → Stacked closers.now depth cs rest → result ≡ top_of cs }
+    ensures { (cs rest : List ℕ) → Stacked closers.now depth cs rest → TopIs result cs }
 {
-    if depth == 0 {
-        return 0;
-    }
-    closers[depth - 1]
+    closers[..depth].last().copied()
 }
 
 // Settles the role of the token `back` tokens back; its binding stays.
@@ -25,10 +22,7 @@ fn settle(roles: &mut [u8], count: usize, back: u8, becomes: u8)
     ensures { Restacked roles.old count (settled back becomes) roles.new }
 {
     let d = back as usize;
-    if d == 0 {
-        return;
-    }
-    if count < d {
+    if d == 0 || count < d {
         return;
     }
     let i = count - d;
@@ -41,18 +35,14 @@ fn replace_last(roles: &mut [u8], count: usize, before: u8)
     requires { count ≤ length roles.old }
     ensures { Restacked roles.old count (replaced_last before) roles.new }
 {
-    if before == 0 {
-        return;
+    if before != 0 && count != 0 {
+        roles[count - 1] = before;
     }
-    if count == 0 {
-        return;
-    }
-    roles[count - 1] = before;
 }
 
 // Settles earlier roles, and appends the token's own.
-pub fn put_role(roles: &mut [u8], count: usize, kind: u8, m: Turn, own: bool)
-    requires { (count < length roles.old) × Tight kind m }
+pub fn put_role(roles: &mut [u8], count: usize, m: Turn, own: bool)
+    requires { (count < length roles.old) × (m.role < BINDING) × (m.becomes < BINDING) }
     ensures { Pushed roles.old count (roles_by m own) roles.new }
 {
     settle(roles, count, m.back, m.becomes);
@@ -67,10 +57,7 @@ pub fn put_closer(closers: &mut [u8], depth: usize, deed: u8, visible: bool, own
     ensures by_index { (cs : List ℕ) → Closers closers.old depth cs → Closers closers.new result (closers_by deed visible own cs) }
 {
     if pops(deed) {
-        if depth == 0 {
-            return 0;
-        }
-        return depth - 1;
+        return depth.saturating_sub(1);
     }
     if deed < flat::PUSH_LET {
         return depth;

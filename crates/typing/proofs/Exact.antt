@@ -13,7 +13,8 @@ use Rattle.script.specs.declared.Section.TheVariants.{Interfaces as interfaces, 
 use Rattle.script.specs.Section.{sections, count_of, record_at}
 use Rattle.script.specs.Syntax.{Point, Method, Interface, lists, extends, Class, declaration_at, an_interface, a_class}
 use Rattle.script.specs.Reading.{interface_at, class_at, program_of}
-use Rattle.script.specs.Asking.{rank_of, Refusal, first_no, lowest_in, Each, Lowest}
+use Rattle.script.specs.declared.Refusal.{Refusal}
+use Rattle.script.specs.Asking.{rank_of, first_no, lowest_in, Each, Lowest}
 use Rattle.script.specs.Questions.{layout_questions}
 use Rattle.script.specs.Statements.{WithinLayout}
 use Rattle.script.specs.Regular.{RegularInterface}
@@ -22,9 +23,8 @@ use Rattle.script.proofs.Declarations.{is_interface, interface_at_lem, interface
 use Rattle.script.proofs.Lowest.{no_more, asked, passed, lowest, lowest_none, ask_records}
 use Rattle.script.proofs.LayoutLaws.{Before, at_first, length_is, counts_are, places_are, interfaces_are, owners_are, types_are, nodes_are, names_are, LayoutSays, all_yes, first_no_lem, layout_says, within_layout, layout_passes}
 use Rattle.script.proofs.Regular.{regular}
-use Rattle.typing.specs.declared.Answer.{Answer}
-use Rattle.typing.specs.declared.Verdict.{Verdict}
-use Rattle.typing.specs.declared.Verdict.TheVariants.{Accepted, Refused}
+use Rattle.std.specs.declared.result.Result.TheVariants.{Ok}
+use Rattle.typing.specs.Answers.{Answer, Verdict, refusal}
 use Rattle.typing.specs.Typing.{Body, bodies_of, walk}
 use Rattle.typing.specs.Check.{joins_test, classes_test, member_questions, refused_or, walked, check_of}
 use Rattle.typing.specs.Published.{MsigsFunction, Infer, WfInterface, WF-INTERFACE, WF-INTERFACE-EXTENDS, WF-FIELD, WF-METHOD, WfMethod, WfClass, WF-CLASS, WfProgram, WF-PROGRAM}
@@ -115,15 +115,15 @@ module _ (s : List ℕ) (w : WithinLayout s) where
   bodies_pass f b m = let i = body_in (program_of s) b m in check_of_lem (method_of (f b.class i.class i.declared) i.there)
 
   -- A program that the rules type is accepted, with its type.
-  accepts : {t : ℕ} → WfProgram (program_of s) t → check_of s ≡ Accepted t
+  accepts : {t : ℕ} → WfProgram (program_of s) t → check_of s ≡ Ok t
   unfolding check_of member_questions first_no
   accepts {t} (WF-PROGRAM one wi wc h) =
       rw (layout_passes s w, lowest_none joins_lowest (joins_pass one), lowest_none (classes_lowest one) (classes_pass wc), walk_complete (program_of s) (regular s w) one (bodies_of (program_of s)) t (bodies_pass wc) h)
 
 -- What Check's answer says: the script is within layout and limits and the rules give its program this type, or the refusal is the first no.
 pub data Says (s : List ℕ) : Verdict → Type 0 where
-  accepted : {t : ℕ} → WithinLayout s → WfProgram (program_of s) t → Says s (Accepted t)
-  refused : {q : Question} {place : ℕ} → FirstNo s q place → Says s (Refused q place)
+  accepted : {t : ℕ} → WithinLayout s → WfProgram (program_of s) t → Says s (Ok t)
+  refused : {q : Question} {place : ℕ} → FirstNo s q place → Says s (refusal q place)
 
 module _ (s : List ℕ) (w : WithinLayout s) (b : Before s Joins) where
   -- a no of the walk, after a yes to questions 1 to 10
@@ -159,14 +159,14 @@ check_says s = go (first_no (layout_questions s)) refl (layout_says s)
     go none e (all_yes b) = members_say s (within_layout s e) b
     go (some r) e (first_no_lem n) = refused (first s n)
 
-accepted_typed : {s : List ℕ} {t : ℕ} → Says s (Accepted t) → WfProgram (program_of s) t
+accepted_typed : {s : List ℕ} {t : ℕ} → Says s (Ok t) → WfProgram (program_of s) t
 accepted_typed (accepted w h) = h
 
-refused_first : {s : List ℕ} {q : Question} {place : ℕ} → Says s (Refused q place) → FirstNo s q place
+refused_first : {s : List ℕ} {q : Question} {place : ℕ} → Says s (refusal q place) → FirstNo s q place
 refused_first (refused n) = n
 
 -- Exactness, demand 2: a script within layout and limits is accepted with type t exactly when the published rules give its program type t.
-pub exact : (s : List ℕ) → WithinLayout s → (t : ℕ) → (check_of s ≡ Accepted t) ↔ WfProgram (program_of s) t
+pub exact : (s : List ℕ) → WithinLayout s → (t : ℕ) → (check_of s ≡ Ok t) ↔ WfProgram (program_of s) t
 exact s w t = (λ e. accepted_typed (rw e at (check_says s)), accepts s w)
 
 -- There is one such type at most.
@@ -174,10 +174,10 @@ pub one_type : (s : List ℕ) → WithinLayout s → (t u : ℕ) → WfProgram (
 one_type s w t u h k = let a = accepts s w h in let b = accepts s w k in cc
 
 -- A script that is not within layout and limits is refused.
-pub outside_refused : (s : List ℕ) (t : ℕ) → check_of s ≡ Accepted t → WithinLayout s
+pub outside_refused : (s : List ℕ) (t : ℕ) → check_of s ≡ Ok t → WithinLayout s
 outside_refused s t e = go (rw e at (check_says s))
   where
-    go : Says s (Accepted t) → WithinLayout s
+    go : Says s (Ok t) → WithinLayout s
     go (accepted w h) = w
 
 module _ (s : List ℕ) where
@@ -195,7 +195,7 @@ module _ (s : List ℕ) where
         names_are = f Names (omega arith);
       }
 
-  walk_refuses : (q : Question) (place : ℕ) → ((r : Question) → rank_of r < 10 → Yes s r) → NodeNo s q place → check_of s ≡ Refused q place
+  walk_refuses : (q : Question) (place : ℕ) → ((r : Question) → rank_of r < 10 → Yes s r) → NodeNo s q place → check_of s ≡ refusal q place
   unfolding check_of member_questions first_no
   walk_refuses q place f n =
       let w = layout_before f in
@@ -211,7 +211,7 @@ module _ (s : List ℕ) where
       (names_are w.names_are (nodes_are w.nodes_are (types_are w.types_are (owners_are w.owners_are (interfaces_are w.interfaces_are (places_are w.places_are (counts_are w.counts_are (length_is w.length_is at_first))))))))))
 
   -- the answer of a script with a first no before the walk
-  early_refuses : (q : Question) (place : ℕ) → FirstNo s q place → rank_of q ≤ 9 → (statement_of s q ≡ of_walk → ⊥) → {v : Verdict} → Says s v → v ≡ Refused q place
+  early_refuses : (q : Question) (place : ℕ) → FirstNo s q place → rank_of q ≤ 9 → (statement_of s q ≡ of_walk → ⊥) → {v : Verdict} → Says s v → v ≡ refusal q place
   early_refuses q place n h e (accepted w k) = absurd (yes_no s q place (statement_of s q) e (accepted_yes w k q (omega arith)) n.no)
   early_refuses q place n h e (refused {q = r} {place = other} m) =
       ⊎_elim
@@ -223,7 +223,7 @@ module _ (s : List ℕ) where
       (eq-or-lt_of_le l))
       (lt_or_le (rank_of q) (rank_of r))
     where
-      same : (r : Question) (other : ℕ) → r ≡ q → No s r other → Refused r other ≡ Refused q place
+      same : (r : Question) (other : ℕ) → r ≡ q → No s r other → refusal r other ≡ refusal q place
       same r other d m =
           let o : No s q other = rw d at m in
           let c : other ≡ place = same_place_lem s q q other place (statement_of s q) e o n.no in
@@ -234,9 +234,9 @@ module _ (s : List ℕ) where
       earlier r other g y m (on_walk k d) = omega arith
 
 -- The refusal is the first no, and there is one at most: Check refuses with a question and a place exactly where that question gets the first no, at that place.
-pub refused_exact : (s : List ℕ) (q : Question) (place : ℕ) → (check_of s ≡ Refused q place) ↔ FirstNo s q place
+pub refused_exact : (s : List ℕ) (q : Question) (place : ℕ) → (check_of s ≡ refusal q place) ↔ FirstNo s q place
 refused_exact s q place = (λ e. refused_first (rw e at (check_says s)), λ n. go n (order s q))
   where
-    go : FirstNo s q place → Order s q → check_of s ≡ Refused q place
+    go : FirstNo s q place → Order s q → check_of s ≡ refusal q place
     go n (before_walk h e) = early_refuses s q place n h e (check_says s)
     go n (on_walk h e) = walk_refuses s q place (λ r l. n.before r (omega arith)) (rw e at n.no)

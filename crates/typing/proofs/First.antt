@@ -8,7 +8,8 @@ use native.Mathlib.Nat.{eq-or-lt_of_le, le_of_suc-le-suc, le_antisymm}
 use lib.ListN.{get_or}
 use Rattle.script.specs.declared.Question.{Question}
 use Rattle.script.specs.declared.Question.TheVariants.{Length, Counts, Places, Interfaces, Owners, Types, Nodes, Names, Joins, Classes, Variables, Nulls, Members, Fits, Sharing}
-use Rattle.script.specs.Asking.{rank_of, Refusal, Asks}
+use Rattle.script.specs.declared.Refusal.{Refusal}
+use Rattle.script.specs.Asking.{rank_of, Asks}
 use Rattle.script.proofs.Lowest.{fault_not}
 use Rattle.script.proofs.LayoutLaws.{Before, at_first, length_is, counts_are, places_are, interfaces_are, owners_are, types_are, nodes_are, names_are, LayoutNo, length_no, counts_no, places_no, interfaces_no, owners_no, types_no, nodes_no, names_no}
 use Rattle.script.specs.Syntax.{Point, Expr, Slot, Program}

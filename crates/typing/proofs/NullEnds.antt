@@ -10,8 +10,8 @@ use Rattle.script.specs.declared.Question.TheVariants.{Nulls, Fits}
 use Rattle.script.specs.Syntax.{Point, Expr, null, var, select, update, call, bind, new, cast, fork, lock, constant, add, point_of, is_null, Slot, Program}
 use Rattle.script.specs.Asking.{Decides, holds, fails}
 use Rattle.typing.specs.declared.Aim.TheVariants.{Infers as infers, Checks as checks}
-use Rattle.typing.specs.declared.Answer.{Answer}
-use Rattle.typing.specs.declared.Answer.TheVariants.{Typed, Faulty}
+use Rattle.std.specs.declared.result.Result.TheVariants.{Ok}
+use Rattle.typing.specs.Answers.{Answer, faulty}
 use Rattle.typing.specs.Typing.{fits, answer, inferred, checked}
 use Rattle.typing.specs.Published.{WfType, Sub, NullFits, Infer, BD-INFER-LET, BD-INFER-LOCK, BD-INFER-FJ, Check, BD-CHECK-NULL, BD-CHECK-SUB, BD-CHECK-LET, BD-CHECK-LOCK, BD-CHECK-FJ}
 use Rattle.typing.specs.Refusals.{last_of}
@@ -57,11 +57,11 @@ null_ends h i f (BD-CHECK-FJ d k l c) = BD-CHECK-FJ d k l (null_ends h i f c)
 -- What is inferred, and what is checked against t, where the innermost last part is the null k: the same no, or 12 at that null and a yes if null fits t, else
 -- 14 there.
 pub data NullEnd (p : Program) (k : Point) (t : ℕ) : Answer → Answer → Type 0 where
-  same_no : {q : Question} {n : Point} → NullEnd p k t (Faulty q n) (Faulty q n)
-  now_typed : NullFits p t → NullEnd p k t (Faulty Nulls k) (Typed t)
-  now_unfit : (NullFits p t → ⊥) → NullEnd p k t (Faulty Nulls k) (Faulty Fits k)
+  same_no : {q : Question} {n : Point} → NullEnd p k t (faulty q n) (faulty q n)
+  now_typed : NullFits p t → NullEnd p k t (faulty Nulls k) (Ok t)
+  now_unfit : (NullFits p t → ⊥) → NullEnd p k t (faulty Nulls k) (faulty Fits k)
 
-null_aimed : {p : Program} {k : Point} {t : ℕ} {b : Bool} → Decides (NullFits p t) b → NullEnd p k t (Faulty Nulls k) (fits b k t)
+null_aimed : {p : Program} {k : Point} {t : ℕ} {b : Bool} → Decides (NullFits p t) b → NullEnd p k t (faulty Nulls k) (fits b k t)
 null_aimed (holds f) = now_typed f
 null_aimed (fails n) = now_unfit n
 

@@ -16,8 +16,9 @@ use Rattle.script.proofs.Declarations.{class_from}
 use Rattle.script.proofs.Regular.{regular}
 use Rattle.script.proofs.Reading.{first, second, third, expr_at_lem, in_order, every_node}
 use Rattle.typing.specs.declared.Aim.{Aim}
-use Rattle.typing.specs.declared.Answer.{Answer}
-use Rattle.typing.specs.declared.Answer.TheVariants.{Faulty}
+use Rattle.std.specs.declared.result.Result.TheVariants.{Err}
+use Rattle.typing.specs.declared.Fault.{Fault}
+use Rattle.typing.specs.Answers.{Answer, faulty}
 use Rattle.typing.specs.Typing.{Body, bodies_of, walk}
 use Rattle.typing.specs.Refusals.{last_of, ExprNo, null_inferred, var_unbound, select_unbound, update_unbound, call_unbound, lock_unbound, left_unbound, right_unbound, select_missing, update_missing, call_missing, lock_int, fork_shares, update_part, call_part, cast_part, lock_part, let_first, let_last, fork_left, fork_right, fork_last, left_unfit, right_unfit, null_unfit, not_below}
 use Rattle.typing.proofs.Bodies.{body_in}
@@ -120,10 +121,10 @@ module _ (s : List ℕ) (w : WithinLayout s) where
   unfolding program_of
   start_below = below_at s w 0 w.counts_are.a_node
 
-  no_there : {r : Answer} → Walked (program_of s) (bodies_of (program_of s)) r → (q : Question) (k : Point) → r ≡ Faulty q k → k < count_of s nodes
-  no_there (walks f h) q k e = absurd (let z : ◌≡◌ {A = ℕ} 0 1 = cc in omega arith)
-  no_there (halts {k = j} n) q k e = let d : k ≡ j = cc in rw d (walk_below n (count_of s nodes) body_below start_below)
+  no_there : {r : Answer} → Walked (program_of s) (bodies_of (program_of s)) r → (f : Fault) → r ≡ Err f → f.node < count_of s nodes
+  no_there (walks g h) f e = absurd (let z : ◌≡◌ {A = ℕ} 0 1 = cc in omega arith)
+  no_there (halts {q = q} {k = j} n) f e = let d : f ≡ record { question = q; node = j } = cc in rw d (walk_below n (count_of s nodes) body_below start_below)
 
   -- The walk's refusal stands at a node of the script.
-  pub fault_there : (q : Question) (k : Point) → walk (program_of s) (bodies_of (program_of s)) ≡ Faulty q k → k < count_of s nodes
-  fault_there q k e = no_there (walked_by (program_of s) (regular s w) (bodies_of (program_of s)) (body_in (program_of s))) q k e
+  pub fault_there : (q : Question) (k : Point) → walk (program_of s) (bodies_of (program_of s)) ≡ faulty q k → k < count_of s nodes
+  fault_there q k e = no_there (walked_by (program_of s) (regular s w) (bodies_of (program_of s)) (body_in (program_of s))) (record { question = q; node = k }) e

@@ -16,8 +16,8 @@ use Rattle.script.proofs.Declarations.{a_class_at, int_declared, declared_int}
 use Rattle.script.proofs.Tests.{no_said, yes_said, decides_and}
 use Rattle.typing.specs.declared.Aim.{Aim}
 use Rattle.typing.specs.declared.Aim.TheVariants.{Infers as infers, Checks as checks}
-use Rattle.typing.specs.declared.Answer.{Answer}
-use Rattle.typing.specs.declared.Answer.TheVariants.{Typed, Faulty}
+use Rattle.std.specs.declared.result.Result.TheVariants.{Ok, Err}
+use Rattle.typing.specs.Answers.{Answer, faulty}
 use Rattle.typing.specs.Environments.{TypeOf, of_lock}
 use Rattle.typing.specs.Members.{below, type_in, field_in, method_in}
 use Rattle.typing.specs.Typing.{fv, shares, and_then, or_faulty, unless_shared, fits, lock_no, use_no, unless_no, aimed, answer, inferred, checked}
@@ -32,9 +32,9 @@ use Rattle.typing.proofs.Members.{found_some, found_not, type_found, field_found
 
 -- What an answer says of an expression: its type by the rules, or the first no.
 pub data Judged (p : Program) (Γ : List Slot) (e : Expr) : Aim → Answer → Type 0 where
-  types : {t : ℕ} → Infer p Γ e t → Judged p Γ e infers (Typed t)
-  passes : {t : ℕ} → Check p Γ e t → Judged p Γ e (checks t) (Typed t)
-  refuses : {a : Aim} {q : Question} {k : Point} → ExprNo p Γ e a q k → Judged p Γ e a (Faulty q k)
+  types : {t : ℕ} → Infer p Γ e t → Judged p Γ e infers (Ok t)
+  passes : {t : ℕ} → Check p Γ e t → Judged p Γ e (checks t) (Ok t)
+  refuses : {a : Aim} {q : Question} {k : Point} → ExprNo p Γ e a q k → Judged p Γ e a (faulty q k)
 
 -- The wanted type is a type.
 abbrev pub AimType : Program → Aim → Type 0
@@ -44,7 +44,7 @@ AimType p (checks t) = IsType p t
 -- how a property of an answer follows from what it is put together of
 by_found :
     {A : Type 0} (P : Answer → Type 0) (q : Question) (n : Point) (o : Option A) (k : A → Answer)
-    → (o ≡ none → P (Faulty q n))
+    → (o ≡ none → P (faulty q n))
     → ((a : A) → o ≡ some a → P (k a))
     → P (or_faulty q n o k)
 by_found P q n none k f g = f refl
@@ -52,7 +52,7 @@ by_found P q n (some a) k f g = g a refl
 
 by_variable :
     (P : Answer → Type 0) (n : Point) (Γ : List Slot) (x : ℕ) (k : ℕ → Answer)
-    → (((t : ℕ) → TypeOf Γ x t → ⊥) → P (Faulty Variables n))
+    → (((t : ℕ) → TypeOf Γ x t → ⊥) → P (faulty Variables n))
     → ((t : ℕ) → TypeOf Γ x t → P (k t))
     → P (or_faulty Variables n (type_in Γ x) k)
 by_variable P n Γ x k f g = by_found P Variables n (type_in Γ x) k (λ h. f ((untyped_exactly Γ x).0 h)) (λ t h. g t ((typed_exactly Γ x t).0 h))
@@ -60,8 +60,8 @@ by_variable P n Γ x k f g = by_found P Variables n (type_in Γ x) k (λ h. f ((
 by_inferred :
     {p : Program} {Γ : List Slot} {e : Expr} {r : Answer} (P : Answer → Type 0)
     → Judged p Γ e infers r
-    → ((q : Question) (n : Point) → ExprNo p Γ e infers q n → P (Faulty q n))
-    → ((t : ℕ) → Infer p Γ e t → P (Typed t))
+    → ((q : Question) (n : Point) → ExprNo p Γ e infers q n → P (faulty q n))
+    → ((t : ℕ) → Infer p Γ e t → P (Ok t))
     → P r
 by_inferred P (types {t} h) f g = g t h
 by_inferred P (refuses {q = q} {k = n} h) f g = f q n h
@@ -69,8 +69,8 @@ by_inferred P (refuses {q = q} {k = n} h) f g = f q n h
 by_checked :
     {p : Program} {Γ : List Slot} {e : Expr} {t : ℕ} {r : Answer} (P : Answer → Type 0)
     → Judged p Γ e (checks t) r
-    → ((q : Question) (n : Point) → ExprNo p Γ e (checks t) q n → P (Faulty q n))
-    → (Check p Γ e t → P (Typed t))
+    → ((q : Question) (n : Point) → ExprNo p Γ e (checks t) q n → P (faulty q n))
+    → (Check p Γ e t → P (Ok t))
     → P r
 by_checked P (passes h) f g = g h
 by_checked P (refuses {q = q} {k = n} h) f g = f q n h
@@ -78,20 +78,20 @@ by_checked P (refuses {q = q} {k = n} h) f g = f q n h
 by_sharing :
     (P : Answer → Type 0) (n : Point) (r : Answer) (e₁ e₂ : Expr) {b : Bool}
     → Decides (SharedVariable e₁ e₂) b
-    → (SharedVariable e₁ e₂ → P (Faulty Sharing n))
+    → (SharedVariable e₁ e₂ → P (faulty Sharing n))
     → (Disjoint e₁ e₂ → P r)
     → P (unless_shared b n r)
 by_sharing P n r e₁ e₂ (holds h) f g = f h
 by_sharing P n r e₁ e₂ (fails h) f g = g (λ x l m. absurd (h (record { variable = x; left = l; right = m })))
 
 -- the second of two variables is not bound
-either_no : (n : Point) (o : Option ℕ) → or_faulty Variables n o (λ t. Faulty Variables n) ≡ Faulty Variables n
+either_no : (n : Point) (o : Option ℕ) → or_faulty Variables n o (λ t. faulty Variables n) ≡ faulty Variables n
 either_no n none = refl
 either_no n (some t) = refl
 
 module _ (p : Program) where
   -- a no, whatever the aim
-  still_no : {r : Answer} {k : Point} {q : Question} (n : Point) (a : Aim) → r ≡ Faulty q k → aimed p n a r ≡ Faulty q k
+  still_no : {r : Answer} {k : Point} {q : Question} (n : Point) (a : Aim) → r ≡ faulty q k → aimed p n a r ≡ faulty q k
   still_no n infers e = e
   still_no n (checks t) e = rw e
 
@@ -144,7 +144,7 @@ module _ (p : Program) (ok : Regular p) where
   Aimed : List Slot → Expr → Aim → Answer → Type 0
   Aimed Γ e a r = Judged p Γ e a (aimed p (point_of e) a r)
 
-  aim_no : {Γ : List Slot} {e : Expr} {q : Question} {k : Point} (a : Aim) → ExprNo p Γ e a q k → Aimed Γ e a (Faulty q k)
+  aim_no : {Γ : List Slot} {e : Expr} {q : Question} {k : Point} (a : Aim) → ExprNo p Γ e a q k → Aimed Γ e a (faulty q k)
   unfolding Aimed
   aim_no infers h = refuses h
   aim_no (checks t) h = refuses h
@@ -154,7 +154,7 @@ module _ (p : Program) (ok : Regular p) where
   unfit l h (holds s) = passes (BD-CHECK-SUB h s (infer_null h))
   unfit l h (fails s) = refuses (not_below h s l)
 
-  aim_yes : {Γ : List Slot} {e : Expr} {t : ℕ} (a : Aim) → point_of (last_of e) ≡ point_of e → Infer p Γ e t → Aimed Γ e a (Typed t)
+  aim_yes : {Γ : List Slot} {e : Expr} {t : ℕ} (a : Aim) → point_of (last_of e) ≡ point_of e → Infer p Γ e t → Aimed Γ e a (Ok t)
   unfolding Aimed
   aim_yes infers l h = types h
   aim_yes {t = t} (checks u) l h = unfit l h (decides_below p ok t u (infer_type h))
@@ -212,7 +212,7 @@ module _ (p : Program) (ok : Regular p) where
       (λ t h. by_found (Aimed Γ (update n x g e) a) Members n (field_in p t g) _
       (λ k. aim_no a (update_missing h (field_none p ok t g k)))
       (λ u k. let l = (field_in_lem p ok t g u).0 k in
-      by_checked (λ r. Aimed Γ (update n x g e) a (and_then r (λ v. Typed 0))) (judged Γ e (checks u) w (field_type p ok l) f)
+      by_checked (λ r. Aimed Γ (update n x g e) a (and_then r (λ v. Ok 0))) (judged Γ e (checks u) w (field_type p ok l) f)
       (λ q m c. aim_no a (update_part h l c))
       (λ c. aim_yes a refl (BD-INFER-UPDATE (BD-INFER-VAR w h) c l any_field))))
   judged Γ (call n x m e) a w i f =
@@ -220,7 +220,7 @@ module _ (p : Program) (ok : Regular p) where
       (λ t h. by_found (Aimed Γ (call n x m e) a) Members n (method_in p t m) _
       (λ k. aim_no a (call_missing h (method_none p ok t m k)))
       (λ g k. let l = method_in_lem p ok t m g k in
-      by_checked (λ r. Aimed Γ (call n x m e) a (and_then r (λ v. Typed g.result))) (judged Γ e (checks g.param) w (signature_types p ok l.0).param f)
+      by_checked (λ r. Aimed Γ (call n x m e) a (and_then r (λ v. Ok g.result))) (judged Γ e (checks g.param) w (signature_types p ok l.0).param f)
       (λ q j c. aim_no a (call_part h l.0 l.1 c))
       (λ c. aim_yes a refl (rw l.1 at (BD-INFER-CALL (BD-INFER-VAR {n = n} w h) c l.0 any_method)))))
   judged Γ (bind n x e₁ e₂) a w i f =
@@ -249,10 +249,10 @@ module _ (p : Program) (ok : Regular p) where
       (λ u k. sum_judged n a w h k (decides_int p t) (decides_int p u)))
 
   -- So a type that is inferred is one that the rules give.
-  pub inferred_typed : (Γ : List Slot) (e : Expr) (t : ℕ) → WfEnv p Γ → Formed p e → inferred p Γ e ≡ Typed t → Infer p Γ e t
+  pub inferred_typed : (Γ : List Slot) (e : Expr) (t : ℕ) → WfEnv p Γ → Formed p e → inferred p Γ e ≡ Ok t → Infer p Γ e t
   inferred_typed Γ e t w f = go (judged Γ e infers w tt f)
     where
-      go : {r : Answer} → Judged p Γ e infers r → r ≡ Typed t → Infer p Γ e t
+      go : {r : Answer} → Judged p Γ e infers r → r ≡ Ok t → Infer p Γ e t
       go (types {t = u} h) e = let q : u ≡ t = cc in rw q at h
       go (refuses h) e = absurd (let z : ◌≡◌ {A = ℕ} 0 1 = cc in omega arith)
 
@@ -271,10 +271,10 @@ infer_ends (BD-INFER-INT w d) = refl
 infer_ends (BD-INFER-ADD h k d) = refl
 
 -- Answers with two aims are related as those of the innermost last part are, if every no is related to itself.
-module _ (p : Program) (R : Answer → Answer → Type 0) (same : (q : Question) (n : Point) → R (Faulty q n) (Faulty q n)) where
+module _ (p : Program) (R : Answer → Answer → Type 0) (same : (q : Question) (n : Point) → R (faulty q n) (faulty q n)) where
   last_after : (r : Answer) (f g : ℕ → Answer) → ((t : ℕ) → R (f t) (g t)) → R (and_then r f) (and_then r g)
-  last_after (Typed t) f g h = h t
-  last_after (Faulty q n) f g h = same q n
+  last_after (Ok t) f g h = h t
+  last_after (Err k) f g h = same k.question k.node
 
   last_apart : (b : Bool) (n : Point) (r o : Answer) → R r o → R (unless_shared b n r) (unless_shared b n o)
   last_apart true n r o h = same _ n
@@ -335,7 +335,7 @@ module _ (p : Program) (ok : Regular p) (one : MsigsFunction p) where
     unfolding answer
 
     -- Every type that the rules give is the walk's answer.
-    pub infer_complete : {Γ : List Slot} {e : Expr} {t : ℕ} → Infer p Γ e t → inferred p Γ e ≡ Typed t
+    pub infer_complete : {Γ : List Slot} {e : Expr} {t : ℕ} → Infer p Γ e t → inferred p Γ e ≡ Ok t
     infer_complete (BD-INFER-VAR w h) = rw (type_in_lem h)
     infer_complete (BD-INFER-LET {x = x} h k) = rw (infer_complete h) (infer_complete k)
     infer_complete (BD-INFER-CALL (BD-INFER-VAR w h) c m o) = rw (type_in_lem h, method_only p ok one _ _ m, check_complete c)
@@ -348,7 +348,7 @@ module _ (p : Program) (ok : Regular p) (one : MsigsFunction p) where
     infer_complete (BD-INFER-INT {t = t} w d) = rw (declared_int p t d)
     infer_complete (BD-INFER-ADD {t = t} (BD-INFER-VAR w h) (BD-INFER-VAR v k) d) = rw (type_in_lem h, type_in_lem k, yes_said (decides_int p t) d, declared_int p t d)
 
-    pub check_complete : {Γ : List Slot} {e : Expr} {t : ℕ} → Check p Γ e t → checked p Γ e t ≡ Typed t
+    pub check_complete : {Γ : List Slot} {e : Expr} {t : ℕ} → Check p Γ e t → checked p Γ e t ≡ Ok t
     check_complete (BD-CHECK-NULL {t = t} w i o) = rw (yes_said (null_fits_exactly p t) o)
     check_complete (BD-CHECK-SUB {Γ = Γ} {e = e} {t = t} h s n) = rw (checked_as p Γ e t (infer_ends h), infer_complete h, below_true s)
     check_complete (BD-CHECK-LET h c) = rw (infer_complete h) (check_complete c)
@@ -356,7 +356,7 @@ module _ (p : Program) (ok : Regular p) (one : MsigsFunction p) where
     check_complete (BD-CHECK-FJ {e₁ = e₁} {e₂ = e₂} d h k c) = rw (apart e₁ e₂ d, infer_complete h, infer_complete k) (check_complete c)
 
   -- Every first no is the walk's answer, so there is only one.
-  pub no_complete : {Γ : List Slot} {e : Expr} {a : Aim} {q : Question} {k : Point} → ExprNo p Γ e a q k → answer p Γ e a ≡ Faulty q k
+  pub no_complete : {Γ : List Slot} {e : Expr} {a : Aim} {q : Question} {k : Point} → ExprNo p Γ e a q k → answer p Γ e a ≡ faulty q k
   unfolding answer
   no_complete null_inferred = refl
   no_complete (var_unbound {Γ = Γ} {x = x} {a = a} h) = still_no p _ a (rw ((untyped_exactly Γ x).1 h))

@@ -9,8 +9,8 @@ use Rattle.script.specs.Lists.{◌∈◌}
 use Rattle.script.specs.Syntax.{Point, Program}
 use Rattle.script.specs.Regular.{Regular}
 use Rattle.typing.specs.declared.Aim.TheVariants.{Infers as infers, Checks as checks}
-use Rattle.typing.specs.declared.Answer.{Answer}
-use Rattle.typing.specs.declared.Answer.TheVariants.{Typed, Faulty}
+use Rattle.std.specs.declared.result.Result.TheVariants.{Ok}
+use Rattle.typing.specs.Answers.{Answer, faulty}
 use Rattle.typing.specs.Environments.{body_env}
 use Rattle.typing.specs.Typing.{and_then, checked, Body, walk}
 use Rattle.typing.specs.Published.{T-WF-CLASS, WfEnv, WF-ENV, MsigsFunction, Infer, Check}
@@ -34,8 +34,8 @@ pub data ListNo (p : Program) : List Body → Question → Point → Type 0 wher
 
 -- What the walk's answer says: every body passes and the start has this type, or the first no.
 pub data Walked (p : Program) (l : List Body) : Answer → Type 0 where
-  walks : {t : ℕ} → ((b : Body) → b ∈ l → BodyChecks p b) → Infer p [] p.start t → Walked p l (Typed t)
-  halts : {q : Question} {k : Point} → ListNo p l q k → Walked p l (Faulty q k)
+  walks : {t : ℕ} → ((b : Body) → b ∈ l → BodyChecks p b) → Infer p [] p.start t → Walked p l (Ok t)
+  halts : {q : Question} {k : Point} → ListNo p l q k → Walked p l (faulty q k)
 
 no_env : (p : Program) → WfEnv p []
 no_env p = WF-ENV (λ b m. absurd (Memᴰ.not-nil m))
@@ -72,12 +72,12 @@ module _ (p : Program) (ok : Regular p) where
 
 module _ (p : Program) (ok : Regular p) (one : MsigsFunction p) where
   -- And what the rules give is its answer: a type, and the first no.
-  pub walk_complete : (l : List Body) (t : ℕ) → ((b : Body) → b ∈ l → BodyChecks p b) → Infer p [] p.start t → walk p l ≡ Typed t
+  pub walk_complete : (l : List Body) (t : ℕ) → ((b : Body) → b ∈ l → BodyChecks p b) → Infer p [] p.start t → walk p l ≡ Ok t
   unfolding walk
   walk_complete [] t f h = infer_complete p ok one h
   walk_complete (b ∷ l) t f h = rw (check_complete p ok one (f b (Memᴰ.head refl))) (walk_complete l t (λ c m. f c (Memᴰ.tail m)) h)
 
-  pub walk_no_complete : {l : List Body} {q : Question} {k : Point} → ListNo p l q k → walk p l ≡ Faulty q k
+  pub walk_no_complete : {l : List Body} {q : Question} {k : Point} → ListNo p l q k → walk p l ≡ faulty q k
   unfolding walk
   walk_no_complete (after_all h) = no_complete p ok one h
   walk_no_complete (in_body c) = rw (no_complete p ok one c)

@@ -7,12 +7,11 @@ use Rattle.script.specs.declared.Section.TheVariants.{Interfaces as interfaces, 
 use Rattle.script.specs.Section.{record_at}
 use Rattle.script.specs.Syntax.{Signature, Interface, lists, extends, Class, Program}
 use Rattle.script.specs.Reading.{interface_at, class_at, program_of}
-use Rattle.script.specs.Asking.{number_of, Asked, Refusal, first_no, lowest_in}
+use Rattle.script.specs.declared.Refusal.{Refusal}
+use Rattle.script.specs.Asking.{number_of, Asked, first_no, lowest_in}
 use Rattle.script.specs.Questions.{all_of, layout_questions}
-use Rattle.typing.specs.declared.Answer.{Answer}
-use Rattle.typing.specs.declared.Answer.TheVariants.{Typed, Faulty}
-use Rattle.typing.specs.declared.Verdict.{Verdict}
-use Rattle.typing.specs.declared.Verdict.TheVariants.{Accepted, Refused}
+use Rattle.std.specs.declared.result.Result.TheVariants.{Ok, Err}
+use Rattle.typing.specs.Answers.{Answer, Verdict, refusal}
 use Rattle.typing.specs.Members.{meaning, own_method}
 use Rattle.typing.specs.Typing.{bodies_of, walk}
 
@@ -58,12 +57,12 @@ member_questions s p =
 
 abbrev pub refused_or : Option Refusal → Verdict → Verdict
 refused_or none r = r
-refused_or (some f) r = Refused f.question f.place
+refused_or (some f) r = Err f
 
 -- Questions 11 to 15, with the node's record as the place.
 abbrev pub walked : List ℕ → Answer → Verdict
-walked s (Typed t) = Accepted t
-walked s (Faulty q n) = Refused q (record_at s nodes n)
+walked s (Ok t) = Ok t
+walked s (Err f) = refusal f.question (record_at s nodes f.node)
 
 -- "Check goes through 1 to 15", and "answers the start's type".
 unfoldable pub check_of : List ℕ → Verdict
@@ -76,13 +75,13 @@ check_of s =
 -- Document 01's numbers for each answer: "A refusal returns its number and place, with every other number 0", and
 -- "A call that is not refused has number 0 and place 0."
 abbrev pub verdict_number : Verdict → ℕ
-verdict_number (Accepted t) = 0
-verdict_number (Refused q place) = number_of q
+verdict_number (Ok t) = 0
+verdict_number (Err r) = number_of r.question
 
 abbrev pub verdict_place : Verdict → ℕ
-verdict_place (Accepted t) = 0
-verdict_place (Refused q place) = place
+verdict_place (Ok t) = 0
+verdict_place (Err r) = r.place
 
 abbrev pub verdict_type : Verdict → ℕ
-verdict_type (Accepted t) = t
-verdict_type (Refused q place) = 0
+verdict_type (Ok t) = t
+verdict_type (Err _) = 0

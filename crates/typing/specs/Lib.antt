@@ -1,5 +1,6 @@
 pub mod Environments
 pub mod Members
+pub mod Answers
 pub mod Typing
 pub mod Check
 pub mod Published

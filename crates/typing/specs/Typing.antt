@@ -8,8 +8,8 @@ use Rattle.script.specs.Syntax.{Point, Expr, null, var, select, update, call, bi
 use Rattle.script.specs.Syntax.{Program, int_of}
 use Rattle.typing.specs.declared.Aim.{Aim}
 use Rattle.typing.specs.declared.Aim.TheVariants.{Infers as infers, Checks as checks}
-use Rattle.typing.specs.declared.Answer.{Answer}
-use Rattle.typing.specs.declared.Answer.TheVariants.{Typed, Faulty}
+use Rattle.std.specs.declared.result.Result.TheVariants.{Ok, Err}
+use Rattle.typing.specs.Answers.{Answer, faulty}
 use Rattle.typing.specs.Environments.{Use, of_field, of_method, of_lock, body_env}
 use Rattle.typing.specs.Members.{below, type_in, field_in, method_in}
 
@@ -43,22 +43,22 @@ shares (x ∷ l) m = is_in x m || shares l m
 
 -- Go on with a type, or hand the fault on.
 abbrev pub and_then : Answer → (ℕ → Answer) → Answer
-and_then (Typed t) k = k t
-and_then (Faulty q n) k = Faulty q n
+and_then (Ok t) k = k t
+and_then (Err f) k = Err f
 
 -- Go on with what was found, or question q gets a no at node n.
 abbrev pub or_faulty : {A : Type 0} → Question → Point → Option A → (A → Answer) → Answer
-or_faulty q n none k = Faulty q n
+or_faulty q n none k = faulty q n
 or_faulty q n (some a) k = k a
 
 abbrev pub unless_shared : Bool → Point → Answer → Answer
-unless_shared true n r = Faulty Sharing n
+unless_shared true n r = faulty Sharing n
 unless_shared false n r = r
 
 -- "Is each inferred type below the wanted one?"
 abbrev pub fits : Bool → Point → ℕ → Answer
-fits true n t = Typed t
-fits false n t = Faulty Fits n
+fits true n t = Ok t
+fits false n t = faulty Fits n
 
 -- Is it Int?
 abbrev pub int_test : Program → ℕ → Bool
@@ -81,7 +81,7 @@ use_no p n (of_lock t) = lock_no (int_test p t)
 
 abbrev pub unless_no : Option Question → Point → Answer → Answer
 unless_no none n r = r
-unless_no (some q) n r = Faulty q n
+unless_no (some q) n r = faulty q n
 
 -- What is inferred for node n, asked with this aim: "Every other node is checked by inferring and asking whether the result is below the wanted type."
 abbrev pub aimed : Program → Point → Aim → Answer → Answer
@@ -92,23 +92,23 @@ aimed p n (checks t) r = and_then r (λ u. fits (below p u t) n t)
 -- operand. Let, lock and fork infer the type of their last part", and "when a let, a lock or a fork is checked against a type, its last part is checked against
 -- that same type": the aim goes on.
 unfoldable pub answer : Program → List Slot → Expr → Aim → Answer
-answer p Γ (null n) infers = Faulty Nulls n
+answer p Γ (null n) infers = faulty Nulls n
 answer p Γ (null n) (checks t) = fits (null_test p t) n t
-answer p Γ (var n x) a = aimed p n a (or_faulty Variables n (type_in Γ x) (λ t. Typed t))
+answer p Γ (var n x) a = aimed p n a (or_faulty Variables n (type_in Γ x) (λ t. Ok t))
 answer p Γ (select n x f) a =
     aimed p n a
-    (or_faulty Variables n (type_in Γ x) (λ t. or_faulty Members n (field_in p t f) (λ u. unless_no (use_no p n (of_field t f)) n (Typed u))))
+    (or_faulty Variables n (type_in Γ x) (λ t. or_faulty Members n (field_in p t f) (λ u. unless_no (use_no p n (of_field t f)) n (Ok u))))
 answer p Γ (update n x f e) a =
     aimed p n a
     (or_faulty Variables n (type_in Γ x)
-    (λ t. or_faulty Members n (field_in p t f) (λ u. unless_no (use_no p n (of_field t f)) n (and_then (answer p Γ e (checks u)) (λ v. Typed 0)))))
+    (λ t. or_faulty Members n (field_in p t f) (λ u. unless_no (use_no p n (of_field t f)) n (and_then (answer p Γ e (checks u)) (λ v. Ok 0)))))
 answer p Γ (call n x m e) a =
     aimed p n a
     (or_faulty Variables n (type_in Γ x)
     (λ t. or_faulty Members n (method_in p t m)
-    (λ g. unless_no (use_no p n (of_method t m)) n (and_then (answer p Γ e (checks g.param)) (λ v. Typed g.result)))))
+    (λ g. unless_no (use_no p n (of_method t m)) n (and_then (answer p Γ e (checks g.param)) (λ v. Ok g.result)))))
 answer p Γ (bind n x e₁ e₂) a = and_then (answer p Γ e₁ infers) (λ t. answer p (record { name = x; type = t } ∷ Γ) e₂ a)
-answer p Γ (new n c) a = aimed p n a (Typed c)
+answer p Γ (new n c) a = aimed p n a (Ok c)
 answer p Γ (cast n t e) a = aimed p n a (answer p Γ e (checks t))
 answer p Γ (fork n e₁ e₂ e₃) a =
     let r = and_then (answer p Γ e₁ infers) (λ t. and_then (answer p Γ e₂ infers) (λ u. answer p Γ e₃ a)) in
@@ -117,7 +117,7 @@ answer p Γ (lock n x e) a =
     let r = answer p Γ e a in
     or_faulty Variables n (type_in Γ x) (λ t. unless_no (use_no p n (of_lock t)) n r)
 -- "kind 11 adds variables a and b, both bound (11), then both of type Int (14)"
-answer p Γ (constant n z) a = aimed p n a (Typed (int_of p))
+answer p Γ (constant n z) a = aimed p n a (Ok (int_of p))
 answer p Γ (add n x y) a =
     aimed p n a
     (or_faulty Variables n (type_in Γ x) (λ t. or_faulty Variables n (type_in Γ y) (λ u. fits (int_test p t && int_test p u) n (int_of p))))

@@ -3,6 +3,7 @@
 
 use script::Question;
 
+// Each variant is an arrow of the paper, so neither is the lack of the other, as None would be.
 // How an expression is asked for its type: it is inferred, or checked against a type. Figure 11's arrows ⇒ and ⇐.
 #[derive(Clone, Copy)]
 pub enum Aim {
@@ -10,16 +11,9 @@ pub enum Aim {
     Checks(u16),
 }
 
-// What the walk over an expression comes to: its type, or the question that gets a no and the node.
+// A no to a question of the walk over an expression, and the node that it gets it at.
 #[derive(Clone, Copy)]
-pub enum Answer {
-    Typed(u16),
-    Faulty(Question, u16),
-}
-
-// What Check answers: the start's type, or the question that gets a no and the place.
-#[derive(Clone, Copy)]
-pub enum Verdict {
-    Accepted(u16),
-    Refused(Question, u16),
+pub struct Fault {
+    pub question: Question,
+    pub node: u16,
 }

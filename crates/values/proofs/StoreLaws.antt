@@ -6,11 +6,11 @@ use mathlib.Core.Option.{none, some}
 use Prim.Native.Nat.{ℕ, suc, ◌+◌, ◌-◌, ◌<◌, ◌≤◌}
 use native.Mathlib.Omega.{arith}
 use borrow.Author.Tests.{not-false}
-use lib.ListN.{length, get_or}
+use lib.ListN.{length}
 use lib.IntN.{ℤ}
 use Rattle.words.specs.Integer.{InRange}
 use Rattle.words.proofs.Integers.{range_exactly}
-use Rattle.limits.specs.Limits.{INTERFACES, CLASS_FIELDS}
+use Rattle.limits.specs.Limits.{CLASS_FIELDS}
 use Rattle.script.specs.declared.Section.TheVariants.{Fields as fields}
 use Rattle.script.specs.Lists.{run, sum_below}
 use Rattle.script.specs.Section.{record_word}
@@ -18,16 +18,12 @@ use Rattle.script.specs.Syntax.{Class, a_class, int_of, declaration_at}
 use Rattle.script.specs.Reading.{own_fields, field_at, class_at, program_of}
 use Rattle.script.specs.Asking.{Decides}
 use Rattle.script.specs.Questions.{all_of}
-use Rattle.script.specs.Statements.{WithinLayout}
 use Rattle.script.proofs.Lists.{length_run}
 use Rattle.script.proofs.Tests.{yes_said, no_said, decides_and, decides_lt, decides_le, and_no}
 use Rattle.script.proofs.Declarations.{a_class_at, length_interfaces, length_classes}
 use Rattle.subtypes.specs.declared.Declared.{Declared}
 use Rattle.subtypes.specs.declared.Declared.TheVariants.{Interface as is_interface, Class as is_class, Neither as is-neither}
-use Rattle.subtypes.specs.Tables.{Starts}
 use Rattle.subtypes.specs.Subtypes.{DeclaredAs}
-use Rattle.members.specs.Lookup.{RunAt}
-use Rattle.members.proofs.LookupLaws.{fields_run}
 use Rattle.subtypes.proofs.SubtypeLaws.{class_there, type_neither, type_interface, type_class}
 use Rattle.machine.specs.declared.Value.{Value}
 use Rattle.machine.specs.declared.Value.TheVariants.{Int as int}
@@ -45,8 +41,8 @@ use Rattle.values.specs.Objects.{ObjectsInOrder, field_value_at, object_at, obje
 use Rattle.values.proofs.ReadLaws.{objects_read, object_run, object_past}
 
 -- a block that is in order is asked
-pub ordered_asked : {s b : List ℕ} → WithinLayout s → InOrder (field_count s) b → ObjectsInOrder s b
-ordered_asked w o = record { script = w; long = o.long; small = o.small; objects = o.areas Objects }
+pub ordered_asked : {s b : List ℕ} → InOrder (field_count s) b → ObjectsInOrder s b
+ordered_asked o = record { long = o.long; small = o.small; objects = o.areas Objects }
 
 module _ {s b : List ℕ} (a : ObjectsInOrder s b) where
   -- an object that is there, and one that is not
@@ -171,11 +167,13 @@ module _ {s b : List ℕ} (a : ObjectsInOrder s b) where
         in
         rw no refl
 
-    pub object_interface : {k : ℕ} → d ≡ is_interface k → false ≡ object_fits (code_of s) (objects_in s b) (object_at (field_count s) b i)
-    object_interface q = no_class (λ c k. let x = type_interface h q in let z : ◌≡◌ {A = ℕ} 0 1 = cc in omega arith)
-
-    pub object_neither : d ≡ is-neither → false ≡ object_fits (code_of s) (objects_in s b) (object_at (field_count s) b i)
-    object_neither q = no_class (λ c k. rw k at (type_neither h q))
+    pub object_no_class : ((k : ℕ) → d ≡ is_class k → ⊥) → false ≡ object_fits (code_of s) (objects_in s b) (object_at (field_count s) b i)
+    object_no_class n = no_class (go d refl)
+      where
+        go : (x : Declared) → d ≡ x → (c : Class) → declaration_at (program_of s) class ≡ a_class c → ⊥
+        go (is_interface k) q c l = let x = type_interface h q in let z : ◌≡◌ {A = ℕ} 0 1 = cc in omega arith
+        go (is_class k) q c l = n k q
+        go is-neither q c l = rw l at (type_neither h q)
 
     module _ {k : ℕ} (q : d ≡ is_class k) where
       own : fields_of (program_of s) class ≡ run (field_at s) (sum_below (own_fields s) k) (own_fields s k)
@@ -188,20 +186,14 @@ module _ {s b : List ℕ} (a : ObjectsInOrder s b) where
       pub own_few : i < counted b Objects → own_fields s k ≤ CLASS_FIELDS
       own_few l = omega (arith, own_many, ap (field_count s) e, (a.objects.records.each i l).few)
 
-      pub own_run : {starts : List ℕ} → Starts s starts → RunAt s fields k starts (INTERFACES + k)
-      own_run st = fields_run a.script st k (class_there h q).0
-
       pub object_class :
-          {starts : List ℕ} → Starts s starts → (from count : ℕ) (r : Bool)
-          → from ≡ get_or starts (INTERFACES + k) 0
-          → count ≡ own_fields s k
+          (from count : ℕ) (r : Bool) → from ≡ sum_below (own_fields s) k → count ≡ own_fields s k
           → r ≡ fields_test (code_of s) (objects_in s b) (run (field_at s) from count) (run (field_value_at b i) 0 count)
           → r ≡ object_fits (code_of s) (objects_in s b) (object_at (field_count s) b i)
-      object_class st from count r p g f =
+      object_class from count r p g f =
           let c = class_there h q in
           let w : word_in b Objects i CLASS ≡ class = sym e in
-          let at : from ≡ sum_below (own_fields s) k = p ∙ (own_run st).start in
           let yes : is_class_test (code_of s) (object_at (field_count s) b i) ≡ true =
           yes_said class_test_lem (omega (arith, c, length_interfaces s, length_classes s), omega (arith, c, length_interfaces s, length_classes s))
           in
-          f ∙ rw yes (rw (w, own, length_run (field_at s) (sum_below (own_fields s) k) (own_fields s k), at, g) refl)
+          f ∙ rw yes (rw (w, own, length_run (field_at s) (sum_below (own_fields s) k) (own_fields s k), p, g) refl)

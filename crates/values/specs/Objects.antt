@@ -1,7 +1,6 @@
 -- The objects of a block, one by one.
 use Rattle.std.specs.Prelude.{ℕ, ◌<◌, ◌≡◌, Bool, ◌&&◌, List, length, get_or}
 use Rattle.limits.specs.Limits.{BLOCK}
-use Rattle.script.specs.Statements.{WithinLayout}
 use Rattle.machine.specs.declared.Value.{Value}
 use Rattle.machine.specs.Config.{Code, Object}
 use Rattle.typing.specs.Members.{fields_of}
@@ -13,9 +12,8 @@ use Rattle.block.specs.Values.{value_in}
 use Rattle.block.specs.Decode.{object_in}
 use Rattle.representation.specs.InOrder.{AreaOk}
 
--- What the code of the question relies on: questions 1 to 8 got a yes, the block has the bytes of a block, and its objects are in order.
+-- What the code of the question relies on beside the script: the block has the bytes of a block, and its objects are in order.
 pub record ObjectsInOrder (s b : List ℕ) : Type 0 where
-  pub script : WithinLayout s
   pub long : length b ≡ BLOCK
   pub small : (i : ℕ) → get_or b i 0 < 256
   pub objects : AreaOk (field_count s) b Objects

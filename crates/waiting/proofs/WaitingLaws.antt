@@ -8,8 +8,8 @@ use Prim.Native.Nat.{ℕ, zero, suc, ◌<◌, ◌≤◌}
 use native.Mathlib.Omega.{arith}
 use lib.ListN.{length, get_or, set, length-set}
 use Rattle.words.specs.Word.{bytes}
-use Rattle.script.specs.declared.Found.{Found}
-use Rattle.script.specs.declared.Found.TheVariants.{At, Nothing}
+use Rattle.std.specs.declared.option.Option.{Option as CodeOption}
+use Rattle.std.specs.declared.option.Option.TheVariants.{Some, None}
 use Rattle.script.specs.Lists.{◌∈◌}
 use Rattle.script.specs.Syntax.{Program}
 use Rattle.sections.specs.Laid.{found_of}
@@ -71,15 +71,15 @@ module _ {b : List ℕ} {i : ℕ} {x : Rest} {st : Stores} {u : machine.Tree} (s
   opens_none o n e l = rw (shut_absent false st.objects o (omega (arith, objects_counted s))) s
 
   -- a field that the object's class does not have, and one that it has
-  module _ (p : Program) (o class f : ℕ) (v : Value) (y : Object) (h : object st.objects o ≡ some y) (e : class ≡ word_in b Objects o 0) (found : Found)
+  module _ (p : Program) (o class f : ℕ) (v : Value) (y : Object) (h : object st.objects o ≡ some y) (e : class ≡ word_in b Objects o 0) (found : CodeOption ℕ)
       (q : found ≡ found_of (field_number (fields_of p class) f)) where
-    pub writes_none : found ≡ Nothing
+    pub writes_none : found ≡ None
         → StateAt b i x (record { objects = set_fields (set_field v (fields_of p y.class) y.fields f) st.objects o; bindings = st.bindings }) u
     writes_none k =
         let n : field_number (fields_of p y.class) f ≡ none = found_nothing (field_number (fields_of p y.class) f) found (rw (class_read s o class y h e) at q) k in
         rw (set_none (fields_of p y.class) y.fields f v n, fields_same st.objects o y h) s
 
-    pub writes : {c : List ℕ} (k : ℕ) → length y.fields ≡ length (fields_of p y.class) → found ≡ At k → Storable v → PutsField b c o k v
+    pub writes : {c : List ℕ} (k : ℕ) → length y.fields ≡ length (fields_of p y.class) → found ≡ Some k → Storable v → PutsField b c o k v
         → StateAt c i x (record { objects = set_fields (set_field v (fields_of p y.class) y.fields f) st.objects o; bindings = st.bindings }) u
     writes {c} k own a fits stored =
         let ds = fields_of p y.class in

@@ -3,8 +3,6 @@ ghost use Rattle.std.specs.Prelude.{◌≡◌, false, List, ◌∷◌, ℕ, ◌<
 ghost use Rattle.std.proofs.Math.Option.{some};
 ghost use Rattle.limits.specs.Limits.{BLOCK, OBJECTS};
 ghost use Rattle.script.specs.Reading.{program_of};
-ghost use Rattle.script.specs.Statements.{WithinLayout};
-ghost use Rattle.subtypes.specs.Tables.{Starts};
 ghost use Rattle.machine.specs.declared.Frame.{Frame};
 ghost use Rattle.machine.specs.declared.Frame.TheVariants.{Casts as casts, Locks as locks};
 ghost use Rattle.machine.specs.Config as machine;
@@ -19,14 +17,14 @@ ghost use Rattle.moves.specs.Performs.{Performs, OwnFields};
 ghost use Rattle.moves.specs.AtFrame.{AtFrame, AtFrameIn};
 
 use block::{Area, Layout};
-use environments::Lookup;
+use limits::Limits;
 use machine::Value;
-use moves::{Effect, WaitingMember, fails, target_of};
-use script::Found;
+use moves::{Effect, Member, fails, target_of};
+use subtypes::Script;
 use tree::Cell;
 
 // "a waiting cast vanishes"
-pub fn drop_cast(block: &mut [u8], i: usize, v: Value) -> Effect
+pub fn drop_cast(block: &mut [u8; Limits::BLOCK], i: usize, v: Value) -> Effect
     requires { AtFrame block.old i v }
     ensures { (rest : Rest) (st : Stores) (n : ℕ) (fs : List Frame) →
         StateAt block.old i rest st (returning v (casts n ∷ fs)) →
@@ -37,21 +35,20 @@ pub fn drop_cast(block: &mut [u8], i: usize, v: Value) -> Effect
 }
 
 // The object o opened, if there is one.
-fn open_object(block: &mut [u8], o: u16)
-    requires { (length block.old ≡ BLOCK) × (counted block.old Objects ≤ OBJECTS) }
+fn open_object(block: &mut [u8; Limits::BLOCK], o: u16)
+    requires { counted block.old Objects ≤ OBJECTS }
     ensures { (i : ℕ) (rest : Rest) (st : Stores) (u : machine.Tree) →
         StateAt block.old i rest st u →
         StateAt block.new i rest (with_shut false st o) u }
 {
     let n = o as usize;
-    if areas::count(block, Area::Objects) <= n {
-        return;
+    if n < areas::count(block, Area::Objects) {
+        areas::set_shut(block, n, false);
     }
-    areas::set_shut(block, n, false);
 }
 
 // "A value at a lock frame opens the object."
-pub fn open_lock(block: &mut [u8], i: usize, v: Value, o: u16) -> Effect
+pub fn open_lock(block: &mut [u8; Limits::BLOCK], i: usize, v: Value, o: u16) -> Effect
     requires { AtFrame block.old i v }
     ensures { (rest : Rest) (st : Stores) (fs : List Frame) →
         StateAt block.old i rest st (returning v (locks o ∷ fs)) →
@@ -63,45 +60,48 @@ pub fn open_lock(block: &mut [u8], i: usize, v: Value, o: u16) -> Effect
 }
 
 // v stored in the field f of the object o, if its class has one.
-fn write_field(s: &[u8], starts: &[u16], block: &mut [u8], o: usize, f: u16, v: Value)
-    requires { WithinLayout s.now × Starts s.now starts.now × (length block.old ≡ BLOCK) × (o < OBJECTS) × Storable v }
+fn write_field(script: &Script, block: &mut [u8; Limits::BLOCK], o: usize, f: u16, v: Value)
+    requires { (o < OBJECTS) × Storable v }
     ensures { (i : ℕ) (rest : Rest) (st : Stores) (u : machine.Tree) (y : Object) →
         StateAt block.old i rest st u →
-        OwnFields (code_of s.now) st.objects →
+        OwnFields (code_of script.now.bytes.now) st.objects →
         object st.objects o ≡ some y →
         StateAt block.new i rest
         (record {
-          objects = set_fields (set_field v (fields_of (program_of s.now) y.class) y.fields f) st.objects o;
+          objects = set_fields (set_field v (fields_of (program_of script.now.bytes.now) y.class) y.fields f) st.objects o;
           bindings = st.bindings;
         })
         u }
 {
     let class = areas::word(block, Area::Objects, o, Layout::CLASS);
-    let Found::At(k) = classes::field_place(s, starts, class, f) else {
-        return;
-    };
-    areas::put_field(block, o, k, v);
+    if let Some(k) = classes::field_place(script, class, f) {
+        areas::put_field(block, o, k, v);
+    }
 }
 
 // "a waiting write stores and gives null"; "Targets are tested after the argument; null fails the thread."
-pub fn store_value(s: &[u8], starts: &[u16], block: &mut [u8], i: usize, w: WaitingMember) -> Effect
-    requires { AtFrameIn s.now starts.now block.old i w.env w.value }
+pub fn store_value(
+    script: &Script,
+    block: &mut [u8; Limits::BLOCK],
+    i: usize,
+    v: Value,
+    field: Member,
+) -> Effect
+    requires { AtFrameIn block.old i field.env v }
     ensures { (rest : Rest) (st : Stores) (g : Frame) (fs : List Frame) →
-        StateAt block.old i rest st (returning w.value (g ∷ fs)) →
-        OwnFields (code_of s.now) st.objects →
+        StateAt block.old i rest st (returning v (g ∷ fs)) →
+        OwnFields (code_of script.now.bytes.now) st.objects →
         Performs block.old i rest
-        (update_target (code_of s.now) st fs w.member w.value (find (scope st.bindings w.env) w.target))
+        (update_target (code_of script.now.bytes.now) st fs field.name v (find (scope st.bindings field.env) field.target))
         block.new result }
 {
-    let found = target_of(block, w.env, w.target);
-    let Lookup::Bound(value) = found else {
+    let Some(value) = target_of(block, field.env, field.target) else {
         return Effect::Still;
     };
     let Value::Ref(o) = value else {
         return fails(block, i);
     };
     state::pop(block, i, Cell::Returning(Value::Null));
-    let v = w.value;
-    write_field(s, starts, block, o as usize, w.member, v);
+    write_field(script, block, o as usize, field.name, v);
     Effect::Moved
 }

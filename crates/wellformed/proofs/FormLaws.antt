@@ -9,9 +9,7 @@ use lib.ListN.{length, get_or}
 use Rattle.limits.specs.Limits.{BLOCK}
 use Rattle.script.specs.Asking.{Decides}
 use Rattle.script.specs.Questions.{all_of}
-use Rattle.script.specs.Statements.{WithinLayout}
 use Rattle.script.proofs.Tests.{says_yes, yes_said, no_said}
-use Rattle.inference.specs.Walk.{EmptyEnv}
 use Rattle.machine.specs.declared.Want.TheVariants.{Upto as upto}
 use Rattle.machine.specs.Config.{Config, code_of}
 use Rattle.machine.specs.Machine.{field_count, limits}
@@ -35,8 +33,10 @@ use Rattle.frames.proofs.BindingsPassed.{bindings_passed}
 use Rattle.calls.specs.declared.LentQuestion.TheVariants.{BlockObjects, BlockBindings, BlockThreads}
 use Rattle.calls.specs.Calls.{well_formed, config_of, parts_asked}
 use Rattle.calls.proofs.Parts.{few_within}
-use Rattle.wellformed.specs.declared.Examined.{Examined}
-use Rattle.wellformed.specs.declared.Examined.TheVariants.{Sound, Bad}
+use Rattle.calls.specs.declared.LentQuestion.{LentQuestion}
+use Rattle.std.specs.Bool.{⊤}
+use Rattle.std.specs.declared.result.Result.{Result}
+use Rattle.std.specs.declared.result.Result.TheVariants.{Ok, Err}
 use Rattle.wellformed.specs.Examining.{examined_as}
 
 -- a part's bytes and its meaning, u and v, where the code has asked for the bytes and got q
@@ -81,11 +81,11 @@ module _ (s b : List ℕ) where
       let h = (and-eq-true_iff (area_test (λ w. value_ok_test w BOUND) b Bindings) vars).0 e in
       (says_yes (decides_bindings_area (field_count s) b) h.0, h.1)
 
-  pub objects_asked : WithinLayout s → length b ≡ BLOCK → ((i : ℕ) → get_or b i 0 < 256) → AreaOk (field_count s) b Objects → ObjectsInOrder s b
-  objects_asked w long small o = record { script = w; long = long; small = small; objects = o }
+  pub objects_asked : length b ≡ BLOCK → ((i : ℕ) → get_or b i 0 < 256) → AreaOk (field_count s) b Objects → ObjectsInOrder s b
+  objects_asked long small o = record { long = long; small = small; objects = o }
 
-  pub bindings_asked : WithinLayout s → length b ≡ BLOCK → ((i : ℕ) → get_or b i 0 < 256) → objects_sound s b ≡ true → ObjectsInOrder s b
-  bindings_asked w long small e = objects_asked w long small (objects_said e).0
+  pub bindings_asked : length b ≡ BLOCK → ((i : ℕ) → get_or b i 0 < 256) → objects_sound s b ≡ true → ObjectsInOrder s b
+  bindings_asked long small e = objects_asked long small (objects_said e).0
 
 -- the third part, where the first two are sound
 module _ (s : List ℕ) (t : ℕ) (b : List ℕ) where
@@ -132,11 +132,10 @@ module _ (s : List ℕ) (t : ℕ) (b : List ℕ) where
       pub sized : Sized b
       sized = record { long = long; few = λ a. (order.areas a).few }
 
-      pub ready : {starts facts table : List ℕ} → EmptyEnv s starts facts table → ScopedBlock s starts facts table b
-      ready k =
+      pub ready : ScopedBlock s b
+      ready =
           let passed = bindings_passed s b (bindings_said s b v).1 in
           record {
-            blank = k;
             in_order = order;
             links = λ i l. (passed i l).0;
             types = λ i l. (passed i l).1;
@@ -153,11 +152,11 @@ module _ (s : List ℕ) (t : ℕ) (b : List ℕ) where
             rw (n, ← l) at left
 
   -- the three together
-  abbrev Says : Examined → Type 0
+  abbrev Says : Result ⊤ LentQuestion → Type 0
   Says r = parts_asked s t b ≡ examined_as r c
 
   module _ {p : Bool} (o : p ≡ objects_sound s b) where
-    pub bad_objects : not p ≡ true → Says (Bad BlockObjects)
+    pub bad_objects : not p ≡ true → Says (Err BlockObjects)
     unfolding parts_asked
     bad_objects e = let n : objects_sound s b ≡ false = sym o ∙ not-true p e in rw n refl
 
@@ -166,7 +165,7 @@ module _ (s : List ℕ) (t : ℕ) (b : List ℕ) where
       sound_objects = sym o ∙ not-false p y
 
       module _ {q : Bool} (v : q ≡ bindings_sound s b) where
-        pub bad_bindings : not q ≡ true → Says (Bad BlockBindings)
+        pub bad_bindings : not q ≡ true → Says (Err BlockBindings)
         unfolding parts_asked
         bad_bindings e = let n : bindings_sound s b ≡ false = sym v ∙ not-true q e in rw (sound_objects, n) refl
 
@@ -175,10 +174,10 @@ module _ (s : List ℕ) (t : ℕ) (b : List ℕ) where
           sound_bindings = sym v ∙ not-false q z
 
           module _ (r : Bool) (x : Formed r) where
-            pub bad_threads : not r ≡ true → Says (Bad BlockThreads)
+            pub bad_threads : not r ≡ true → Says (Err BlockThreads)
             unfolding parts_asked
             bad_threads e = rw (sound_objects, sound_bindings, x, not-true r e) refl
 
-            pub all_sound : not r ≡ false → Says Sound
+            pub all_sound : not r ≡ false → Says (Ok tt)
             unfolding parts_asked
             all_sound e = rw (sound_objects, sound_bindings, x, not-false r e) refl

@@ -2,63 +2,55 @@
 ghost use Rattle.std.specs.Prelude.{◌≡◌, true, length};
 ghost use Rattle.std.proofs.Math.Option.{some};
 ghost use Rattle.limits.specs.Limits.{BLOCK};
-ghost use Rattle.script.specs.Statements.{WithinLayout};
-ghost use Rattle.subtypes.specs.Tables.{Starts};
-ghost use Rattle.inference.specs.Walk.{EmptyEnv};
+ghost use Rattle.members.specs.Code.{Blank};
 ghost use Rattle.machine.specs.Decide.{only};
 ghost use Rattle.parts.specs.Parts.{config_read, objects_sound, bindings_sound};
 ghost use Rattle.calls.specs.Calls.{config_of, parts_asked};
 ghost use Rattle.wellformed.specs.Examining.{examined_as};
 
-use crate::Examined;
 use block::Area;
 use calls::LentQuestion;
 use canonical::{area_in_order, threads_in_order};
 use frames::tree_fits;
+use limits::Limits;
 use locks::locks_fit;
+use members::Code;
+use subtypes::Script;
 use values::{bindings_fit, objects_fit};
 
 // 21: are the objects sound?
-fn objects_sound(s: &[u8], starts: &[u16], block: &[u8]) -> bool
-    requires { WithinLayout s.now × Starts s.now starts.now × (length block.now ≡ BLOCK) }
-    ensures { result ≡ objects_sound s.now block.now }
+fn objects_sound(script: &Script, block: &[u8; Limits::BLOCK]) -> bool
+    ensures { result ≡ objects_sound script.now.bytes.now block.now }
 {
-    if !area_in_order(s, block, Area::Objects) {
+    if !area_in_order(script.bytes, block, Area::Objects) {
         return false;
     }
-    objects_fit(s, starts, block)
+    objects_fit(script, block)
 }
 
 // 26: are the bindings sound? The objects are.
-fn bindings_sound(s: &[u8], starts: &[u16], block: &[u8]) -> bool
-    requires { WithinLayout s.now × Starts s.now starts.now × (length block.now ≡ BLOCK) × (objects_sound s.now block.now ≡ true) }
-    ensures { result ≡ bindings_sound s.now block.now }
+fn bindings_sound(script: &Script, block: &[u8; Limits::BLOCK]) -> bool
+    requires { objects_sound script.now.bytes.now block.now ≡ true }
+    ensures { result ≡ bindings_sound script.now.bytes.now block.now }
 {
-    if !area_in_order(s, block, Area::Bindings) {
+    if !area_in_order(script.bytes, block, Area::Bindings) {
         return false;
     }
-    bindings_fit(s, starts, block)
+    bindings_fit(script, block)
 }
 
 // 27: are frames and threads sound, and is shut what must be? The objects and bindings are sound, so the block is well formed if this is, and stands for the
 // configuration that is read from it.
-fn threads_sound(
-    s: &[u8],
-    starts: &[u16],
-    facts: &[u16],
-    table: &mut [u16],
-    t: u16,
-    block: &[u8],
-) -> bool
-    requires empty_env { EmptyEnv s.now starts.now facts.now table.old × (length block.now ≡ BLOCK) }
-    requires block_value { (objects_sound s.now block.now ≡ true) × (bindings_sound s.now block.now ≡ true) }
-    ensures block_value_2 { config_of s.now t block.now ≡ only result (some (config_read s.now block.now)) }
+fn threads_sound(code: &Code, table: &mut [u16], t: u16, block: &[u8; Limits::BLOCK]) -> bool
+    requires blank { Blank table.old }
+    requires block_value { (objects_sound code.now.script.bytes.now block.now ≡ true) × (bindings_sound code.now.script.bytes.now block.now ≡ true) }
+    ensures block_value_2 { config_of code.now.script.bytes.now t block.now ≡ only result (some (config_read code.now.script.bytes.now block.now)) }
     ensures table_unchanged { table.new ≡ table.old }
 {
-    if !threads_in_order(s, block) {
+    if !threads_in_order(code.script.bytes, block) {
         return false;
     }
-    if !tree_fits(s, starts, facts, table, block, t) {
+    if !tree_fits(code, table, block, t) {
         return false;
     }
     locks_fit(block)
@@ -67,25 +59,23 @@ fn threads_sound(
 // Is the block a well-formed configuration of this script, whose start has type t? Then it stands for the configuration that is read from it, and else the
 // first part that is bad is named.
 pub fn well_formed(
-    s: &[u8],
-    starts: &[u16],
-    facts: &[u16],
+    code: &Code,
     table: &mut [u16],
     t: u16,
-    block: &[u8],
-) -> Examined
-    requires { EmptyEnv s.now starts.now facts.now table.old × (length block.now ≡ BLOCK) }
-    ensures block_value { parts_asked s.now t block.now ≡ examined_as result (config_read s.now block.now) }
+    block: &[u8; Limits::BLOCK],
+) -> Result<(), LentQuestion>
+    requires { Blank table.old }
+    ensures block_value { parts_asked code.now.script.bytes.now t block.now ≡ examined_as result (config_read code.now.script.bytes.now block.now) }
     ensures table_unchanged { table.new ≡ table.old }
 {
-    if !objects_sound(s, starts, block) {
-        return Examined::Bad(LentQuestion::BlockObjects);
+    if !objects_sound(&code.script, block) {
+        return Err(LentQuestion::BlockObjects);
     }
-    if !bindings_sound(s, starts, block) {
-        return Examined::Bad(LentQuestion::BlockBindings);
+    if !bindings_sound(&code.script, block) {
+        return Err(LentQuestion::BlockBindings);
     }
-    if !threads_sound(s, starts, facts, table, t, block) {
-        return Examined::Bad(LentQuestion::BlockThreads);
+    if !threads_sound(code, table, t, block) {
+        return Err(LentQuestion::BlockThreads);
     }
-    Examined::Sound
+    Ok(())
 }

@@ -3,12 +3,4 @@
 
 mod examine;
 
-use calls::LentQuestion;
 pub use examine::well_formed;
-
-// What the three questions come to: every part is sound, or this question gets the first no.
-#[derive(Clone, Copy)]
-pub enum Examined {
-    Sound,
-    Bad(LentQuestion),
-}

@@ -6,7 +6,7 @@ use mathlib.Core.Path.{◌≡◌, refl, ◌∙◌, ap}
 use mathlib.Core.Bool.{Bool, true, false}
 use mathlib.Core.List.{List, [], ◌∷◌, ◌++◌}
 use lib.ListN.{length, get_or, take, drop, drop_of_length-le, length-drop, length-append}
-use lib.Seq.{drop-cons, slice, take-add, drop_at, length-take-le, take-append_seam}
+use lib.Seq.{drop-cons, take-append_seam}
 use Rattle.grammar.specs.Tokens.{All, all_none, all_more}
 use Rattle.grammar.proofs.Splitting.{head_test}
 use Rattle.word_kinds.specs.Runs.{byte_run}
@@ -49,11 +49,5 @@ module _ (test : ℕ → Bool) where
         ap length (run_is s).expression_ways ∙ length-append (byte_run test s) (drop (length (byte_run test s)) s),
       )
 
-  pub run_slice : (text : List ℕ) (start : ℕ) → start ≤ length text → slice start (start + length (byte_run test (drop start text))) text ≡ byte_run test (drop start text)
-  run_slice text start h =
-      let s = drop start text in
-      let n = length (byte_run test s) in
-      ap (drop start) (take-add start n text)
-      ∙ drop_at (take start text) (take n s) start (length-take-le start text h)
-      ∙ ap (take n) (run_is s).expression_ways
-      ∙ take-append_seam (byte_run test s) (drop n s)
+  pub run_front : (s : List ℕ) → take (length (byte_run test s)) s ≡ byte_run test s
+  run_front s = ap (take (length (byte_run test s))) (run_is s).expression_ways ∙ take-append_seam (byte_run test s) (drop (length (byte_run test s)) s)

@@ -18,28 +18,12 @@ pub record WordAt (text : List ℕ) (start end : ℕ) : Type 0 where
   pub letter : letter_test (get_or text start 0) ≡ true
   pub ends : end ≡ start + length (word_from (drop start text))
 
--- The longest word that the grammar spells out has so many bytes.
-abbrev pub LONGEST : ℕ
-LONGEST = 10
-
 -- A small number of a word, by its first and its last byte: no two words that the grammar spells out share it.
 abbrev pub WORD_SLOTS : ℕ
 WORD_SLOTS = 32
 
 abbrev pub word_slot : Spelling → ℕ
 word_slot w = (get_or w 0 0 + 2 * get_or w (length w - 1) 0) % WORD_SLOTS
-
--- The length of a word and its first byte in one number.
-abbrev pub key_of : Spelling → ℕ
-key_of w = length w * 256 + get_or w 0 0
-
--- Bytes as one number, the first one lowest.
-abbrev pub RADIX : ℕ
-RADIX = 128
-
-unfoldable pub word_code : Spelling → ℕ
-word_code [] = 0
-word_code (b ∷ w) = word_code w * RADIX + b % RADIX
 
 -- The word of a list that has this slot; if none has, no word, with a name's number.
 abbrev pub chosen_fixed : Bool → Fixed → Fixed → Fixed
@@ -52,6 +36,5 @@ fixed_at (k ∷ ks) slot = chosen_fixed (eqb slot (word_slot k.letters)) k (fixe
 
 -- What the code knows of it.
 pub record SpelledIs (k : Fixed) (r : Spelled) : Type 0 where
-  pub kind_is : r.0 ≡ k.token
-  pub key_is : r.1 ≡ key_of k.letters
-  pub rest_is : r.2 ≡ word_code (drop 1 k.letters)
+  pub letters_are : r.0.now ≡ k.letters
+  pub kind_is : r.1 ≡ k.token

@@ -16,22 +16,25 @@ use Rattle.script.specs.declared.Section.TheVariants.{Fields as fields, Methods 
 use Rattle.script.specs.Section.{size_of}
 use Rattle.grammar.specs.Roles.{R_INTERFACE, R_SIGNATURE, R_CLASS, R_FIELD}
 use Rattle.grammar.specs.Faults.{begins_test}
-use Rattle.bounds.specs.Places.{index_of}
 use Rattle.rows.specs.Rows.{one_added_if, Item, interface_row, signature_row, class_row, field_row}
-use Rattle.rows.specs.Rows.{one_added_if, rows_with, method_rows, node_count, node_rows, sections_words}
-use Rattle.token_words.specs.Items.{Roled, items_of}
-use Rattle.token_words.proofs.TokenLaws.{items_shown}
+use Rattle.rows.specs.Rows.{one_added_if, rows_with, method_rows, node_count, node_rows, sections_words, sizes_of}
+use Rattle.token_words.specs.Items.{Roled}
 use Rattle.row_words.specs.Row.{row_of}
 use Rattle.section_rows.specs.Records.{begun_among, row_if, rows_of}
-use Rattle.section_rows.specs.declared.Counts.{Counts}
-use Rattle.section_rows.specs.Counted.{records_in, CountsRight, CountsFit, Prepared, all_rows, rows_all_plain, record_rows, start_and_bodies}
-use Rattle.writer.specs.Files.{TokensStand, Writable, FileIs, contents_by, file_words}
+use Rattle.bounds.specs.declared.counts.Counts.{Counts}
+use Rattle.bounds.specs.Counting.{counted_of, types_of}
+use Rattle.token_words.specs.Whole.{items_in}
+use Rattle.section_rows.specs.declared.source.Records.{Records}
+use Rattle.section_rows.proofs.SourceLaws.{tokens_roled}
+use Rattle.section_rows.proofs.SizeLaws.{sizes_long}
+use Rattle.section_rows.specs.Counted.{CountsRight, CountsFit, all_rows, rows_all_plain, record_rows, start_and_bodies}
+use Rattle.writer.specs.Files.{FileIs, contents_by, file_words}
 use Rattle.row_bytes.specs.Written.{written, Appended}
-use Rattle.row_bytes.proofs.WrittenLaws.{written_more}
-use Rattle.section_rows.proofs.PlaceLaws.{begun_all, places_count}
+use Rattle.row_bytes.specs.declared.output.Output.{Output}
+use Rattle.row_bytes.specs.Output.{Extended}
+use Rattle.row_bytes.proofs.OutputLaws.{extended_both}
+use Rattle.section_rows.proofs.PlaceLaws.{begun_all}
 use Rattle.section_rows.proofs.RowLaws.{roled_long, rows_between, rows_length, between_length}
-use Rattle.section_rows.proofs.AppendLaws.{items_roled}
-use Rattle.section_rows.proofs.FileLaws.{section_places}
 
 -- the same rows
 plain_rows :
@@ -73,12 +76,12 @@ sections_are types start es =
     (simp append_assoc)
 
 module _ {roles : List ℕ} {es : List Item} (e : Roled roles es) {c : Counts} (k : CountsRight roles c) (types : ℕ) where
-  all_length : (s : Section) (n : ℕ) → 2 * length (all_rows s types n es) ≡ size_of s * records_in c s
+  all_length : (s : Section) (n : ℕ) → 2 * length (all_rows s types n es) ≡ size_of s * counted_of c s
   all_length s n =
       rows_length s types (length es) n es
       ∙ rw (e.roles_are, take_all (length es) roles (omega (arith, roled_long e)), ← k.counts_are s)
 
-  nodes_length : (start n : ℕ) → start ≤ length roles → 2 * length (start_and_bodies types start n es) ≡ 8 * records_in c nodes
+  nodes_length : (start n : ℕ) → start ≤ length roles → 2 * length (start_and_bodies types start n es) ≡ 8 * counted_of c nodes
   unfolding begun_among
   nodes_length start n h =
       let a : 2 * length (rows_between nodes types start (length es) 0 es) + 8 * begun_among nodes (take start roles) ≡ 8 * begun_among nodes (take (length es) roles) =
@@ -122,15 +125,16 @@ module _ {roles : List ℕ} {es : List Item} (e : Roled roles es) {c : Counts} (
         w.within nodes,
       )
 
--- the words of the nodes, by their places
+-- the words of the nodes, by their sizes
 pub nodes_long :
-    {text roles offsets values index sizes : List ℕ} {types : ℕ} {c : Counts}
-    → (q : Prepared text roles offsets values index sizes types c)
+    (r : Records) {sizes : List ℕ}
+    → sizes ≡ sizes_of (items_in r.items)
     → (start n : ℕ)
-    → start ≤ length roles
-    → 2 * length (start_and_bodies types start n (items_of text roles offsets values)) ≡ 8 * length (take (index_of nodes + c.nodes - index_of nodes) (drop (index_of nodes) index))
-nodes_long {roles = roles} {types = types} q start n h =
-    nodes_length (items_roled q.sized.readable) q.counted types start n h ∙ ap (λ (k : ℕ). 8 * k) (q.counted.counts_are nodes ∙ sym (places_count nodes roles (section_places q nodes)))
+    → start ≤ length r.items.tokens.roles.now
+    → 2 * length (start_and_bodies r.items.types start n (items_in r.items)) ≡ 8 * length sizes
+nodes_long r z start n h =
+    nodes_length (tokens_roled r) r.counted r.items.types start n h
+    ∙ ap (λ (k : ℕ). 8 * k) (r.counted.counts_are nodes ∙ sym (ap length z ∙ sizes_long (tokens_roled r)))
 
 -- the sections, where the start has `base` nodes
 pub sections_from : (types start : ℕ) {base : ℕ} (es : List Item) → base ≡ node_count (drop start es) → record_rows types base es ++ start_and_bodies types start base es ≡ sections_words types start es
@@ -138,48 +142,35 @@ sections_from types start es b = rw b (sections_are types start es)
 
 -- the file fits
 pub words_fit :
-    {text roles offsets values : List ℕ} {start : ℕ} {c : Counts}
-    → Writable text roles offsets values start c
-    → CONTENTS + 2 * length (sections_words (c.interfaces + c.classes) start (items_of text roles offsets values)) ≤ FILE
-words_fit {text} {roles} {offsets} {values} {start} {c} w =
-    let es : List Item = items_of text roles offsets values in
-    let k : TokensStand text roles offsets values start = w.tokens in
-    let e : Roled roles es = (items_shown text roles offsets values k.offset_each k.value_each).marks.roled in
-    let types : ℕ = c.interfaces + c.classes in
-    rw (← sections_are types start es) (sections_fit e w.counted types w.few_records start (node_count (drop start es)) k.starts)
+    (r : Records) (start : ℕ)
+    → start ≤ length r.items.tokens.roles.now
+    → CONTENTS + 2 * length (sections_words r.items.types start (items_in r.items)) ≤ FILE
+words_fit r start h =
+    let es : List Item = items_in r.items in
+    rw (← sections_are r.items.types start es) (sections_fit (tokens_roled r) r.counted r.items.types r.few_records start (node_count (drop start es)) h)
 
 pub contents_long : (c : Counts) → 2 * length (contents_by c) ≡ CONTENTS
 unfolding contents_by
 contents_long c = refl
 
-pub whole_fits :
-    {text roles offsets values : List ℕ} {start : ℕ} {c : Counts}
-    → Writable text roles offsets values start c
-    → 2 * length (file_words c start (items_of text roles offsets values)) ≤ FILE
-whole_fits {text} {roles} {offsets} {values} {start} {c} w =
-    omega (
-      arith,
-      words_fit w,
-      contents_long c,
-      length-append (contents_by c) (sections_words (c.interfaces + c.classes) start (items_of text roles offsets values)),
-    )
+pub whole_fits : (r : Records) (start : ℕ) → start ≤ length r.items.tokens.roles.now → 2 * length (file_words r.counts start (items_in r.items)) ≤ FILE
+whole_fits r start h =
+    let w = sections_words (types_of r.counts) start (items_in r.items) in
+    omega (arith, rw r.types_are at (words_fit r start h), contents_long r.counts, length-append (contents_by r.counts) w)
 
 -- four words, three times
-pub contents_put :
-    (s us vs ws : List ℕ) {t u v : List ℕ}
+pub contents_extended :
+    {o p q r : Output} (us vs ws : List ℕ)
     → length us ≡ 4
     → length vs ≡ 4
     → length ws ≡ 4
-    → CONTENTS ≤ length s
-    → t ≡ written s 0 us
-    → u ≡ written t 8 vs
-    → v ≡ written u 16 ws
-    → v ≡ written s 0 ((us ++ vs) ++ ws)
-contents_put s us vs ws a b c h p q r =
-    let f : 0 + 2 * length us ≡ 8 = omega arith in
-    let g : 0 + 2 * length (us ++ vs) ≡ 16 = omega (arith, length-append us vs) in
-    let x : written (written s 0 us) 8 vs ≡ written s 0 (us ++ vs) = ap (λ (k : ℕ). written (written s 0 us) k vs) (sym f) ∙ written_more s 0 us vs (omega arith) in
-    r ∙ rw (q, p, x) (ap (λ (k : ℕ). written (written s 0 (us ++ vs)) k ws) (sym g) ∙ written_more s 0 (us ++ vs) ws (omega (arith, length-append us vs)))
+    → o.end + CONTENTS ≤ length o.bytes.now
+    → Extended o p us
+    → Extended p q vs
+    → Extended q r ws
+    → Extended o r ((us ++ vs) ++ ws)
+contents_extended {o} us vs ws a b c h x y z =
+    extended_both o (us ++ vs) ws (omega (arith, length-append (us ++ vs) ws, length-append us vs)) (extended_both o us vs (omega (arith, length-append us vs)) x y) z
 
 -- the whole buffer
 drop_zeros : (k n : ℕ) → drop {A = ℕ} k (replicate n 0) ≡ replicate (n - k) 0

@@ -1,31 +1,28 @@
-use native.Mathlib.Omega.{arith}
-use Rattle.spellings.proofs.TableLaws.{holds_none}
+use Rattle.std.proofs.Common.{ℕ, rules, arith, refl}
+use Rattle.std.proofs.lemmas.List.{length-replicate}
+use Rattle.spellings.proofs.TableLaws.{none_held}
 use Rattle.ask_declarations.proofs.DeclarationLaws.{declaration_refused, declaration_passed}
-use Rattle.ask_limits.proofs.PassLaws.{in_roles, in_offsets, in_text, tokens_there}
 use Rattle.ask_declarations.proofs.ask_declarations.Goals as goal
 
-pub link_names-f-requires : goal.link_names-f-requires
-link_names-f-requires c =
-    let d = c.requires.0.judged.derived_text in
-    (in_roles d, c.requires.0.roomy.for_chain, omega (arith, in_text d, c.requires.0.judged.short))
+pub declaration_fault-requires : goal.declaration_fault-requires
+declaration_fault-requires g c =
+    let room = c.requires.room in
+    let table = c.new-table in (
+      search (rules, table.result.small),
+      ((omega (arith, room.0, length-replicate {A = ℕ} g.row.N 0), room.0), (none_held _ table.result table.ensures, table.ensures.1)),
+    )
 
-pub declaration_fault-fault-requires : goal.declaration_fault-fault-requires
-declaration_fault-fault-requires c =
-    let j = c.requires.0 in record { token_arrays = tokens_there j.judged.derived_text _ _ _ _ _ j.judged.short j.roomy; table_holds = holds_none _ _ _ _ j.no_heads; chains_are = (c.link_names-f.ensures, c.requires.1) }
-
-pub offset_at-requires : goal.offset_at-requires
-offset_at-requires c =
-    omega (arith, in_offsets c.requires.0.judged.derived_text)
-
-pub returns-then-fault-n : goal.returns-then-fault-n
-returns-then-fault-n c =
-    declaration_refused c.requires.0 c.refusal.result c.declaration_fault-fault.ensures (omega arith) _ c.offset_at.ensures.0 c.refusal.ensures
+pub returns-in-Some : goal.returns-in-Some
+returns-in-Some g c =
+    let told = c.in-Some.ensures in
+    declaration_refused c.requires.judged g.row.N c.requires.room.0 told _ c.at_token.result refl told.within c.at_token.ensures
 
 pub ask_limits-requires : goal.ask_limits-requires
-ask_limits-requires c =
-    let k = c.declaration_fault-fault.auto in
-    (declaration_passed c.requires.0 c.link_names-f.auto.chain c.link_names-f.ensures c.declaration_fault-fault.ensures (omega arith) k.values k.firsts k.links k.heads, c.requires.1)
-
-pub shape_of-chain : goal.shape_of-chain
-shape_of-chain c =
-    c.link_names-f.auto.chain
+ask_limits-requires g c =
+    let room = c.requires.room in (
+      search (rules, c.new-table.result.small),
+      (
+        declaration_passed c.requires.judged g.row.N room.0 c.in_default.ensures refl,
+        (omega (arith, room.0, c.declaration_fault.auto.values, length-replicate {A = ℕ} g.row.N 0), room.0),
+      ),
+    )

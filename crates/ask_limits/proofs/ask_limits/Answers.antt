@@ -1,25 +1,21 @@
-use mathlib.Core.Path.{refl}
-use native.Mathlib.Omega.{arith}
-use Rattle.ask_limits.proofs.Between.{limit_refused, limits_passed}
-use Rattle.ask_limits.proofs.PassLaws.{in_offsets, in_text, placed, tokens_there}
+use Rattle.std.proofs.Common.{arith, rules, refl}
+use Rattle.ask_limits.proofs.Between.{limit_refused, limit_within, limits_passed}
+use Rattle.ask_limits.proofs.PassLaws.{in_text}
 use Rattle.ask_limits.proofs.ask_limits.Goals as goal
 
-pub count_records-c-requires : goal.count_records-c-requires
-count_records-c-requires c =
-    (placed c.requires.0.judged.derived_text, omega (arith, in_text c.requires.0.judged.derived_text, c.requires.0.judged.short), refl)
+pub at_token-requires : goal.at_token-requires
+at_token-requires g c =
+    limit_within c.requires.declared c.in-Err.ensures.counted_as
 
-pub offset_at-requires : goal.offset_at-requires
-offset_at-requires c =
-    omega (arith, in_offsets c.requires.0.judged.derived_text)
-
-pub returns-then-fault-n : goal.returns-then-fault-n
-returns-then-fault-n c =
-    limit_refused c.requires.0 c.refusal.result c.count_records-c.ensures.counted_as (omega arith) _ c.offset_at.ensures.0 c.refusal.ensures
+pub returns-in-Err : goal.returns-in-Err
+returns-in-Err g c =
+    let told = c.in-Err.ensures.counted_as in
+    limit_refused c.requires.declared c.at_token.result told (limit_within c.requires.declared told) c.at_token.ensures
 
 pub number_rest-requires : goal.number_rest-requires
-number_rest-requires c =
-    let j = c.requires.0 in record { token_arrays = (tokens_there j.judged.derived_text _ _ _ _ _ j.judged.short j.roomy, j.roomy.for_heads); chains_are = (j.linked, c.requires.1) }
+number_rest-requires g c =
+    (search (rules, c.args.table.now.small), c.requires.room)
 
 pub write-requires : goal.write-requires
-write-requires c =
-    limits_passed c.requires.0 c.count_records-c.ensures.counted_as c.count_records-c.ensures.index_is (omega arith) c.number_rest.ensures
+write-requires g c =
+    limits_passed c.requires.declared c.in-Ok.ensures.counted_as c.in-Ok.ensures.index_is c.number_rest.ensures

@@ -6,6 +6,3 @@ use Rattle.byte_table.proofs.put_range.Given as goal
 
 abbrev pub invariant-loop-b : goal.invariant-loop-b
 invariant-loop-b l = sets l.kinds l.b (replicate (l.last + 1 - l.b) l.kind) ≡ sets l.initial.kinds l.first (replicate (l.last + 1 - l.first) l.kind)
-
-abbrev pub decreases-loop-b : goal.decreases-loop-b
-decreases-loop-b l = l.last + 1 - l.b

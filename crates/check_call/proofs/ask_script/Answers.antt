@@ -1,10 +1,6 @@
 use Rattle.check_call.proofs.CheckReplies.{lent}
 use Rattle.check_call.proofs.ask_script.Goals as goal
 
-pub check_script-requires : goal.check_script-requires
-check_script-requires c =
+pub verdict_of-requires : goal.verdict_of-requires
+verdict_of-requires c =
     lent
-
-pub returns : goal.returns
-returns c =
-    let told = c.check_script.ensures in record { number = told.number; place = told.place; start_type = told.start_type }

@@ -1,15 +1,10 @@
-use native.Mathlib.Omega.{arith}
-use Rattle.declarations.proofs.Asking.{type_known, type_nowhere}
+use Rattle.std.proofs.Common.{arith}
+use Rattle.declarations.proofs.Asking.{type_known}
 use Rattle.declarations.proofs.type_token.Goals as goal
 
-pub find-e-requires : goal.find-e-requires
-find-e-requires c =
-    let pre = c.requires in (pre.table_filled, pre.token_arrays.inside c.args.i (omega arith), pre.i_value.1)
-
-pub returns-then-e-count : goal.returns-then-e-count
-returns-then-e-count c =
-    let pre = c.requires in λ names h l. type_known _ _ _ _ _ _ _ pre.token_arrays pre.i_value.0 names _ _ (c.find-e.ensures names h l) l c.if-e-count.true
-
-pub returns : goal.returns
-returns c =
-    let pre = c.requires in λ names h l. type_nowhere _ _ _ _ _ _ _ pre.token_arrays pre.i_value.0 names _ _ (c.find-e.ensures names h l) l c.if-e-count.false
+pub returns-in-Some : goal.returns-in-Some
+returns-in-Some g c =
+    let tokens = c.args.tokens.now in
+    let pre = c.requires in
+    λ names h l.
+    type_known _ _ _ _ _ pre.i_in_bounds.0 (omega (arith, pre.i_in_bounds.0, tokens.offset_each)) pre.i_value names _ l c.in-Some.e (c.in-Some.ensures names h l)

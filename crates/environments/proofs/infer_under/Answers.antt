@@ -3,12 +3,15 @@ use Rattle.environments.proofs.infer_under.Goals as goal
 
 pub fill-requires : goal.fill-requires
 fill-requires c =
-    let lent = c.requires.empty_env.0 in record { within_layout = (lent.within, lent.known, lent.size, lent.zeros); chain = (c.requires.chain.0, c.requires.chain.1) }
+    record { blank = c.requires.blank.0; chain = (c.requires.chain.0, c.requires.chain.1) }
 
 pub infer-r-requires : goal.infer-r-requires
 infer-r-requires c =
-    laws.at_node c.requires.empty_env.0 c.requires.chain.2 c.fill.ensures.filled _ c.fill.ensures.table_len_unchanged c.requires.empty_env.1
+    laws.at_node c.requires.blank.0 c.requires.chain.2 c.fill.ensures.filled _ c.fill.ensures.table_len_unchanged c.requires.blank.1
 
 pub returns : goal.returns
 returns c =
-    record { given_in = c.infer-r.ensures.given_as _ (laws.environment c.requires.empty_env.0 c.requires.chain.2 c.fill.ensures.filled); table_unchanged = laws.zeros_again c.requires.empty_env.0 c.fill.ensures.table_len_unchanged c.infer-r.ensures.env_unchanged c.empty.ensures.table_len_unchanged c.empty.ensures.all_zero }
+    record {
+      given_in = c.infer-r.ensures.given_as _ (laws.environment c.requires.blank.0 c.requires.chain.2 c.fill.ensures.filled);
+      table_unchanged = laws.zeros_again c.requires.blank.0 c.fill.ensures.table_len_unchanged c.infer-r.ensures.env_unchanged c.empty.ensures.table_len_unchanged c.empty.ensures.all_zero;
+    }

@@ -1,11 +1,6 @@
-use mathlib.Core.Path.{◌≡◌}
-use lib.ListN.{length}
-use Prim.Native.Nat.{◌≤◌}
+use Rattle.std.proofs.Common.{length}
 use Rattle.numbering.specs.Chains.{HeadsFrom}
 use Rattle.numbering.proofs.link_names.Given as goal
 
 abbrev pub invariant-loop-i : goal.invariant-loop-i
-invariant-loop-i l = (l.i ≤ l.n) × (length l.chain ≡ length l.initial.chain) × HeadsFrom l.roles l.i l.n l.chain l.heads
-
-abbrev pub decreases-loop-i : goal.decreases-loop-i
-decreases-loop-i l = l.i
+invariant-loop-i l = HeadsFrom l.roles l.i (length l.roles) l.chain l.heads.by_sort

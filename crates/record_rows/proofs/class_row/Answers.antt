@@ -1,4 +1,3 @@
-use mathlib.Core.Path.{refl}
 use Rattle.rows.specs.Rows.{class_row}
 use Rattle.token_words.proofs.TokenLaws.{three_are}
 use Rattle.record_rows.proofs.class_row.Goals as goal
@@ -6,5 +5,5 @@ use Rattle.record_rows.proofs.class_row.Goals as goal
 pub returns : goal.returns
 unfolding class_row
 returns c es m =
-    let o = c.owned-members.ensures es m.roled c.args.i 1 refl in
-    three_are (c.type_word-interface.ensures es m c.args.i 3 refl) o.fields_are o.methods_are
+    let o = c.owned-members.ensures es m.roled in
+    three_are (c.type_word.ensures es m) o.fields_are o.methods_are

@@ -1,9 +1,9 @@
-use mathlib.Core.Path.{refl, sym, ◌∙◌}
+use mathlib.Core.Path.{refl}
 use Rattle.rows.specs.Rows.{method_row}
-use Rattle.token_words.proofs.TokenLaws.{value_in_lem, four_are}
+use Rattle.token_words.proofs.TokenLaws.{four_are}
 use Rattle.record_rows.proofs.method_row.Goals as goal
 
 pub returns : goal.returns
 unfolding method_row
 returns c es m =
-    four_are (c.value_at-name.ensures.0 ∙ sym (value_in_lem m c.args.i 1 refl)) (c.type_word-takes.ensures es m c.args.i 5 refl) (c.type_word-gives.ensures es m c.args.i 8 refl) refl
+    four_are (c.value.ensures es m) (c.type_word.ensures es m) (c.type_word-2.ensures es m) refl

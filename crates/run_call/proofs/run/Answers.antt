@@ -1,30 +1,35 @@
 use native.Mathlib.Omega.{arith}
-use mathlib.Core.Path.{refl}
-use Rattle.check_call.proofs.CheckReplies.{lent, tables, type_is}
+use mathlib.Core.Path.{refl, sym, ◌∙◌}
+use Rattle.std.specs.declared.result.Result.TheVariants.{Ok, Err}
+use Rattle.check_call.proofs.CheckReplies.{lent}
 use Rattle.typing.proofs.Exact.{outside_refused}
 use Rattle.run_call.proofs.RunReplies as laws
 use Rattle.run_call.proofs.run.Goals as goal
 
-pub check_script-checked-requires : goal.check_script-checked-requires
-check_script-checked-requires c =
+pub verdict_of-requires : goal.verdict_of-requires
+verdict_of-requires c =
     lent
 
-pub returns-then-checked-ne0 : goal.returns-then-checked-ne0
-returns-then-checked-ne0 c =
-    let told = laws.run_script_refused _ _ _ _ _ _ c.run_refusal.ensures c.check_script-checked.ensures.number c.check_script-checked.ensures.place c.if-checked-ne0.true in record { script = refl; choices = refl; number = told.0; place = told.1.0; stop = told.1.1.0; read = told.1.1.1.0; moves = told.1.1.1.1.0; block = told.1.1.1.1.1 }
+pub returns-in-Err : goal.returns-in-Err
+returns-in-Err c =
+    let told = laws.run_script_refused _ _ _ _ c.from.ensures c.in-Err.ensures.value in record { script = refl; choices = refl; number = told.0; place = told.1.0; stop = told.1.1.0; read = told.1.1.1.0; moves = told.1.1.1.1.0; block = told.1.1.1.1.1 }
 
-pub returns-then-block-ne-BLOCK : goal.returns-then-block-ne-BLOCK
-returns-then-block-ne-BLOCK c =
-    let told = laws.run_block_refused _ _ _ _ (type_is _ _ _ c.check_script-checked.ensures.number c.if-checked-ne0.false c.check_script-checked.ensures.start_type) _ _ c.run_refusal-then-block-ne-BLOCK.ensures c.if-block-ne-BLOCK.true c.lent_number.ensures in record { script = refl; choices = refl; number = told.0; place = told.1.0; stop = told.1.1.0; read = told.1.1.1.0; moves = told.1.1.1.1.0; block = told.1.1.1.1.1 }
+pub returns-in_default : goal.returns-in_default
+returns-in_default c =
+    let told = laws.run_block_refused _ _ _ _ (sym c.in-Ok.ensures.value) _ c.from-in_default.ensures c.in_default.ensures.cases in record { script = refl; choices = refl; number = told.0; place = told.1.0; stop = told.1.1.0; read = told.1.1.1.0; moves = told.1.1.1.1.0; block = told.1.1.1.1.1 }
 
 pub returns-then-choices-gt-CHOICES : goal.returns-then-choices-gt-CHOICES
 returns-then-choices-gt-CHOICES c =
-    let told = laws.run_choices_refused _ _ _ _ (type_is _ _ _ c.check_script-checked.ensures.number c.if-checked-ne0.false c.check_script-checked.ensures.start_type) c.if-block-ne-BLOCK.false _ _ c.run_refusal-then-choices-gt-CHOICES.ensures c.if-choices-gt-CHOICES.true c.lent_number-then-choices-gt-CHOICES.ensures in record { script = refl; choices = refl; number = told.0; place = told.1.0; stop = told.1.1.0; read = told.1.1.1.0; moves = told.1.1.1.1.0; block = told.1.1.1.1.1 }
+    let told = laws.run_choices_refused _ _ _ _ (sym c.in-Ok.ensures.value) (c.as_mut_array.ensures.variant.0 (rw c.in-Some.is refl)) _ c.from-then-choices-gt-CHOICES.ensures c.if-choices-gt-CHOICES.true in record { script = refl; choices = refl; number = told.0; place = told.1.0; stop = told.1.1.0; read = told.1.1.1.0; moves = told.1.1.1.1.0; block = c.in-Some.ensures.cases.same ∙ told.1.1.1.1.1 }
 
-pub run-played-requires : goal.run-played-requires
-run-played-requires c =
-    let acc = type_is _ _ _ c.check_script-checked.ensures.number c.if-checked-ne0.false c.check_script-checked.ensures.start_type in let made = tables _ _ _ _ acc c.check_script-checked.ensures.tables in record { within_layout = (outside_refused _ _ acc, made.0, made.1, acc); block_len = (c.if-block-ne-BLOCK.false, omega arith) }
+pub run-requires : goal.run-requires
+run-requires c =
+    let made = c.in-Ok.ensures.tables_filled in record { within_layout = (outside_refused _ _ (sym c.in-Ok.ensures.value), made.0, made.1, sym c.in-Ok.ensures.value); block_len = omega arith }
 
-pub returns : goal.returns
-returns c =
-    let told = laws.run_part _ _ _ _ (type_is _ _ _ c.check_script-checked.ensures.number c.if-checked-ne0.false c.check_script-checked.ensures.start_type) c.if-block-ne-BLOCK.false _ c.run-played.result c.run_reply.ensures (omega arith) c.run-played.ensures in record { script = refl; choices = refl; number = told.0; place = told.1.0; stop = told.1.1.0; read = told.1.1.1.0; moves = told.1.1.1.1.0; block = told.1.1.1.1.1 }
+pub returns-in-Ok-run : goal.returns-in-Ok-run
+returns-in-Ok-run c =
+    let told = laws.run_part _ _ _ _ (sym c.in-Ok.ensures.value) (c.as_mut_array.ensures.variant.0 (rw c.in-Some.is refl)) _ (Ok c.in-Ok-run.played) c.accepted.ensures (omega arith) c.in-Some.ensures.cases.same c.in-Ok-run.ensures in record { script = refl; choices = refl; number = told.0; place = told.1.0; stop = told.1.1.0; read = told.1.1.1.0; moves = told.1.1.1.1.0; block = told.1.1.1.1.1 }
+
+pub returns-in-Err-run : goal.returns-in-Err-run
+returns-in-Err-run c =
+    let told = laws.run_part _ _ _ _ (sym c.in-Ok.ensures.value) (c.as_mut_array.ensures.variant.0 (rw c.in-Some.is refl)) _ (Err c.in-Err-run.question) c.from-in-Err-run.ensures (omega arith) c.in-Some.ensures.cases.same c.in-Err-run.ensures in record { script = refl; choices = refl; number = told.0; place = told.1.0; stop = told.1.1.0; read = told.1.1.1.0; moves = told.1.1.1.1.0; block = told.1.1.1.1.1 }

@@ -22,7 +22,7 @@ bounds-counts-n c =
 
 pub loop-n-preserved : goal.loop-n-preserved
 loop-n-preserved c =
-    table_more c.requires.0 c.loop-n.invariant (omega arith) c.node_count-count.ensures c.larger-most.ensures
+    table_more c.requires.0 c.loop-n.invariant (omega arith) c.node_count-count.ensures (omega arith)
 
 pub shape_of-counts : goal.shape_of-counts
 shape_of-counts c =

@@ -3,6 +3,3 @@ use Rattle.silent.proofs.fill_counts.Given as goal
 
 abbrev pub invariant-loop-n : goal.invariant-loop-n
 invariant-loop-n l = TableFrom l.s l.counts l.n l.most
-
-abbrev pub decreases-loop-n : goal.decreases-loop-n
-decreases-loop-n l = l.n

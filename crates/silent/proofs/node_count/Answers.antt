@@ -1,40 +1,37 @@
 use native.Mathlib.Omega.{arith}
-use mathlib.Core.Path.{refl, sym, ◌∙◌}
-use Rattle.script.specs.Reading.{kind_of}
-use Rattle.script.proofs.Reading.{first}
+use mathlib.Core.Path.{refl}
+use mathlib.Core.Logic.{⊎_elim}
+use Rattle.script.specs.declared.Kind.TheVariants.{Null, Update, Call, Let, Cast, Constant}
+use Rattle.script.proofs.Reading.{first, kind_read}
 use Rattle.silent.proofs.CountLaws.{count_end, count_rest, descends_by}
 use Rattle.silent.proofs.node_count.Goals as goal
 
 pub descent_count-requires : goal.descent_count-requires
-unfolding kind_of
-descent_count-requires c =
-    (c.requires, descends_by c.requires 3 3 (sym c.record_word-kind.ensures.0 ∙ c.in-3.is) (omega arith) first refl)
+descent_count-requires c = (
+  c.requires,
+  ⊎_elim
+      (λ e. descends_by c.requires Update 3 (kind_read c.record_word.ensures.0 c.kind_of.ensures e) (omega arith) first refl)
+      (λ e. descends_by c.requires Call 3 (kind_read c.record_word.ensures.0 c.kind_of.ensures e) (omega arith) first refl)
+      c.in-Update.is,
+)
 
-pub descent_count-requires-in-4 : goal.descent_count-requires-in-4
-unfolding kind_of
-descent_count-requires-in-4 c =
-    (c.requires, descends_by c.requires 4 3 (sym c.record_word-kind.ensures.0 ∙ c.in-4.is) (omega arith) first refl)
+pub descent_count-requires-in-Let : goal.descent_count-requires-in-Let
+descent_count-requires-in-Let c = (
+  c.requires,
+  ⊎_elim
+      (λ e. descends_by c.requires Let 2 (kind_read c.record_word.ensures.0 c.kind_of.ensures e) (omega arith) first refl)
+      (λ e. descends_by c.requires Cast 2 (kind_read c.record_word.ensures.0 c.kind_of.ensures e) (omega arith) first refl)
+      c.in-Let.is,
+)
 
-pub descent_count-requires-in-5 : goal.descent_count-requires-in-5
-unfolding kind_of
-descent_count-requires-in-5 c =
-    (c.requires, descends_by c.requires 5 2 (sym c.record_word-kind.ensures.0 ∙ c.in-5.is) (omega arith) first refl)
-
-pub descent_count-requires-in-7 : goal.descent_count-requires-in-7
-unfolding kind_of
-descent_count-requires-in-7 c =
-    (c.requires, descends_by c.requires 7 2 (sym c.record_word-kind.ensures.0 ∙ c.in-7.is) (omega arith) first refl)
-
-pub returns-in-0 : goal.returns-in-0
-unfolding kind_of
-returns-in-0 c =
-    count_end c.requires 0 1 (sym c.record_word-kind.ensures.0 ∙ c.in-0.is) (omega arith) refl
-
-pub returns-in-10 : goal.returns-in-10
-unfolding kind_of
-returns-in-10 c =
-    count_end c.requires 10 1 (sym c.record_word-kind.ensures.0 ∙ c.in-10.is) (omega arith) refl
+pub returns-in-Null : goal.returns-in-Null
+returns-in-Null c =
+    ⊎_elim
+    (λ e. count_end c.requires Null 1 (kind_read c.record_word.ensures.0 c.kind_of.ensures e) (omega arith) refl)
+    (λ e. count_end c.requires Constant 1 (kind_read c.record_word.ensures.0 c.kind_of.ensures e) (omega arith) refl)
+    c.in-Null.is
 
 pub returns-in_default : goal.returns-in_default
 returns-in_default c =
-    let r = c.in_default.in_default-own.rest in count_rest c.requires _ c.record_word-kind.ensures.0 r.0.0.0.0.0.1 r.0.0.0.0.1 r.0.0.0.1 r.0.0.1 r.0.1 r.1
+    let n = c.in_default in
+    count_rest c.requires c.kind_of.result (kind_read c.record_word.ensures.0 c.kind_of.ensures refl) n.not-Null n.not-Constant n.not-Update n.not-Call n.not-Let n.not-Cast

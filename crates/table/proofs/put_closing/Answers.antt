@@ -7,12 +7,12 @@ use Rattle.table.proofs.put_closing.Goals as goal
 pub loop-k-init : goal.loop-k-init
 unfolding closed_to
 loop-k-init c =
-    (omega arith, refl)
+    refl
 
 pub loop-k-preserved : goal.loop-k-preserved
 loop-k-preserved c =
-    (omega arith, closed_more _ _ _ c.loop-k.invariant.1)
+    closed_more _ _ _ c.loop-k.invariant
 
 pub returns : goal.returns
 returns c =
-    let e : c.loop-k.k ≡ 32 = omega arith in c.loop-k.invariant.1 ∙ ap (λ k. closed_to k c.args.table.now) e
+    let e : c.loop-k.k ≡ 32 = omega arith in c.loop-k.invariant ∙ ap (λ k. closed_to k c.args.table.now) e

@@ -7,14 +7,14 @@ use native.Mathlib.Omega.{arith}
 use mathlib.Core.Path.{◌≡◌, refl}
 use Rattle.table.proofs.put_rules.Goals as goal
 
-pub loop-n-init : goal.loop-n-init
-loop-n-init c =
-    (omega arith, ruled_none _ _ _ refl)
+pub loop-place-init : goal.loop-place-init
+loop-place-init c =
+    ruled_none _ _ refl
 
-pub loop-n-preserved : goal.loop-n-preserved
-loop-n-preserved c =
-    (omega arith, ruled_more _ _ _ _ _ refl c.loop-n.invariant.1)
+pub loop-place-preserved : goal.loop-place-preserved
+loop-place-preserved c =
+    ruled_more _ _ _ _ refl c.loop-place.invariant
 
 pub returns : goal.returns
 returns c =
-    let e : c.loop-n.n ≡ 117 = omega arith in ruled_all _ _ _ _ _ c.loop-n.invariant.1 e c.requires (unfold ruled_to closed_to table_entries entries_from turn_at lexeme_of pick_turn byte_run in refl)
+    let e : c.loop-place.place-index ≡ 117 = omega arith in ruled_all _ _ _ _ c.loop-place.invariant e c.requires (unfold ruled_to closed_to table_entries entries_from turn_at lexeme_of pick_turn byte_run in refl)

@@ -1,33 +1,17 @@
-use Prim.Native.Nat.{◌+◌}
-use mathlib.Core.Path.{◌≡◌}
-use native.Mathlib.Omega.{arith}
-use lib.ListN.{length, drop}
-use Rattle.tokens.specs.Runs.{word_from}
-use borrow.Author.Tests.{not-true, not-false}
+use Rattle.std.proofs.Common.{inl, inr}
+use mathlib.Core.Path.{◌∙◌}
+use borrow.Author.Tests.{ne_eqb}
 use Rattle.turns.proofs.TurnLaws.{own_not, own_hidden, own_same}
-use borrow.Author.Rules.{rules}
-use mathlib.Core.Path.{ap}
-use mathlib.Core.Bool.{not}
 use Rattle.turns.proofs.is_own.Goals as goal
+use Rattle.turns.proofs.is_own.Goals.{then-t-eq-NAME, else-t-eq-NAME}
 
-pub returns-then-t-ne-NAME : goal.returns-then-t-ne-NAME
-returns-then-t-ne-NAME c =
-    own_not _ _ _ _ c.if-t-ne-NAME.true
+pub returns-then-visible : goal.returns-then-visible
+returns-then-visible c =
+    own_same _ _ _ _ _ c.if-visible.true.0 c.if-visible.true.1 c.is_name.ensures
 
-pub returns-then-not-visible : goal.returns-then-not-visible
-returns-then-not-visible c =
-    own_hidden _ _ _ _ c.if-t-ne-NAME.false (not-true _ (ap not c.if-not-visible.true))
-
-pub overflow_sub-t : goal.overflow_sub-t
-overflow_sub-t c =
-    let ends : c.args.t.start + length (word_from (drop c.args.t.start c.args.text.now)) ≡ c.args.t.end = c.requires.text_value c.if-t-ne-NAME.false in
-    omega (arith, ends)
-
-pub is_name-requires : goal.is_name-requires
-is_name-requires c =
-    let ends : c.args.t.start + length (word_from (drop c.args.t.start c.args.text.now)) ≡ c.args.t.end = c.requires.text_value c.if-t-ne-NAME.false in
-    record { kinds_value = (search rules, search rules, search rules); size_value = omega (arith, ends) }
-
-pub returns : goal.returns
-returns c =
-    own_same _ _ _ _ _ c.if-t-ne-NAME.false (not-false _ (ap not c.if-not-visible.false)) c.is_name.ensures
+pub returns-else-visible : goal.returns-else-visible
+returns-else-visible c =
+    elim c.if-t-eq-NAME.branch [
+      | then-t-eq-NAME w ↦ elim c.if-visible.either [ inl h ↦ w.t-6-is ∙ h.1 ∙ own_hidden _ _ _ _ h.0 h.1 | inr h ↦ absurd (h w.if-t-eq-NAME.true) ]
+      | else-t-eq-NAME w ↦ w.t-6-is ∙ ne_eqb _ _ w.if-t-eq-NAME.false ∙ own_not _ _ _ _ w.if-t-eq-NAME.false
+    ]

@@ -7,4 +7,4 @@ returns c p is =
     let count = c.count-n in
     let put_frame = c.put_frame in
     let put_count = c.put_count in
-    frame_added _ p is _ _ count.result _ count.ensures.0 (omega (arith, count.ensures.0, c.requires.1)) put_frame.ensures.block_after put_count.ensures
+    frame_added _ p is _ _ count.result _ count.ensures.0 (omega (arith, count.ensures.0, c.requires)) put_frame.ensures.block_after put_count.ensures

@@ -7,4 +7,4 @@ returns c p is l =
     let word = c.word-kind in
     let word2 = c.word-x in
     c.frame_of.ensures
-    ∙ frame_read _ p is _ _ _ _ c.requires.1 l word.ensures.0 word2.ensures.0 c.word-y.ensures.0
+    ∙ frame_read _ p is _ _ _ _ c.requires l word.ensures.0 word2.ensures.0 c.word-y.ensures.0

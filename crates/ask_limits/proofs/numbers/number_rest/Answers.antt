@@ -1,19 +1,14 @@
-use mathlib.Core.Path.{◌∙◌}
-use native.Mathlib.Nat.{le_refl}
-use Rattle.numbering.specs.Numbers.{role_test}
-use Rattle.numbering.specs.declared.Sort.TheVariants.{Variables}
-use Rattle.numbering.proofs.NumberLaws.{room_still}
+use Rattle.std.proofs.Common.{◌≡◌, arith, rules, ◌∙◌}
+use Rattle.spellings.proofs.TableLaws.{none_held}
 use Rattle.ask_limits.proofs.Values.{sorts_on}
+use Rattle.ask_limits.proofs.numbers.number_rest.Invariants.{sorts}
 use Rattle.ask_limits.proofs.numbers.number_rest.Goals as goal
 
-pub number_sort-requires : goal.number_sort-requires
-number_sort-requires c =
-    let f = c.number_members.ensures in record { token_arrays = (room_still _ (le_refl _) f.values_long f.firsts_long f.links_long c.requires.token_arrays.0, f.heads_long ∙ c.requires.token_arrays.1); linked_sort = (c.requires.chains_are.0.each Variables, c.requires.chains_are.1) }
+pub number_names-requires : goal.number_names-requires
+number_names-requires g c =
+    let empty = c.clear.ensures in
+    (search (rules, c.loop-sort.table.small), ((omega (arith, c.requires.0, c.loop-sort.auto.values), c.requires.1), (none_held _ c.clear.new.self empty, empty.1)))
 
-pub shape_of-values : goal.shape_of-values
-shape_of-values c =
-    c.number_sort.ensures.values_long ∙ c.number_members.ensures.values_long
-
-pub returns : goal.returns
-returns c =
-    (sorts_on (role_test Variables) _ _ _ _ _ _ _ _ _ _ _ _ _ _ _ _ _ c.number_members.ensures c.number_sort.ensures).values_are
+pub loop-sort-preserved : goal.loop-sort-preserved
+loop-sort-preserved g c =
+    sorts_on c.args.linked.now.tokens sorts c.loop-sort.sort-index _ _ _ c.loop-sort-test.true c.number_names.ensures.values_are ∙ c.loop-sort.invariant

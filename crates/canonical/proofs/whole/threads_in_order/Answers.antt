@@ -1,34 +1,50 @@
-use Rattle.in_order.proofs.Answers.{refused}
+use Rattle.script.specs.Asking.{Decides}
+use Rattle.machine.specs.Machine.{field_count}
+use Rattle.in_order.proofs.Answers.{both_asked, first_refused}
 use Rattle.canonical.proofs.WholeLaws as laws
-use mathlib.Core.Path.{ap}
-use mathlib.Core.Bool.{not}
 use Rattle.canonical.proofs.whole.threads_in_order.Goals as goal
+use Rattle.canonical.proofs.whole.threads_in_order.Goals.{then-area_in_order, else-area_in_order, then-area_in_order-2, else-area_in_order-2, then-one_tree, else-one_tree}
 
-pub returns-then-not-area_in_order : goal.returns-then-not-area_in_order
-returns-then-not-area_in_order c =
-    refused (λ o. o.positions) c.area_in_order.ensures (ap not c.if-not-area_in_order.true)
+pub returns-then-frames_add_up : goal.returns-then-frames_add_up
+returns-then-frames_add_up c =
+    let areas : Decides (laws.Areas (field_count c.args.s.now) c.args.block.now) c.if-area_in_order.value =
+    elim c.if-area_in_order.branch [
+      | then-area_in_order w ↦ both_asked c.area_in_order.ensures w.if-area_in_order.true w.area_in_order-then-area_in_order.ensures w.value-is
+      | else-area_in_order w ↦ first_refused c.area_in_order.ensures w.if-area_in_order.false w.value-is
+    ]
+    in
+    let trees : Decides (laws.Tree (field_count c.args.s.now) c.args.block.now) c.if-area_in_order-2.value =
+    elim c.if-area_in_order-2.branch [
+      | then-area_in_order-2 w ↦ both_asked areas w.if-area_in_order-2.true w.one_tree.ensures w.value-is
+      | else-area_in_order-2 w ↦ first_refused areas w.if-area_in_order-2.false w.value-is
+    ]
+    in
+    let counts : Decides (laws.Counted (field_count c.args.s.now) c.args.block.now) c.if-one_tree.value =
+    elim c.if-one_tree.branch [
+      | then-one_tree w ↦ both_asked trees w.if-one_tree.true w.frames_add_up.ensures w.value-is
+      | else-one_tree w ↦ first_refused trees w.if-one_tree.false w.value-is
+    ]
+    in
+    laws.threads_asked counts c.if-frames_add_up.true c.zeros.ensures
 
-pub returns-then-not-area_in_order-2 : goal.returns-then-not-area_in_order-2
-returns-then-not-area_in_order-2 c =
-    refused (λ o. o.frames) c.area_in_order-2.ensures (ap not c.if-not-area_in_order-2.true)
-
-pub one_tree-requires : goal.one_tree-requires
-one_tree-requires c =
-    (c.requires.1, laws.few_positions c.area_in_order.ensures (ap not c.if-not-area_in_order.false))
-
-pub returns-then-not-one_tree : goal.returns-then-not-one_tree
-returns-then-not-one_tree c =
-    refused (λ o. o.one_tree) c.one_tree.ensures (ap not c.if-not-one_tree.true)
-
-pub frames_add_up-requires : goal.frames_add_up-requires
-frames_add_up-requires c =
-    (c.requires.1, laws.few_positions c.area_in_order.ensures (ap not c.if-not-area_in_order.false))
-
-pub returns-then-not-frames_add_up : goal.returns-then-not-frames_add_up
-returns-then-not-frames_add_up c =
-    refused (λ o. o.all_frames) c.frames_add_up.ensures (ap not c.if-not-frames_add_up.true)
-
-pub returns : goal.returns
-returns c =
-    laws.threads_asked c.area_in_order.ensures (ap not c.if-not-area_in_order.false) c.area_in_order-2.ensures (ap not c.if-not-area_in_order-2.false) c.one_tree.ensures (ap not c.if-not-one_tree.false) c.frames_add_up.ensures (ap not c.if-not-frames_add_up.false)
-    c.zeros.ensures
+pub returns-else-frames_add_up : goal.returns-else-frames_add_up
+returns-else-frames_add_up c =
+    let areas : Decides (laws.Areas (field_count c.args.s.now) c.args.block.now) c.if-area_in_order.value =
+    elim c.if-area_in_order.branch [
+      | then-area_in_order w ↦ both_asked c.area_in_order.ensures w.if-area_in_order.true w.area_in_order-then-area_in_order.ensures w.value-is
+      | else-area_in_order w ↦ first_refused c.area_in_order.ensures w.if-area_in_order.false w.value-is
+    ]
+    in
+    let trees : Decides (laws.Tree (field_count c.args.s.now) c.args.block.now) c.if-area_in_order-2.value =
+    elim c.if-area_in_order-2.branch [
+      | then-area_in_order-2 w ↦ both_asked areas w.if-area_in_order-2.true w.one_tree.ensures w.value-is
+      | else-area_in_order-2 w ↦ first_refused areas w.if-area_in_order-2.false w.value-is
+    ]
+    in
+    let counts : Decides (laws.Counted (field_count c.args.s.now) c.args.block.now) c.if-one_tree.value =
+    elim c.if-one_tree.branch [
+      | then-one_tree w ↦ both_asked trees w.if-one_tree.true w.frames_add_up.ensures w.value-is
+      | else-one_tree w ↦ first_refused trees w.if-one_tree.false w.value-is
+    ]
+    in
+    laws.threads_refused counts c.if-frames_add_up.false

@@ -1,30 +1,21 @@
-use native.Mathlib.Omega.{arith}
-use Rattle.subtypes.proofs.SubtypeLaws.{laid}
-use Rattle.checker.proofs.CheckLaws.{all_fit, place_fits, tables_filled}
-use Rattle.checker.proofs.StageLaws.{joins_no, classes_no, then_walk}
-use Rattle.typing.proofs.Exact.{joins_lowest, classes_lowest, one_meaning}
+use Rattle.typing.proofs.Exact.{joins_lowest, one_meaning}
+use Rattle.inference.proofs.InferLaws.{exit}
+use Rattle.checker.proofs.CheckLaws.{found, says_none, goes_on, stops, each_of}
+use Rattle.checker.proofs.StageLaws.{ask_joins, then_walk}
 use Rattle.checker.proofs.check.member_verdict.Goals as goal
 
-pub overflow_cast-result : goal.overflow_cast-result
-overflow_cast-result c =
-    omega (arith, place_fits _ (joins_lowest _ c.requires.0) c.joins_no-joins.ensures _ (laid c.requires.0) c.in-At.is)
+pub returns-in_err-ask-clause-value : goal.returns-in_err-ask-clause-value
+returns-in_err-ask-clause-value c =
+    rw (exit _ c.from_residual.ensures.1) (stops _ (ask_joins _) (found c.check_joins.ensures c.ask.ensures) c.in_err-ask.was)
 
-pub returns-in-At : goal.returns-in-At
-returns-in-At c =
-    record { value = joins_no _ _ c.joins_no-joins.ensures _ c.in-At.is; tables_filled = tt }
+pub returns-in_err-ask-2-clause-value : goal.returns-in_err-ask-2-clause-value
+returns-in_err-ask-2-clause-value c =
+    rw (exit _ c.from_residual-in_err-ask-2.ensures.1) (stops _ (goes_on (ask_joins _) (found c.check_joins.ensures c.ask.ensures) c.in_ok-ask.was) (found c.check_classes.ensures c.ask-2.ensures) c.in_err-ask-2.was)
 
-pub classes_no-classes-requires : goal.classes_no-classes-requires
-classes_no-classes-requires c =
-    (c.requires.0, c.fill_starts.ensures, one_meaning _ c.requires.0 (all_fit _ (joins_lowest _ c.requires.0) c.joins_no-joins.ensures c.in_default.is))
+pub check_classes-requires : goal.check_classes-requires
+check_classes-requires c =
+    one_meaning _ c.requires.0 (each_of (joins_lowest _ c.requires.0) (says_none _ (found c.check_joins.ensures c.ask.ensures) c.in_ok-ask.was))
 
-pub overflow_cast-result-in-At-classes : goal.overflow_cast-result-in-At-classes
-overflow_cast-result-in-At-classes c =
-    omega (arith, place_fits _ (classes_lowest _ c.requires.0 (one_meaning _ c.requires.0 (all_fit _ (joins_lowest _ c.requires.0) c.joins_no-joins.ensures c.in_default.is))) c.classes_no-classes.ensures _ (laid c.requires.0) c.in-At-classes.is)
-
-pub returns-in-At-classes : goal.returns-in-At-classes
-returns-in-At-classes c =
-    record { value = classes_no _ _ c.joins_no-joins.ensures c.in_default.is _ c.classes_no-classes.ensures _ c.in-At-classes.is; tables_filled = tt }
-
-pub returns : goal.returns
-returns c =
-    record { value = then_walk _ _ c.joins_no-joins.ensures c.in_default.is _ c.classes_no-classes.ensures _ c.in_default-classes.is c.walk_verdict.ensures.value; tables_filled = tables_filled c.fill_starts.ensures c.walk_verdict.ensures.facts c.walk_verdict.result }
+pub returns-clause-value : goal.returns-clause-value
+returns-clause-value c =
+    then_walk _ (goes_on (goes_on (ask_joins _) (found c.check_joins.ensures c.ask.ensures) c.in_ok-ask.was) (found c.check_classes.ensures c.ask-2.ensures) c.in_ok-ask-2.was) _ c.walk_verdict.ensures.value

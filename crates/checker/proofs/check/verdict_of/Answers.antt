@@ -1,34 +1,31 @@
-use borrow.Author.Tests.{not-true, not-false}
-use mathlib.Core.Path.{sym, ◌∙◌}
-use Rattle.checker.proofs.CheckLaws.{contents_fit, laid, length_no, counts_no, places_no, then_records}
-use mathlib.Core.Path.{ap}
-use mathlib.Core.Bool.{not}
+use Rattle.inference.proofs.InferLaws.{exit}
+use Rattle.checker.proofs.CheckLaws.{found_whole, says_none, zero_yes, goes_on, stops, ask_length, contents_fit, laid, then_records}
 use Rattle.checker.proofs.check.verdict_of.Goals as goal
 
-pub returns-then-not-length_fits : goal.returns-then-not-length_fits
-returns-then-not-length_fits c =
-    record { value = length_no _ (sym c.length_fits.ensures ∙ not-true _ (ap not c.if-not-length_fits.true)); tables_filled = tt }
+pub returns-in_err-ask-clause-value : goal.returns-in_err-ask-clause-value
+returns-in_err-ask-clause-value c =
+    rw (exit _ c.from_residual.ensures.1) (stops _ (ask_length _) (found_whole c.length_fits.ensures c.at_zero.ensures c.ask.ensures) c.in_err-ask.was)
+
+pub returns-in_err-ask-2-clause-value : goal.returns-in_err-ask-2-clause-value
+returns-in_err-ask-2-clause-value c =
+    rw (exit _ c.from_residual-in_err-ask-2.ensures.1) (stops _ (goes_on (ask_length _) (found_whole c.length_fits.ensures c.at_zero.ensures c.ask.ensures) c.in_ok-ask.was) (found_whole c.counts_fit.ensures c.at_zero-2.ensures c.ask-2.ensures) c.in_err-ask-2.was)
+
+pub returns-in_err-ask-3-clause-value : goal.returns-in_err-ask-3-clause-value
+returns-in_err-ask-3-clause-value c =
+    rw (exit _ c.from_residual-in_err-ask-3.ensures.1) (stops _ (goes_on (goes_on (ask_length _) (found_whole c.length_fits.ensures c.at_zero.ensures c.ask.ensures) c.in_ok-ask.was) (found_whole c.counts_fit.ensures c.at_zero-2.ensures c.ask-2.ensures) c.in_ok-ask-2.was) (found_whole c.places_fit.ensures c.at_zero-3.ensures c.ask-3.ensures) c.in_err-ask-3.was)
 
 pub counts_fit-requires : goal.counts_fit-requires
 counts_fit-requires c =
-    contents_fit _ (sym c.length_fits.ensures ∙ not-false _ (ap not c.if-not-length_fits.false))
-
-pub returns-then-not-counts_fit : goal.returns-then-not-counts_fit
-returns-then-not-counts_fit c =
-    record { value = counts_no _ (sym c.length_fits.ensures ∙ not-false _ (ap not c.if-not-length_fits.false)) (sym c.counts_fit.ensures ∙ not-true _ (ap not c.if-not-counts_fit.true)); tables_filled = tt }
+    contents_fit _ (zero_yes _ (says_none _ (found_whole c.length_fits.ensures c.at_zero.ensures c.ask.ensures) c.in_ok-ask.was))
 
 pub places_fit-requires : goal.places_fit-requires
 places_fit-requires c =
-    contents_fit _ (sym c.length_fits.ensures ∙ not-false _ (ap not c.if-not-length_fits.false))
+    contents_fit _ (zero_yes _ (says_none _ (found_whole c.length_fits.ensures c.at_zero.ensures c.ask.ensures) c.in_ok-ask.was))
 
-pub returns-then-not-places_fit : goal.returns-then-not-places_fit
-returns-then-not-places_fit c =
-    record { value = places_no _ (sym c.length_fits.ensures ∙ not-false _ (ap not c.if-not-length_fits.false)) (sym c.counts_fit.ensures ∙ not-false _ (ap not c.if-not-counts_fit.false)) (sym c.places_fit.ensures ∙ not-true _ (ap not c.if-not-places_fit.true)); tables_filled = tt }
+pub invariant_of-record_verdict : goal.invariant_of-record_verdict
+invariant_of-record_verdict c =
+    record { laid = laid _ (zero_yes _ (says_none _ (found_whole c.length_fits.ensures c.at_zero.ensures c.ask.ensures) c.in_ok-ask.was)) (zero_yes _ (says_none _ (found_whole c.counts_fit.ensures c.at_zero-2.ensures c.ask-2.ensures) c.in_ok-ask-2.was)) (zero_yes _ (says_none _ (found_whole c.places_fit.ensures c.at_zero-3.ensures c.ask-3.ensures) c.in_ok-ask-3.was)) }
 
-pub record_verdict-requires : goal.record_verdict-requires
-record_verdict-requires c =
-    (laid _ (sym c.length_fits.ensures ∙ not-false _ (ap not c.if-not-length_fits.false)) (sym c.counts_fit.ensures ∙ not-false _ (ap not c.if-not-counts_fit.false)) (sym c.places_fit.ensures ∙ not-false _ (ap not c.if-not-places_fit.false)), c.requires)
-
-pub returns : goal.returns
-returns c =
-    record { value = then_records _ (sym c.length_fits.ensures ∙ not-false _ (ap not c.if-not-length_fits.false)) (sym c.counts_fit.ensures ∙ not-false _ (ap not c.if-not-counts_fit.false)) _ (sym c.places_fit.ensures ∙ not-false _ (ap not c.if-not-places_fit.false)) c.record_verdict.ensures.value; tables_filled = c.record_verdict.ensures.tables_filled }
+pub returns-clause-value : goal.returns-clause-value
+returns-clause-value c =
+    then_records _ (goes_on (goes_on (goes_on (ask_length _) (found_whole c.length_fits.ensures c.at_zero.ensures c.ask.ensures) c.in_ok-ask.was) (found_whole c.counts_fit.ensures c.at_zero-2.ensures c.ask-2.ensures) c.in_ok-ask-2.was) (found_whole c.places_fit.ensures c.at_zero-3.ensures c.ask-3.ensures) c.in_ok-ask-3.was) _ c.record_verdict.ensures.value

@@ -9,26 +9,26 @@ use Rattle.choices.proofs.nodes.resume.Goals as goal
 
 pub word-frames-requires : goal.word-frames-requires
 word-frames-requires c =
-    (seen_length c.requires.1.here.seen, seen_room c.requires.1.here.seen, omega arith)
+    (seen_room c.requires.1.here.seen, omega arith)
 
 pub returns-then-frames-eq0 : goal.returns-then-frames-eq0
 returns-then-frames-eq0 c =
     record { performs = λ c₀ p rest fs own h. performs_as (laws.finished_stays _ c₀ p _ fs h (sym c.word-frames.ensures.0 ∙ c.if-frames-eq0.true)) performs_still; table_unchanged = refl }
 
-pub top_frame-f-requires : goal.top_frame-f-requires
-top_frame-f-requires c =
+pub top_frame-requires : goal.top_frame-requires
+top_frame-requires c =
     (some_state c.requires.1.here.seen, omega (arith, c.word-frames.ensures.0))
 
 pub wake-requires : goal.wake-requires
 wake-requires c =
-    let blank = c.requires.0 in let h = c.requires.1 in let seen = h.here.seen in let bindings = h.stores.bindings in let there = laws.resumes_there h _ _ _ (λ z. c.if-frames-eq0.false (c.word-frames.ensures.0 ∙ z)) c.top_frame-f.ensures c.in-Awaits.is in
-    let first = laws.resumes_first h _ _ _ (λ z. c.if-frames-eq0.false (c.word-frames.ensures.0 ∙ z)) c.top_frame-f.ensures c.in-Awaits.is in
+    let blank = c.requires.0 in let h = c.requires.1 in let seen = h.here.seen in let bindings = h.stores.bindings in let there = laws.resumes_there h _ _ _ (λ z. c.if-frames-eq0.false (c.word-frames.ensures.0 ∙ z)) c.top_frame.ensures c.in-Awaits.is in
+    let first = laws.resumes_first h _ _ _ (λ z. c.if-frames-eq0.false (c.word-frames.ensures.0 ∙ z)) c.top_frame.ensures c.in-Awaits.is in
     record {
       at_typed_frame = record {
         blank = blank;
-        chain = seen_chain seen blank.within bindings _ there.env;
-        typed = seen_typed seen blank.within bindings;
-        types = seen_env seen blank.within bindings _;
+        chain = seen_chain seen c.args.code.now.script.within_layout bindings _ there.env;
+        typed = seen_typed seen c.args.code.now.script.within_layout bindings;
+        types = seen_env seen c.args.code.now.script.within_layout bindings _;
         frame = record { here = some_state seen; waiting = omega (arith, c.word-frames.ensures.0); word = laws.resumes_word h };
       };
       node_bound = (there.node, first);
@@ -44,12 +44,12 @@ open_lock-requires c =
 
 pub returns-in-Awaits : goal.returns-in-Awaits
 returns-in-Awaits c =
-    record { performs = λ c₀ p rest fs own h. laws.resumes_node _ c₀ p _ _ (λ z. c.if-frames-eq0.false (c.word-frames.ensures.0 ∙ z)) c.top_frame-f.ensures _ _ c.in-Awaits.is fs h (λ g gs k. c.wake.ensures.wakes c₀ p rest g gs own k); table_unchanged = c.wake.ensures.table_unchanged }
+    record { performs = λ c₀ p rest fs own h. laws.resumes_node _ c₀ p _ _ (λ z. c.if-frames-eq0.false (c.word-frames.ensures.0 ∙ z)) c.top_frame.ensures _ _ c.in-Awaits.is fs h (λ g gs k. c.wake.ensures.wakes c₀ p rest g gs own k); table_unchanged = c.wake.ensures.table_unchanged }
 
 pub returns-in-Casts : goal.returns-in-Casts
 returns-in-Casts c =
-    record { performs = λ c₀ p rest fs own h. laws.resumes_cast _ c₀ p _ _ (λ z. c.if-frames-eq0.false (c.word-frames.ensures.0 ∙ z)) c.top_frame-f.ensures _ c.in-Casts.is fs h (λ gs k. c.drop_cast.ensures rest c₀.stores _ gs k.seen); table_unchanged = refl }
+    record { performs = λ c₀ p rest fs own h. laws.resumes_cast _ c₀ p _ _ (λ z. c.if-frames-eq0.false (c.word-frames.ensures.0 ∙ z)) c.top_frame.ensures _ c.in-Casts.is fs h (λ gs k. c.drop_cast.ensures rest c₀.stores _ gs k.seen); table_unchanged = refl }
 
 pub returns-in-Locks : goal.returns-in-Locks
 returns-in-Locks c =
-    record { performs = λ c₀ p rest fs own h. laws.resumes_lock _ c₀ p _ _ (λ z. c.if-frames-eq0.false (c.word-frames.ensures.0 ∙ z)) c.top_frame-f.ensures _ c.in-Locks.is fs h (λ gs k. c.open_lock.ensures rest c₀.stores gs k.seen); table_unchanged = refl }
+    record { performs = λ c₀ p rest fs own h. laws.resumes_lock _ c₀ p _ _ (λ z. c.if-frames-eq0.false (c.word-frames.ensures.0 ∙ z)) c.top_frame.ensures _ c.in-Locks.is fs h (λ gs k. c.open_lock.ensures rest c₀.stores gs k.seen); table_unchanged = refl }

@@ -5,10 +5,6 @@ use Rattle.moves.proofs.Laws as laws
 use Rattle.moves.specs.Performs.{performs_full, performs_moved}
 use Rattle.control.proofs.control.become_join.Goals as goal
 
-pub thread_count-requires : goal.thread_count-requires
-thread_count-requires c =
-    seen_length c.requires.seen
-
 pub returns-then-thread_count-ge-THREADS : goal.returns-then-thread_count-ge-THREADS
 returns-then-thread_count-ge-THREADS c =
     λ d x st a₀ fs is s. rw (laws.no_room {most = THREADS} (c.thread_count.ensures.exact d is) c.if-thread_count-ge-THREADS.true) performs_full

@@ -3,10 +3,6 @@ use Rattle.moves.proofs.Laws as laws
 use Rattle.moves.specs.Performs.{performs_full, performs_moved}
 use Rattle.control.proofs.control.leave_frame.Goals as goal
 
-pub count-requires : goal.count-requires
-count-requires c =
-    seen_length c.requires.seen
-
 pub returns-then-count-ge-FRAMES : goal.returns-then-count-ge-FRAMES
 returns-then-count-ge-FRAMES c =
     λ x st a₀ fs s. rw (laws.no_room c.count.ensures.0 c.if-count-ge-FRAMES.true) performs_full

@@ -1,14 +1,10 @@
 use native.Mathlib.Omega.{arith}
-use Rattle.enabled.proofs.LookLaws.{standing_length, none_first, none_next, none_all, one_able, first_able}
+use Rattle.enabled.proofs.LookLaws.{none_first, none_next, none_all, one_able, first_able}
 use Rattle.enabled.proofs.looks.any_can_move.Goals as goal
 
 pub returns-then-can_move : goal.returns-then-can_move
 returns-then-can_move c =
     first_able _ c.can_move.ensures c.if-can_move.true
-
-pub count-count-requires : goal.count-count-requires
-count-count-requires c =
-    standing_length c.requires.1
 
 pub loop-i-init : goal.loop-i-init
 loop-i-init c =

@@ -3,12 +3,8 @@ use mathlib.Core.Path.{sym, ap, ◌∙◌}
 use lib.Dec.{eqb}
 use mathlib.Core.Bool.{not}
 use Rattle.tree.specs.declared.Entry.{Entry}
-use Rattle.enabled.proofs.LookLaws.{standing_length, standing_few, absent_not, failed_not, running_asks, running_there, returning_moves, join_asks, join_moves}
+use Rattle.enabled.proofs.LookLaws.{standing_few, absent_not, failed_not, running_asks, running_there, returning_moves, join_asks, join_moves}
 use Rattle.enabled.proofs.looks.can_move.Goals as goal
-
-pub count-requires : goal.count-requires
-count-requires c =
-    standing_length c.requires.1
 
 pub returns-then-count-n : goal.returns-then-count-n
 returns-then-count-n c =
@@ -16,11 +12,12 @@ returns-then-count-n c =
 
 pub entry_at-x-requires : goal.entry_at-x-requires
 entry_at-x-requires c =
-    (standing_length c.requires.1, omega (arith, standing_few c.requires.1))
+    omega (arith, standing_few c.requires.1)
 
 pub node_can_move-requires : goal.node_can_move-requires
 node_can_move-requires c =
-    running_asks c.requires.1 _ (omega arith) c.requires.0 (ap (λ (y : Entry). y.cell) (sym c.entry_at-x.ensures.0) ∙ c.in-Running.is)
+    let x = running_asks c.requires.1 _ (omega arith) c.requires.0 (ap (λ (y : Entry). y.cell) (sym c.entry_at-x.ensures.0) ∙ c.in-Running.is) in
+    (c.requires.0, x.0, x.1, x.2)
 
 pub join_can_move-requires : goal.join_can_move-requires
 join_can_move-requires c =

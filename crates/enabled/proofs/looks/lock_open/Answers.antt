@@ -1,19 +1,14 @@
-use mathlib.Core.Path.{sym, ◌∙◌}
-use Rattle.enabled.proofs.LookLaws.{lock_able, open_able}
+use mathlib.Core.Path.{ap, ◌∙◌}
+use mathlib.Core.Bool.{not}
+use Rattle.enabled.proofs.LookLaws.{lock_stays, lock_able}
 use Rattle.enabled.proofs.looks.lock_open.Goals as goal
+use Rattle.enabled.proofs.looks.lock_open.Goals.{in-Stays, in_default}
 
-pub returns-in-Stays : goal.returns-in-Stays
-returns-in-Stays c =
-    λ c₀ p rest a₀ a k fs h. lock_able c₀.stores fs a _ k (c.lock_access-access.ensures.x_value c₀ p rest a₀ a k fs h) c.in-Stays.is
-
-pub returns-in-Null : goal.returns-in-Null
-returns-in-Null c =
-    λ c₀ p rest a₀ a k fs h. lock_able c₀.stores fs a _ k (c.lock_access-access.ensures.x_value c₀ p rest a₀ a k fs h) c.in-Null.is
-
-pub returns-in-Open : goal.returns-in-Open
-returns-in-Open c =
-    λ c₀ p rest a₀ a k fs h. sym (open_able c₀.stores fs a _ _ k) ∙ lock_able c₀.stores fs a _ k (c.lock_access-access.ensures.x_value c₀ p rest a₀ a k fs h) c.in-Open.is
-
-pub returns-in-Held : goal.returns-in-Held
-returns-in-Held c =
-    λ c₀ p rest a₀ a k fs h. lock_able c₀.stores fs a _ k (c.lock_access-access.ensures.x_value c₀ p rest a₀ a k fs h) c.in-Held.is
+pub returns : goal.returns
+returns c =
+    λ d p rest a₀ a k fs h.
+    let due = c.lock_access.ensures.x_value d p rest a₀ a k fs h in
+    elim c.match-matches.branch [
+      | in-Stays w ↦ ap not w.matches-is ∙ lock_stays d.stores fs a _ k due w.in-Stays.is
+      | in_default w ↦ ap not w.matches-is ∙ lock_able d.stores fs a _ k due w.in_default.not-Stays
+    ]

@@ -1,5 +1,6 @@
+use mathlib.Core.Path.{◌∙◌}
 use native.Mathlib.Omega.{arith}
-use Rattle.enabled.proofs.MarkLaws.{mark_none, mark_more, mark_all}
+use Rattle.enabled.proofs.MarkLaws.{byte_is, mark_none, mark_more, mark_all}
 use Rattle.enabled.proofs.marks.mark.Goals as goal
 
 pub loop-n-init : goal.loop-n-init
@@ -12,7 +13,7 @@ bounds-flags-n c =
 
 pub loop-n-preserved : goal.loop-n-preserved
 loop-n-preserved c =
-    mark_more c.loop-n.invariant c.loop-n-test.true c.can_move-can.ensures c.flag_of.ensures
+    mark_more c.loop-n.invariant (omega arith) c.can_move.ensures (c.from.ensures ∙ byte_is c.can_move.result)
 
 pub shape_of-flags : goal.shape_of-flags
 shape_of-flags c =

@@ -1,10 +1,5 @@
-use Prim.Native.Nat.{◌-◌}
-use Rattle.limits.specs.Limits.{FLAGS}
 use Rattle.enabled.proofs.MarkLaws.{Marked}
 use Rattle.enabled.proofs.marks.mark.Given as goal
 
 abbrev pub invariant-loop-n : goal.invariant-loop-n
 invariant-loop-n l = Marked l.s l.block l.flags l.n
-
-abbrev pub decreases-loop-n : goal.decreases-loop-n
-decreases-loop-n l = FLAGS - l.n

@@ -21,7 +21,7 @@ returns-then-j-eq0 c =
 
 pub same_slot-requires : goal.same_slot-requires
 same_slot-requires c =
-    (c.requires.0.long, laws.place c.requires.0 c.loop-i.invariant.left c.if-i-eq0.false, laws.place c.requires.0 c.loop-i.invariant.right c.if-j-eq0.false)
+    (laws.place c.requires.0 c.loop-i.invariant.left c.if-i-eq0.false, laws.place c.requires.0 c.loop-i.invariant.right c.if-j-eq0.false)
 
 pub returns-then-not-same_slot : goal.returns-then-not-same_slot
 returns-then-not-same_slot c =
@@ -29,11 +29,11 @@ returns-then-not-same_slot c =
 
 pub word-i-requires : goal.word-i-requires
 word-i-requires c =
-    (c.requires.0.long, laws.place c.requires.0 c.loop-i.invariant.left c.if-i-eq0.false, omega arith)
+    (laws.place c.requires.0 c.loop-i.invariant.left c.if-i-eq0.false, omega arith)
 
 pub word-j-requires : goal.word-j-requires
 word-j-requires c =
-    (c.requires.0.long, laws.place c.requires.0 c.loop-i.invariant.right c.if-j-eq0.false, omega arith)
+    (laws.place c.requires.0 c.loop-i.invariant.right c.if-j-eq0.false, omega arith)
 
 pub loop-i-smaller : goal.loop-i-smaller
 loop-i-smaller c =

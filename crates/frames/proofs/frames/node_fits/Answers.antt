@@ -14,7 +14,9 @@ returns-then-count-e c =
 
 pub infer_under-g-requires : goal.infer_under-g-requires
 infer_under-g-requires c =
-    record { empty_env = (c.requires.blank, omega arith); chain = (ready.chain c.requires _ (omega arith), ready.typed c.requires, ready.well c.requires _) }
+    let w = c.args.code.now.script.within_layout in
+    let y = c.requires.1 in
+    record { blank = (c.requires.0, omega arith); chain = (ready.chain w y _ (omega arith), ready.typed w y, ready.well w y _) }
 
 pub returns : goal.returns
 returns c =

@@ -1,4 +1,3 @@
-use Prim.Native.Nat.{◌-◌}
 use mathlib.Core.Path.{◌≡◌}
 use Rattle.machine.specs.declared.Want.TheVariants.{Upto as upto}
 use Rattle.block.specs.declared.Area.TheVariants.{Positions}
@@ -8,7 +7,4 @@ use Rattle.frames.proofs.TreeLaws.{Passed}
 use Rattle.frames.proofs.places.tree_fits.Given as goal
 
 abbrev pub invariant-loop-i : goal.invariant-loop-i
-invariant-loop-i l = (l.count ≡ counted l.block Positions) × Passed l.s l.block l.initial.table l.table (upto l.t) l.from l.i l.want × Remembers l.s l.block l.memo
-
-abbrev pub decreases-loop-i : goal.decreases-loop-i
-decreases-loop-i l = l.count - l.i
+invariant-loop-i l = (l.count ≡ counted l.block Positions) × Passed l.code.script.bytes.now l.block l.initial.table l.table (upto l.t) l.from l.i l.want × Remembers l.code.script.bytes.now l.block l.memo

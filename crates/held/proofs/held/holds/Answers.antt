@@ -6,11 +6,11 @@ use Rattle.held.proofs.held.holds.Goals as goal
 
 pub leftmost_from-first-requires : goal.leftmost_from-first-requires
 leftmost_from-first-requires c =
-    (seen_length c.requires.seen, omega (arith, seen_inside c.requires.seen), seen_few c.requires.seen Positions)
+    (omega (arith, seen_inside c.requires.seen), seen_few c.requires.seen Positions)
 
 pub frames_before-from-requires : goal.frames_before-from-requires
 frames_before-from-requires c =
-    (seen_length c.requires.seen, omega (arith, seen_inside c.requires.seen, c.leftmost_from-first.ensures.inside), seen_few c.requires.seen Positions)
+    (omega (arith, seen_inside c.requires.seen, c.leftmost_from-first.ensures.inside), seen_few c.requires.seen Positions)
 
 pub overflow_add-i : goal.overflow_add-i
 overflow_add-i c =
@@ -18,11 +18,11 @@ overflow_add-i c =
 
 pub frames_before-to-requires : goal.frames_before-to-requires
 frames_before-to-requires c =
-    (seen_length c.requires.seen, omega (arith, seen_inside c.requires.seen), seen_few c.requires.seen Positions)
+    (omega (arith, seen_inside c.requires.seen), seen_few c.requires.seen Positions)
 
 pub lock_within-requires : goal.lock_within-requires
 lock_within-requires c =
-    (seen_length c.requires.seen, omega (arith, sight_frames c.requires, c.frames_before-to.ensures))
+    omega (arith, sight_frames c.requires, c.frames_before-to.ensures)
 
 pub returns : goal.returns
 returns c =

@@ -1,5 +1,6 @@
 use mathlib.Core.Path.{sym, ap, ◌∙◌}
-use Prim.Native.Nat.{◌-◌}
+use mathlib.Core.Path.{◌≡◌}
+use Prim.Native.Nat.{◌+◌, ◌-◌}
 use native.Mathlib.Omega.{arith}
 use Rattle.tree.specs.declared.Entry.{Entry}
 use Rattle.tree.specs.Entries.{beneath_cell}
@@ -17,7 +18,8 @@ returns-then-beneath_at-eq0 c =
     let b = c.args.block.now in
     let l = c.loop-k in
     let beneath = c.beneath_at.ensures.0 ∙ ap (λ (x : Entry). beneath_cell x.cell) (sym (entry_there b (l.k - 1) (omega arith))) in
-    leftmost_stop (entries_in b) c.args.i l.k l.invariant.0 l.invariant.1 _ (omega arith) beneath c.if-beneath_at-eq0.true
+    let e : l.k - 1 + 1 ≡ l.k = omega arith in
+    rw e (leftmost_stop (entries_in b) c.args.i l.k l.invariant.0 l.invariant.1 _ (omega arith) beneath c.if-beneath_at-eq0.true)
 
 pub loop-k-preserved : goal.loop-k-preserved
 loop-k-preserved c =
@@ -29,4 +31,5 @@ loop-k-preserved c =
 pub returns : goal.returns
 returns c =
     let l = c.loop-k in
-    leftmost_root (entries_in c.args.block.now) c.args.i l.k l.invariant.0 l.invariant.1 (omega arith)
+    let e : l.k ≡ 0 = omega arith in
+    rw e at (leftmost_root (entries_in c.args.block.now) c.args.i l.k l.invariant.0 l.invariant.1 e)

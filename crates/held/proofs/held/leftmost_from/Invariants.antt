@@ -5,6 +5,3 @@ use Rattle.held.proofs.held.leftmost_from.Given as goal
 
 abbrev pub invariant-loop-k : goal.invariant-loop-k
 invariant-loop-k l = (l.k ≤ l.i) × JoinsFrom (entries_in l.block) l.k l.i
-
-abbrev pub decreases-loop-k : goal.decreases-loop-k
-decreases-loop-k l = l.k

@@ -7,12 +7,12 @@ use Rattle.in_order.proofs.blanks.blank.Goals as goal
 pub overflow_mul-wide : goal.overflow_mul-wide
 overflow_mul-wide c =
     let ends : (n : ℕ) → n ≤ most c.args.a → c.begins_of-first.result + c.width_of-wide.result * n ≤ END = λ n h. laws.records_end c.args.a _ _ c.begins_of-first.ensures c.width_of-wide.ensures n h in
-    omega (arith, ends c.count-n.result (omega (arith, c.count-n.ensures.0, c.requires.1)))
+    omega (arith, ends c.count-n.result (omega (arith, c.count-n.ensures.0, c.requires)))
 
 pub overflow_add-first : goal.overflow_add-first
 overflow_add-first c =
     let ends : (n : ℕ) → n ≤ most c.args.a → c.begins_of-first.result + c.width_of-wide.result * n ≤ END = λ n h. laws.records_end c.args.a _ _ c.begins_of-first.ensures c.width_of-wide.ensures n h in
-    omega (arith, ends c.count-n.result (omega (arith, c.count-n.ensures.0, c.requires.1)))
+    omega (arith, ends c.count-n.result (omega (arith, c.count-n.ensures.0, c.requires)))
 
 pub overflow_mul-wide-2 : goal.overflow_mul-wide-2
 overflow_mul-wide-2 c =
@@ -26,8 +26,7 @@ overflow_add-first-2 c =
 
 pub zeros-requires : goal.zeros-requires
 zeros-requires c =
-    let ends : (n : ℕ) → n ≤ most c.args.a → c.begins_of-first.result + c.width_of-wide.result * n ≤ END = λ n h. laws.records_end c.args.a _ _ c.begins_of-first.ensures c.width_of-wide.ensures n h in
-    (c.requires.0, omega (arith, ends c.most_of-all.result (omega (arith, c.most_of-all.ensures))))
+    let ends : (n : ℕ) → n ≤ most c.args.a → c.begins_of-first.result + c.width_of-wide.result * n ≤ END = λ n h. laws.records_end c.args.a _ _ c.begins_of-first.ensures c.width_of-wide.ensures n h in omega (arith, ends c.most_of-all.result (omega (arith, c.most_of-all.ensures)))
 
 pub returns : goal.returns
 returns c =

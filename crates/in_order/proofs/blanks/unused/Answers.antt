@@ -6,28 +6,27 @@ use Rattle.in_order.proofs.blanks.unused.Goals as goal
 
 pub overflow_mul-at : goal.overflow_mul-at
 overflow_mul-at c =
-    let ends : (k : ℕ) → k ≤ width c.args.a → c.begins_of-first.result + c.width_of-wide.result * c.args.i + k ≤ END = λ k h. laws.record_ends c.args.a _ _ c.begins_of-first.ensures c.width_of-wide.ensures _ k c.requires.1 h in
+    let ends : (k : ℕ) → k ≤ width c.args.a → c.begins_of-first.result + c.width_of-wide.result * c.args.i + k ≤ END = λ k h. laws.record_ends c.args.a _ _ c.begins_of-first.ensures c.width_of-wide.ensures _ k c.requires.0 h in
     omega (arith, ends 0 (omega arith))
 
 pub overflow_add-at : goal.overflow_add-at
 overflow_add-at c =
-    let ends : (k : ℕ) → k ≤ width c.args.a → c.begins_of-first.result + c.width_of-wide.result * c.args.i + k ≤ END = λ k h. laws.record_ends c.args.a _ _ c.begins_of-first.ensures c.width_of-wide.ensures _ k c.requires.1 h in
+    let ends : (k : ℕ) → k ≤ width c.args.a → c.begins_of-first.result + c.width_of-wide.result * c.args.i + k ≤ END = λ k h. laws.record_ends c.args.a _ _ c.begins_of-first.ensures c.width_of-wide.ensures _ k c.requires.0 h in
     omega (arith, ends 0 (omega arith))
 
 pub overflow_add-at-2 : goal.overflow_add-at-2
 overflow_add-at-2 c =
-    let ends : (k : ℕ) → k ≤ width c.args.a → c.begins_of-first.result + c.width_of-wide.result * c.args.i + k ≤ END = λ k h. laws.record_ends c.args.a _ _ c.begins_of-first.ensures c.width_of-wide.ensures _ k c.requires.1 h in
-    omega (arith, ends c.args.from c.requires.2)
+    let ends : (k : ℕ) → k ≤ width c.args.a → c.begins_of-first.result + c.width_of-wide.result * c.args.i + k ≤ END = λ k h. laws.record_ends c.args.a _ _ c.begins_of-first.ensures c.width_of-wide.ensures _ k c.requires.0 h in
+    omega (arith, ends c.args.from c.requires.1)
 
 pub overflow_add-at-3 : goal.overflow_add-at-3
 overflow_add-at-3 c =
-    let ends : (k : ℕ) → k ≤ width c.args.a → c.begins_of-first.result + c.width_of-wide.result * c.args.i + k ≤ END = λ k h. laws.record_ends c.args.a _ _ c.begins_of-first.ensures c.width_of-wide.ensures _ k c.requires.1 h in
-    omega (arith, ends c.args.to c.requires.3)
+    let ends : (k : ℕ) → k ≤ width c.args.a → c.begins_of-first.result + c.width_of-wide.result * c.args.i + k ≤ END = λ k h. laws.record_ends c.args.a _ _ c.begins_of-first.ensures c.width_of-wide.ensures _ k c.requires.0 h in
+    omega (arith, ends c.args.to c.requires.2)
 
 pub zeros-requires : goal.zeros-requires
 zeros-requires c =
-    let ends : (k : ℕ) → k ≤ width c.args.a → c.begins_of-first.result + c.width_of-wide.result * c.args.i + k ≤ END = λ k h. laws.record_ends c.args.a _ _ c.begins_of-first.ensures c.width_of-wide.ensures _ k c.requires.1 h in
-    (c.requires.0, omega (arith, ends c.args.to c.requires.3))
+    let ends : (k : ℕ) → k ≤ width c.args.a → c.begins_of-first.result + c.width_of-wide.result * c.args.i + k ≤ END = λ k h. laws.record_ends c.args.a _ _ c.begins_of-first.ensures c.width_of-wide.ensures _ k c.requires.0 h in omega (arith, ends c.args.to c.requires.2)
 
 pub returns : goal.returns
 returns c =

@@ -1,28 +1,26 @@
-use Rattle.in_order.proofs.KindLaws as laws
 use mathlib.Core.Path.{ap}
 use mathlib.Core.Bool.{not}
+use mathlib.Core.Logic.{⊎_elim}
+use native.Mathlib.Omega.{arith}
+use Rattle.in_order.proofs.KindLaws as laws
 use Rattle.in_order.proofs.records.position_in_order.Goals as goal
 
-pub returns-then-kind-eq-RUNNING : goal.returns-then-kind-eq-RUNNING
-returns-then-kind-eq-RUNNING c =
-    laws.running_asked _ _ _ c.word-kind.ensures.0 c.if-kind-eq-RUNNING.true c.unused.ensures
+pub returns-in-1 : goal.returns-in-1
+returns-in-1 c =
+    ⊎_elim (λ k. laws.running_asked _ _ _ c.word.ensures.0 k c.unused.ensures) (λ k. laws.join_asked _ _ _ c.word.ensures.0 k c.unused.ensures) c.in-1.is
 
-pub returns-then-not-value_in_order : goal.returns-then-not-value_in_order
-returns-then-not-value_in_order c =
-    laws.value_refused _ _ _ c.word-kind.ensures.0 c.if-kind-eq-RETURNING.true c.value_in_order.ensures (ap not c.if-not-value_in_order.true)
+pub returns-then-value_in_order : goal.returns-then-value_in_order
+returns-then-value_in_order c =
+    laws.returning_asked _ _ _ c.word.ensures.0 c.in-2.is c.value_in_order.ensures (ap not c.if-value_in_order.true) c.unused-then-value_in_order.ensures
 
-pub returns-then-kind-eq-RETURNING : goal.returns-then-kind-eq-RETURNING
-returns-then-kind-eq-RETURNING c =
-    laws.returning_asked _ _ _ c.word-kind.ensures.0 c.if-kind-eq-RETURNING.true c.value_in_order.ensures (ap not c.if-not-value_in_order.false) c.unused-then-kind-eq-RETURNING.ensures
+pub returns-else-value_in_order : goal.returns-else-value_in_order
+returns-else-value_in_order c =
+    rw c.if-value_in_order.false (laws.value_refused _ _ _ c.word.ensures.0 c.in-2.is c.value_in_order.ensures (ap not c.if-value_in_order.false))
 
-pub returns-then-kind-eq-FAILED : goal.returns-then-kind-eq-FAILED
-returns-then-kind-eq-FAILED c =
-    laws.failed_asked _ _ _ c.word-kind.ensures.0 c.if-kind-eq-FAILED.true c.unused-then-kind-eq-FAILED.ensures
+pub returns-in-3 : goal.returns-in-3
+returns-in-3 c =
+    laws.failed_asked _ _ _ c.word.ensures.0 c.in-3.is c.unused-in-3.ensures
 
-pub returns-then-kind-eq-JOIN : goal.returns-then-kind-eq-JOIN
-returns-then-kind-eq-JOIN c =
-    laws.join_asked _ _ _ c.word-kind.ensures.0 c.if-kind-eq-JOIN.true c.unused-then-kind-eq-JOIN.ensures
-
-pub returns : goal.returns
-returns c =
-    laws.unknown_position _ _ _ c.word-kind.ensures.0 c.if-kind-eq-RUNNING.false c.if-kind-eq-RETURNING.false c.if-kind-eq-FAILED.false c.if-kind-eq-JOIN.false
+pub returns-in_default : goal.returns-in_default
+returns-in_default c =
+    laws.unknown_position _ _ _ c.word.ensures.0 (grind arith) (grind arith) (grind arith) (grind arith)

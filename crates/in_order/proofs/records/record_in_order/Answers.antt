@@ -6,19 +6,19 @@ use Rattle.in_order.proofs.records.record_in_order.Goals as goal
 
 pub object_in_order-requires : goal.object_in_order-requires
 object_in_order-requires c =
-    (c.requires.0, c.requires.1, laws.place_there _ Objects _ c.in-Objects.is c.requires.2)
+    (c.requires.0, laws.place_there _ Objects _ c.in-Objects.is c.requires.1)
 
 pub value_in_order-requires : goal.value_in_order-requires
 value_in_order-requires c =
-    (c.requires.1, laws.place_there _ Bindings _ c.in-Bindings.is c.requires.2, omega arith)
+    (laws.place_there _ Bindings _ c.in-Bindings.is c.requires.1, omega arith)
 
 pub position_in_order-requires : goal.position_in_order-requires
 position_in_order-requires c =
-    (c.requires.1, laws.place_there _ Positions _ c.in-Positions.is c.requires.2)
+    laws.place_there _ Positions _ c.in-Positions.is c.requires.1
 
 pub frame_in_order-requires : goal.frame_in_order-requires
 frame_in_order-requires c =
-    (c.requires.1, laws.place_there _ Frames _ c.in-Frames.is c.requires.2)
+    laws.place_there _ Frames _ c.in-Frames.is c.requires.1
 
 pub returns-in-Objects : goal.returns-in-Objects
 returns-in-Objects c =

@@ -11,15 +11,11 @@ loop-i-init c =
 
 pub record_in_order-requires : goal.record_in_order-requires
 record_in_order-requires c =
-    (c.requires.0, c.requires.1, omega (arith, c.count-n.ensures.0, c.requires.2))
+    (c.requires.0, omega (arith, c.count-n.ensures.0, c.requires.1))
 
 pub returns-then-not-record_in_order : goal.returns-then-not-record_in_order
 returns-then-not-record_in_order c =
     laws.one_not (field_count c.args.s.now) c.args.block.now c.args.a c.loop-i.i _ c.count-n.ensures.0 (omega arith) c.record_in_order.ensures (ap not c.if-not-record_in_order.true)
-
-pub overflow_add-i : goal.overflow_add-i
-overflow_add-i c =
-    omega (arith, c.count-n.ensures.1)
 
 pub loop-i-preserved : goal.loop-i-preserved
 loop-i-preserved c =

@@ -10,7 +10,7 @@ loop-k-init c =
 
 pub value_in_order-requires : goal.value_in_order-requires
 value_in_order-requires c =
-    (omega arith, omega arith, omega arith)
+    (omega arith, omega arith)
 
 pub returns-then-not-value_in_order : goal.returns-then-not-value_in_order
 returns-then-not-value_in_order c =

@@ -12,22 +12,22 @@ pub overflow_add-j-2 : goal.overflow_add-j-2
 overflow_add-j-2 c =
     omega (arith, width_small c.args.a)
 
-pub returns-then-kind-eq-INT : goal.returns-then-kind-eq-INT
-returns-then-kind-eq-INT c =
-    let s = c.args in laws.number_words (word_in s.block.now s.a s.i) s.j _ _ _ c.word-kind.ensures.0 c.word-low.ensures c.word-high.ensures c.if-kind-eq-INT.true
+pub returns-in-2 : goal.returns-in-2
+returns-in-2 c =
+    let s = c.args in laws.number_words (word_in s.block.now s.a s.i) s.j _ _ _ c.word.ensures.0 c.word-low.ensures c.word-high.ensures (omega arith)
 
-pub returns-then-high-ne0 : goal.returns-then-high-ne0
-returns-then-high-ne0 c =
-    let s = c.args in laws.high_there (word_in s.block.now s.a s.i) s.j _ _ _ c.word-kind.ensures.0 c.word-low.ensures c.word-high.ensures c.if-kind-eq-INT.false c.if-high-ne0.true
+pub returns-in-1 : goal.returns-in-1
+returns-in-1 c =
+    let s = c.args in laws.an_object (word_in s.block.now s.a s.i) s.j _ _ _ c.word.ensures.0 c.word-low.ensures c.word-high.ensures c.in-1.is
 
-pub returns-then-kind-eq-REF : goal.returns-then-kind-eq-REF
-returns-then-kind-eq-REF c =
-    let s = c.args in laws.an_object (word_in s.block.now s.a s.i) s.j _ _ _ c.word-kind.ensures.0 c.word-low.ensures c.word-high.ensures c.if-high-ne0.false c.if-kind-eq-REF.true
+pub returns-then-low-eq0 : goal.returns-then-low-eq0
+returns-then-low-eq0 c =
+    let s = c.args in laws.a_null (word_in s.block.now s.a s.i) s.j _ _ _ c.word.ensures.0 c.word-low.ensures c.word-high.ensures c.in-0.is c.if-low-eq0.true
 
-pub returns-then-kind-ne-NULL : goal.returns-then-kind-ne-NULL
-returns-then-kind-ne-NULL c =
-    let s = c.args in laws.no_kind (word_in s.block.now s.a s.i) s.j _ _ _ c.word-kind.ensures.0 c.word-low.ensures c.word-high.ensures c.if-kind-eq-INT.false c.if-kind-eq-REF.false c.if-kind-ne-NULL.true
+pub returns-else-low-eq0 : goal.returns-else-low-eq0
+returns-else-low-eq0 c =
+    let s = c.args in laws.low_there (word_in s.block.now s.a s.i) s.j _ _ _ c.word.ensures.0 c.word-low.ensures c.word-high.ensures c.in-0.is c.if-low-eq0.false
 
-pub returns : goal.returns
-returns c =
-    let s = c.args in laws.a_null (word_in s.block.now s.a s.i) s.j _ _ _ c.word-kind.ensures.0 c.word-low.ensures c.word-high.ensures c.if-high-ne0.false c.if-kind-ne-NULL.false
+pub returns-in_default : goal.returns-in_default
+returns-in_default c =
+    let s = c.args in laws.no_kind (word_in s.block.now s.a s.i) s.j _ _ _ c.word.ensures.0 c.word-low.ensures c.word-high.ensures (grind arith) (grind arith) (grind arith)

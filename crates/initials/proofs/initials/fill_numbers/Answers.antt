@@ -1,5 +1,4 @@
 use mathlib.Core.Path.{sym, ◌∙◌}
-use mathlib.Core.Logic.{⊎_elim}
 use native.Mathlib.Omega.{arith}
 use Rattle.script.specs.declared.Section.TheVariants.{Fields as fields}
 use Rattle.subtypes.proofs.SubtypeLaws.{laid}
@@ -13,23 +12,15 @@ loop-k-init c =
 
 pub overflow_add-from : goal.overflow_add-from
 overflow_add-from c =
-    omega (arith, c.requires.0.counts_are.within fields)
+    omega (arith, c.args.script.now.within_layout.counts_are.within fields)
 
 pub record_word-requires : goal.record_word-requires
 record_word-requires c =
-    (laid c.requires.0, omega arith, omega arith)
+    (laid c.args.script.now.within_layout, omega arith, omega arith)
 
 pub put_field-requires : goal.put_field-requires
 put_field-requires c =
-    (laws.started_long c.loop-k.invariant.1 c.requires.3, c.requires.3.room, omega arith)
-
-pub overflow_add-k : goal.overflow_add-k
-overflow_add-k c =
-    omega arith
-
-pub loop-k-smaller : goal.loop-k-smaller
-loop-k-smaller c =
-    omega arith
+    (c.requires.2.room, omega arith)
 
 pub loop-k-preserved : goal.loop-k-preserved
 loop-k-preserved c = (
@@ -39,10 +30,6 @@ loop-k-preserved c = (
     | else-record_word-int w ↦ rw w.block-is (laws.stays_null c.loop-k.invariant.1 _ _ (omega arith) c.record_word.ensures.0 c.int_of-int.ensures.0 w.if-record_word-int.false)
   ],
 )
-
-pub shape_of-block : goal.shape_of-block
-shape_of-block c =
-    laws.started_long c.loop-k.invariant.1 c.requires.3 ∙ sym (laws.new_long c.requires.3)
 
 pub returns : goal.returns
 returns c =

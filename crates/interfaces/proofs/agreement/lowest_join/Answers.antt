@@ -2,7 +2,6 @@ use borrow.Author.Tests.{not-true, not-false}
 use Rattle.interfaces.proofs.AgreementLaws.{passed_more, fault_here, fault_nowhere}
 use Rattle.members.specs.Lookup.{join_by}
 use native.Mathlib.Omega.{arith}
-use mathlib.Core.Bool.{true}
 use mathlib.Core.Path.{ap}
 use mathlib.Core.Bool.{not}
 use Rattle.interfaces.proofs.agreement.lowest_join.Goals as goal
@@ -13,7 +12,7 @@ loop-i-init c =
 
 pub join_agrees-requires : goal.join_agrees-requires
 join_agrees-requires c =
-    (c.requires.0, c.requires.1, omega arith)
+    (c.requires.0, omega arith)
 
 pub returns-then-not-join_agrees : goal.returns-then-not-join_agrees
 returns-then-not-join_agrees c =

@@ -1,6 +1,7 @@
-use Rattle.interfaces.proofs.AgreementLaws.{types_same}
+use Rattle.script.specs.Reading.{signature_at}
 use Rattle.interfaces.proofs.agreement.same_types.Goals as goal
 
 pub returns : goal.returns
+unfolding signature_at
 returns c =
-    types_same _ _ _ _ _ c.record_word-param.ensures.0 c.record_word-result.ensures.0 c.has_types.ensures
+    rw (c.types_at.ensures, c.types_at-2.ensures) at c.eq.ensures

@@ -13,7 +13,7 @@ loop-j-init c =
 
 pub agrees-requires : goal.agrees-requires
 agrees-requires c =
-    (c.requires.0, omega arith)
+    omega arith
 
 pub returns-then-not-agrees : goal.returns-then-not-agrees
 returns-then-not-agrees c =
@@ -25,4 +25,4 @@ loop-j-preserved c =
 
 pub returns : goal.returns
 returns c =
-    λ e. unclashed _ _ _ _ _ _ _ c.record_word-name.ensures.0 c.record_word-param.ensures.0 c.record_word-result.ensures.0 c.count_of-n.ensures.0 c.loop-j-test.false c.loop-j.invariant.1
+    λ e. unclashed _ _ _ _ _ _ c.record_word-name.ensures.0 c.types_at-types.ensures c.count_of-n.ensures.0 c.loop-j-test.false c.loop-j.invariant.1

@@ -2,7 +2,6 @@ use borrow.Author.Count.{below_more}
 use mathlib.Core.Path.{sym}
 use native.Mathlib.Omega.{arith}
 use Rattle.script.proofs.Tests.{true_false}
-use Rattle.subtypes.proofs.SubtypeLaws.{laid}
 use Rattle.interfaces.proofs.ClashLaws.{no_clashes}
 use Rattle.interfaces.proofs.clashes.no_clash.Goals as goal
 
@@ -12,7 +11,7 @@ loop-i-init c =
 
 pub clashes-requires : goal.clashes-requires
 clashes-requires c =
-    (laid c.requires, omega (arith, c.count_of-n.ensures.0))
+    omega (arith, c.count_of-n.ensures.0)
 
 pub returns-then-clashes : goal.returns-then-clashes
 returns-then-clashes c =
@@ -24,4 +23,4 @@ loop-i-preserved c =
 
 pub returns : goal.returns
 returns c =
-    λ e. no_clashes c.requires _ _ c.count_of-n.ensures.0 c.loop-i-test.false c.loop-i.invariant
+    λ e. no_clashes c.args.script.now.within_layout _ _ c.count_of-n.ensures.0 c.loop-i-test.false c.loop-i.invariant

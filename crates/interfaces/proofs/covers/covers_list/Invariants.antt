@@ -1,9 +1,6 @@
-use Prim.Native.Nat.{ℕ, ◌≤◌, ◌<◌, ◌-◌}
+use Prim.Native.Nat.{ℕ, ◌≤◌, ◌<◌}
 use Rattle.interfaces.specs.Cover.{Defines}
 use Rattle.interfaces.proofs.covers.covers_list.Given as goal
 
 abbrev pub invariant-loop-j : goal.invariant-loop-j
-invariant-loop-j l = (l.from ≤ l.j) × ((k : ℕ) → k < l.j → l.from ≤ k → Defines l.s l.c k)
-
-abbrev pub decreases-loop-j : goal.decreases-loop-j
-decreases-loop-j l = l.end - l.j
+invariant-loop-j l = (l.from ≤ l.j) × ((k : ℕ) → k < l.j → l.from ≤ k → Defines l.script.bytes.now l.c k)

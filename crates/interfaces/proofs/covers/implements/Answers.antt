@@ -4,8 +4,7 @@ use Rattle.interfaces.proofs.covers.implements.Goals as goal
 
 pub covers-requires : goal.covers-requires
 covers-requires c =
-    let pre = c.requires in
-    (pre.0, pre.1, pre.2, class_interface pre.0 _ _ pre.2 c.record_word-t.ensures.0, no_covers _ _)
+    (c.requires, class_interface c.args.script.now.within_layout _ _ c.requires c.record_word-t.ensures.0, no_covers _ _)
 
 pub returns : goal.returns
 returns c =

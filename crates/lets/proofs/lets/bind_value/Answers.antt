@@ -10,11 +10,11 @@ use Rattle.lets.proofs.lets.bind_value.Goals as goal
 
 pub returns-in_default : goal.returns-in_default
 returns-in_default c =
-    record { performs = λ rest st fs g s. performs_as (binds_not s _ fs c.args.w.value c.args.w.name c.args.w.first c.args.w.body c.args.w.env _ c.first_type-first.ensures.value c.in_default.is) performs_still; table_unchanged = c.first_type-first.ensures.table_unchanged }
+    record { performs = λ rest st fs g s. performs_as (binds_not s _ fs c.args.w.value c.args.w.name c.args.w.first c.args.w.body c.args.w.env _ c.first_type.ensures.value c.in_default.is) performs_still; table_unchanged = c.first_type.ensures.table_unchanged }
 
 pub returns-then-n-ge-BINDINGS : goal.returns-then-n-ge-BINDINGS
 returns-then-n-ge-BINDINGS c =
-    record { performs = λ rest st fs g s. performs_as (binds_full s _ fs c.args.w.value c.args.w.name c.args.w.first c.args.w.body c.args.w.env _ c.first_type-first.ensures.value c.in-Typed.is c.count-n.ensures.0 c.if-n-ge-BINDINGS.true) performs_full; table_unchanged = c.first_type-first.ensures.table_unchanged }
+    record { performs = λ rest st fs g s. performs_as (binds_full s _ fs c.args.w.value c.args.w.name c.args.w.first c.args.w.body c.args.w.env _ c.first_type.ensures.value c.in-Ok.is c.count-n.ensures.0 c.if-n-ge-BINDINGS.true) performs_full; table_unchanged = c.first_type.ensures.table_unchanged }
 
 pub pop-requires : goal.pop-requires
 pop-requires c =
@@ -25,7 +25,7 @@ pub returns : goal.returns
 returns c =
     record {
       performs = λ rest st fs g s.
-          performs_as (binds s _ fs c.args.w.value c.args.w.name c.args.w.first c.args.w.body c.args.w.env _ c.first_type-first.ensures.value _ _ c.in-Typed.is c.count-n.ensures.0 c.if-n-ge-BINDINGS.false)
+          performs_as (binds s _ fs c.args.w.value c.args.w.name c.args.w.first c.args.w.body c.args.w.env _ c.first_type.ensures.value _ _ c.in-Ok.is c.count-n.ensures.0 c.if-n-ge-BINDINGS.false)
           (performs_moved (c.pop.ensures rest _ _ g fs (running _ _ fs) refl refl refl (bound_more _ _ c.count-n.ensures.0 c.if-n-ge-BINDINGS.false c.requires.at_typed_frame.frame.word c.add_binding.ensures s)));
-      table_unchanged = c.first_type-first.ensures.table_unchanged;
+      table_unchanged = c.first_type.ensures.table_unchanged;
     }

@@ -8,17 +8,13 @@ use Rattle.locking.proofs.LockLaws as laws
 use Rattle.moves.specs.Performs.{performs_full, performs_moved}
 use Rattle.locking.proofs.locking.shut_object.Goals as goal
 
-pub count-requires : goal.count-requires
-count-requires c =
-    seen_length c.requires.0.seen
-
 pub returns-then-count-ge-FRAMES : goal.returns-then-count-ge-FRAMES
 returns-then-count-ge-FRAMES c =
     λ x st a₀ fs s. rw (no_room c.count.ensures.0 c.if-count-ge-FRAMES.true) performs_full
 
 pub set_shut-requires : goal.set_shut-requires
 set_shut-requires c =
-    (seen_length c.requires.0.seen, omega (arith, c.requires.1, seen_few c.requires.0.seen Objects))
+    omega (arith, c.requires.1, seen_few c.requires.0.seen Objects)
 
 pub push-requires : goal.push-requires
 push-requires c =

@@ -6,7 +6,7 @@ use Rattle.locks.proofs.locks.mark_frame.Goals as goal
 
 pub word-kind-requires : goal.word-kind-requires
 word-kind-requires c =
-    (c.requires.0.long, omega (arith, c.requires.0.few Frames), omega arith)
+    (omega (arith, c.requires.0.few Frames), omega arith)
 
 pub returns-then-kind-ne-LOCKS : goal.returns-then-kind-ne-LOCKS
 returns-then-kind-ne-LOCKS c =
@@ -14,7 +14,7 @@ returns-then-kind-ne-LOCKS c =
 
 pub word-o-requires : goal.word-o-requires
 word-o-requires c =
-    (c.requires.0.long, omega (arith, c.requires.0.few Frames), omega arith)
+    (omega (arith, c.requires.0.few Frames), omega arith)
 
 pub returns-then-count-o : goal.returns-then-count-o
 returns-then-count-o c =
@@ -22,7 +22,7 @@ returns-then-count-o c =
 
 pub word-shut-requires : goal.word-shut-requires
 word-shut-requires c =
-    (c.requires.0.long, omega (arith, c.count.ensures.0, c.requires.0.few Objects), omega arith)
+    (omega (arith, c.count.ensures.0, c.requires.0.few Objects), omega arith)
 
 pub bounds-marks-o : goal.bounds-marks-o
 bounds-marks-o c =

@@ -4,10 +4,6 @@ use mathlib.Core.Path.{ap}
 use mathlib.Core.Bool.{not}
 use Rattle.locks.proofs.locks.mark_frames.Goals as goal
 
-pub count-count-requires : goal.count-count-requires
-count-count-requires c =
-    c.requires.0.long
-
 pub loop-i-init : goal.loop-i-init
 loop-i-init c =
     (omega arith, c.requires.1)

@@ -4,17 +4,13 @@ use Rattle.values.proofs.StoreLaws.{all_done}
 use Rattle.locks.proofs.MarkLaws.{positions_begun, position_failed, position_more}
 use Rattle.locks.proofs.locks.none_failed.Goals as goal
 
-pub count-count-requires : goal.count-count-requires
-count-count-requires c =
-    c.requires.long
-
 pub loop-i-init : goal.loop-i-init
 loop-i-init c =
     (omega arith, positions_begun _ _ c.count-count.ensures.0)
 
 pub word-requires : goal.word-requires
 word-requires c =
-    (c.requires.long, omega (arith, c.count-count.ensures.0, c.requires.few Positions), omega arith)
+    (omega (arith, c.count-count.ensures.0, c.requires.few Positions), omega arith)
 
 pub returns-then-word-eq-FAILED : goal.returns-then-word-eq-FAILED
 returns-then-word-eq-FAILED c =

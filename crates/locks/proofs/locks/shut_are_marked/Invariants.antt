@@ -4,8 +4,5 @@ use Rattle.block.specs.Layout.{counted}
 use Rattle.locks.proofs.MarkLaws.{MarksLeft}
 use Rattle.locks.proofs.locks.shut_are_marked.Given as goal
 
-abbrev pub invariant-loop-n : goal.invariant-loop-n
-invariant-loop-n l = (l.n ≤ counted l.block Objects) × MarksLeft l.block l.marks l.n
-
-abbrev pub decreases-loop-n : goal.decreases-loop-n
-decreases-loop-n l = l.n
+abbrev pub invariant-loop-o : goal.invariant-loop-o
+invariant-loop-o l = (l.o ≤ counted l.block Objects) × MarksLeft l.block l.marks l.o

@@ -2,4 +2,4 @@ use Rattle.masks.proofs.masks.part_mask.Goals as goal
 
 pub returns : goal.returns
 returns c =
-    rw c.node_index-p.ensures.0
+    rw c.record_word.ensures.0

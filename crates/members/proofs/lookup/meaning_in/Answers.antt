@@ -4,15 +4,15 @@ use Rattle.members.proofs.lookup.meaning_in.Goals as goal
 
 pub overflow_add-i : goal.overflow_add-i
 overflow_add-i c =
-    omega (arith, c.requires.2, c.requires.0.counts_are.within interfaces)
+    omega (arith, c.requires, c.args.script.now.within_layout.counts_are.within interfaces)
 
 pub offset_bounds-table-i : goal.offset_bounds-table-i
 offset_bounds-table-i c =
-    omega (arith, c.requires.2, c.requires.0.counts_are.within interfaces)
+    omega (arith, c.requires, c.args.script.now.within_layout.counts_are.within interfaces)
 
 pub bounds-table-i : goal.bounds-table-i
 bounds-table-i c =
-    omega (arith, c.requires.2, c.requires.0.counts_are.within interfaces)
+    omega (arith, c.requires, c.args.script.now.within_layout.counts_are.within interfaces)
 
 pub returns : goal.returns
 returns c =

@@ -6,27 +6,27 @@ use Rattle.members.proofs.lookup.meanings.Goals as goal
 
 pub loop-i-init : goal.loop-i-init
 loop-i-init c =
-    (omega arith, no_meanings _ _ _ c.requires.3)
+    (omega arith, no_meanings _ _ _ c.requires.1)
 
 pub meaning_of-word-requires : goal.meaning_of-word-requires
 meaning_of-word-requires c =
-    let p = c.requires in (p.0, p.1, omega arith, c.loop-i.invariant.1)
+    (omega arith, c.loop-i.invariant.1)
 
 pub offset_bounds-table-i : goal.offset_bounds-table-i
 offset_bounds-table-i c =
-    omega (arith, c.requires.2, c.requires.0.counts_are.within interfaces)
+    omega (arith, c.requires.0, c.args.script.now.within_layout.counts_are.within interfaces)
 
 pub bounds-table-i : goal.bounds-table-i
 bounds-table-i c =
-    omega (arith, c.loop-i.invariant.1.size, c.requires.2, c.requires.0.counts_are.within interfaces)
+    omega (arith, c.loop-i.invariant.1.size, c.requires.0, c.args.script.now.within_layout.counts_are.within interfaces)
 
 pub loop-i-preserved : goal.loop-i-preserved
 loop-i-preserved c =
-    (omega arith, meanings_more _ _ _ _ _ (omega (arith, c.loop-i.invariant.1.size, c.requires.2, c.requires.0.counts_are.within interfaces)) c.loop-i.invariant.1 c.meaning_of-word.ensures)
+    (omega arith, meanings_more _ _ _ _ _ (omega (arith, c.loop-i.invariant.1.size, c.requires.0, c.args.script.now.within_layout.counts_are.within interfaces)) c.loop-i.invariant.1 c.meaning_of-word.ensures)
 
 pub shape_of-table : goal.shape_of-table
 shape_of-table c =
-    c.loop-i.invariant.1.size ∙ sym c.requires.3
+    c.loop-i.invariant.1.size ∙ sym c.requires.1
 
 pub returns : goal.returns
 returns c =

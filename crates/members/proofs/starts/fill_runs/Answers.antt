@@ -2,7 +2,6 @@ use mathlib.Core.Path.{refl}
 use native.Mathlib.Omega.{arith}
 use lib.ListN.{length-set}
 use Rattle.script.proofs.Lists.{sum_start, sum_next}
-use Rattle.sections.specs.Laid.{owner_of}
 use Rattle.members.proofs.LookupLaws.{sum_small, owners_are, no_runs, run_more, runs_done}
 use Rattle.members.proofs.starts.fill_runs.Goals as goal
 

@@ -5,11 +5,11 @@ use Rattle.methods.proofs.methods.add_call.Goals as goal
 
 pub add_binding-requires : goal.add_binding-requires
 add_binding-requires c =
-    (long c.requires.4.0 c.requires.4.1, omega (arith, c.requires.0, c.requires.1))
+    omega (arith, c.requires.0, c.requires.1)
 
 pub add_binding-requires-2 : goal.add_binding-requires-2
 add_binding-requires-2 c =
-    (omega (arith, long c.requires.4.0 c.requires.4.1), omega (arith, one_more c.requires.4.0 _ c.requires.4.1 c.add_binding.ensures, c.requires.0, c.requires.1))
+    omega (arith, one_more c.requires.4.0 _ c.requires.4.1 c.add_binding.ensures, c.requires.0, c.requires.1)
 
 pub returns : goal.returns
 returns c =

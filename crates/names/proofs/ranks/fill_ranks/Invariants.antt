@@ -1,9 +1,6 @@
-use Prim.Native.Nat.{◌*◌, ◌-◌, ◌≤◌}
+use Prim.Native.Nat.{◌*◌, ◌≤◌}
 use Rattle.names.specs.Filling.{FilledTo}
 use Rattle.names.proofs.ranks.fill_ranks.Given as goal
 
 abbrev pub invariant-loop-n : goal.invariant-loop-n
-invariant-loop-n l = (l.n ≤ l.nodes) × FilledTo l.s l.facts (2 * l.n) l.count
-
-abbrev pub decreases-loop-n : goal.decreases-loop-n
-decreases-loop-n l = l.nodes - l.n
+invariant-loop-n l = (l.n ≤ l.nodes) × FilledTo l.script.bytes.now l.facts (2 * l.n) l.count

@@ -1,8 +1,9 @@
+use Rattle.names.specs.Ranks.{link_of}
 use Rattle.names.proofs.SearchLaws.{Looking}
 use Rattle.names.proofs.ranks.find_slot.Given as goal
 
-abbrev pub invariant-loop-at : goal.invariant-loop-at
-invariant-loop-at l = Looking l.s l.facts l.x l.at
+abbrev pub invariant-loop-next : goal.invariant-loop-next
+invariant-loop-next l = Looking l.script.bytes.now l.facts l.x (link_of l.next)
 
-abbrev pub decreases-loop-at : goal.decreases-loop-at
-decreases-loop-at l = l.at
+abbrev pub decreases-loop-next : goal.decreases-loop-next
+decreases-loop-next l = link_of l.next

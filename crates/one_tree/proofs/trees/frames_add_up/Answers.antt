@@ -11,15 +11,11 @@ loop-i-init c =
 
 pub word-requires : goal.word-requires
 word-requires c =
-    (c.requires.0, omega (arith, c.count-n.ensures.0, c.requires.1), omega arith)
+    (omega (arith, c.count-n.ensures.0, c.requires), omega arith)
 
 pub overflow_add-sum : goal.overflow_add-sum
 overflow_add-sum c =
     omega (arith, c.word.ensures.1, c.loop-i.invariant.2, c.count-n.ensures.1)
-
-pub overflow_add-i : goal.overflow_add-i
-overflow_add-i c =
-    omega (arith, c.count-n.ensures.1)
 
 pub loop-i-preserved : goal.loop-i-preserved
 loop-i-preserved c =

@@ -7,6 +7,3 @@ use Rattle.one_tree.proofs.trees.frames_add_up.Given as goal
 
 abbrev pub invariant-loop-i : goal.invariant-loop-i
 invariant-loop-i l = (l.i ≤ l.n) × (l.sum ≡ sum_below (λ k. word_in l.block Positions k WAITING) l.i) × (l.sum ≤ 65536 * l.i)
-
-abbrev pub decreases-loop-i : goal.decreases-loop-i
-decreases-loop-i l = l.n - l.i

@@ -12,15 +12,11 @@ returns-then-trees-eq0 c =
 
 pub word-kind-requires : goal.word-kind-requires
 word-kind-requires c =
-    (c.requires.0, omega (arith, c.count-n.ensures.0, c.requires.1), omega arith)
+    (omega (arith, c.count-n.ensures.0, c.requires), omega arith)
 
 pub after-trees-requires : goal.after-trees-requires
 after-trees-requires c =
     (omega arith, omega (arith, c.loop-i.invariant.few, c.count-n.ensures.1))
-
-pub overflow_add-i : goal.overflow_add-i
-overflow_add-i c =
-    omega (arith, c.count-n.ensures.1)
 
 pub loop-i-preserved : goal.loop-i-preserved
 loop-i-preserved c =

@@ -4,6 +4,3 @@ use Rattle.one_tree.proofs.trees.one_tree.Given as goal
 
 abbrev pub invariant-loop-i : goal.invariant-loop-i
 invariant-loop-i l = Walked l.block l.n l.i l.trees
-
-abbrev pub decreases-loop-i : goal.decreases-loop-i
-decreases-loop-i l = l.n - l.i

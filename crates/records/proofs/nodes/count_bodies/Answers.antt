@@ -7,13 +7,13 @@ pub loop-i-init : goal.loop-i-init
 loop-i-init c =
     (search rules, bodies_start _ _)
 
-pub record_word-body-requires : goal.record_word-body-requires
-record_word-body-requires c =
-    (c.requires, omega (arith, c.count_of-n.ensures.0), omega arith)
+pub record_word-requires : goal.record_word-requires
+record_word-requires c =
+    (omega (arith, c.count_of-n.ensures.0), omega arith)
 
 pub loop-i-preserved : goal.loop-i-preserved
 loop-i-preserved c =
-    (omega arith, bodies_next _ _ _ _ _ _ c.record_word-body.ensures.0 c.loop-i.invariant.1 c.count_use.ensures)
+    (omega arith, bodies_next _ _ _ _ _ _ c.record_word.ensures.0 c.loop-i.invariant.1 c.count_use.ensures)
 
 pub returns : goal.returns
 returns c =

@@ -9,7 +9,7 @@ loop-i-init c =
 
 pub count_parts-requires : goal.count_parts-requires
 count_parts-requires c =
-    (c.requires, omega (arith, c.count_of-n.ensures.0))
+    omega (arith, c.count_of-n.ensures.0)
 
 pub loop-i-preserved : goal.loop-i-preserved
 loop-i-preserved c =

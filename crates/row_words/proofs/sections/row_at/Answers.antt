@@ -3,8 +3,7 @@ use borrow.Author.Tests.{leb-true}
 use Rattle.row_words.proofs.sections.row_at.Goals as goal
 
 pub node_row-requires : goal.node_row-requires
-node_row-requires c =
-    record { readable = c.requires.readable; sizes_bound = (c.requires.sizes_bound.0, c.requires.sizes_bound.1, leb-true 16 _ (rw c.in-Nodes.is at c.requires.sizes_bound.2)) }
+node_row-requires c = leb-true 16 _ (rw c.in-Nodes.is at c.requires)
 
 pub returns-in-Interfaces : goal.returns-in-Interfaces
 returns-in-Interfaces c es m e =

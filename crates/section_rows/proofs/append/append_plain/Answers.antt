@@ -1,31 +1,34 @@
 use native.Mathlib.Omega.{arith}
 use Rattle.section_rows.proofs.PlaceLaws.{place_at_lem}
 use Rattle.section_rows.proofs.AppendLaws.{plain_not_nodes, whole_start, whole_end, whole_room, whole_next}
+use Rattle.section_rows.proofs.SourceLaws.{sizes_few, source_readable}
 use Rattle.section_rows.proofs.append.append_plain.Goals as goal
 
-pub loop-k-init : goal.loop-k-init
-loop-k-init c =
-    (omega arith, whole_start c.requires.sizes_known.readable _ c.requires.unnumbered.1 0 _ _)
+pub node-node-requires-clause-few : goal.node-node-requires-clause-few
+node-node-requires-clause-few c =
+    omega (arith, sizes_few c.args.source.now)
 
-pub overflow_cast-i : goal.overflow_cast-i
-overflow_cast-i c =
-    omega (arith, c.shared_slice_known-in-loop-k-1.given c.loop-k.k)
+pub loop-i-init : goal.loop-i-init
+loop-i-init c =
+    whole_start (source_readable c.args.source.now) _ c.places-i-items.ensures 0 _
 
-pub append_row-end-requires : goal.append_row-end-requires
-append_row-end-requires c =
-    let q = c.requires.sizes_known in let e = c.requires.unnumbered.1 in let p = c.requires.unnumbered.0 in let w = c.loop-k.invariant.1 in let h = c.loop-k-test.true in let z = place_at_lem c.args.section c.args.roles.now e c.loop-k.k (omega arith) in record { readable = (q.readable, z.inside); sizes_bound = (omega (arith, q.few_nodes), omega arith, z.begins); sizes_value = λ n. absurd (plain_not_nodes p n); values_in_bounds = whole_room q.readable c.args.section e w c.requires.values_in_bounds (omega arith) 0 (λ m _. p.same _ 0 m _) }
+pub append_row-requires : goal.append_row-requires
+append_row-requires c =
+    let e = c.places-i-items.ensures in
+    let p = c.requires.unnumbered in
+    let z = place_at_lem c.args.section _ e c.loop-i.i-index c.loop-i-test.true in
+    record {
+      inside = z.inside;
+      begins = z.begins;
+      sizes_value = λ n. absurd (plain_not_nodes p n);
+      fits = whole_room (source_readable c.args.source.now) c.args.section e c.loop-i.invariant c.requires.fits c.loop-i-test.true c.node-node.result.n (λ m _. p.same _ _ m _);
+    }
 
-pub loop-k-preserved : goal.loop-k-preserved
-loop-k-preserved c =
-    let q = c.requires.sizes_known in
-    let e = c.requires.unnumbered.1 in
-    let p = c.requires.unnumbered.0 in
-    (omega arith, whole_next q.readable c.args.section e c.loop-k.invariant.1 c.requires.values_in_bounds (omega arith) 0 (λ m _. p.same _ 0 m _) c.append_row-end.ensures)
-
-pub shape_of-file : goal.shape_of-file
-shape_of-file c =
-    c.loop-k.invariant.1.same_long
+pub loop-i-preserved : goal.loop-i-preserved
+loop-i-preserved c =
+    whole_next (source_readable c.args.source.now) c.args.section c.places-i-items.ensures c.loop-i.invariant c.requires.fits c.loop-i-test.true c.node-node.result.n
+    (λ m _. c.requires.unnumbered.same _ _ m _) c.append_row.ensures
 
 pub returns : goal.returns
 returns c =
-    whole_end c.requires.sizes_known.readable _ c.requires.unnumbered.1 c.loop-k.invariant.1 (omega arith)
+    whole_end (source_readable c.args.source.now) _ c.places-i-items.ensures c.loop-i.invariant c.loop-i-test.false

@@ -1,11 +1,9 @@
-use Prim.Native.Nat.{◌-◌, ◌≤◌}
+use Rattle.token_words.specs.Whole.{items_in}
 use lib.ListN.{length}
-use Rattle.token_words.specs.Items.{items_of}
 use Rattle.section_rows.proofs.AppendLaws.{Appending}
 use Rattle.section_rows.proofs.append.append_plain.Given as goal
 
-abbrev pub invariant-loop-k : goal.invariant-loop-k
-invariant-loop-k l = (l.k ≤ length l.places) × Appending l.roles (items_of l.text l.roles l.offsets l.values) l.section l.types 0 (length l.roles) 0 l.initial.file l.at l.file l.k l.end
-
-abbrev pub decreases-loop-k : goal.decreases-loop-k
-decreases-loop-k l = length l.places - l.k
+abbrev pub invariant-loop-i : goal.invariant-loop-i
+invariant-loop-i l =
+    let t = l.source.records.items in
+    Appending t.tokens.roles.now (items_in t) l.section t.types 0 (length t.tokens.roles.now) 0 l.initial.output l.output l.i-index

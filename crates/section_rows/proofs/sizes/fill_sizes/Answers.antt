@@ -1,7 +1,7 @@
-use mathlib.Core.Path.{◌≡◌, refl, sym, ◌∙◌}
+use mathlib.Core.Path.{◌≡◌, sym, ◌∙◌}
 use Prim.Native.Nat.{◌+◌, ◌-◌, ◌≤◌}
 use native.Mathlib.Omega.{arith}
-use lib.ListN.{length, length-set, drop_of_length-le}
+use lib.ListN.{length, drop_of_length-le}
 use Rattle.script.specs.declared.Section.TheVariants.{Nodes as nodes}
 use Rattle.rows.specs.Rows.{sizes_of}
 use Rattle.section_rows.proofs.PlaceLaws.{place_at_lem, places_count}
@@ -9,12 +9,8 @@ use Rattle.section_rows.proofs.SizeLaws.{sizes_long, size_put, hop_fits}
 use Rattle.section_rows.proofs.sizes.fill_sizes.Goals as goal
 
 pub loop-k-init : goal.loop-k-init
-loop-k-init c =
-    (refl, omega arith, λ es e. let n : length (sizes_of es) ≤ length c.args.places.now = omega (arith, sizes_long e, places_count nodes c.args.roles.now c.requires.0) in drop_of_length-le c.args.sizes.now {i = length c.args.places.now} (omega arith) ∙ sym (drop_of_length-le (sizes_of es) {i = length c.args.places.now} n))
-
-pub overflow_cast-role : goal.overflow_cast-role
-overflow_cast-role c =
-    omega (arith, c.shared_slice_known-in-loop-k-1.given (c.loop-k.k - 1))
+loop-k-init c es e =
+    let n : length (sizes_of es) ≤ length c.args.places.now = omega (arith, sizes_long e, places_count nodes c.args.roles.now c.requires.0) in drop_of_length-le c.args.sizes.now {i = length c.args.places.now} (omega arith) ∙ sym (drop_of_length-le (sizes_of es) {i = length c.args.places.now} n)
 
 pub bounds-roles-places : goal.bounds-roles-places
 bounds-roles-places c =
@@ -24,26 +20,19 @@ pub overflow_cast-sizes : goal.overflow_cast-sizes
 overflow_cast-sizes c =
     let l = c.loop-k in
     let n : l.k - 1 + 1 ≡ l.k = omega arith in
-    omega (arith, c.hop-size.ensures, hop_fits c.args.roles.now l.sizes (l.k - 1 + 1) c.arity.result (λ es e. rw n (l.invariant.2 es e)))
+    omega (arith, c.hop-size.ensures, hop_fits c.args.roles.now l.sizes (l.k - 1 + 1) c.arity.result (λ es e. rw n (l.invariant es e)))
 
 pub overflow_add-size : goal.overflow_add-size
 overflow_add-size c =
     omega (arith, overflow_cast-sizes c)
 
 pub loop-k-preserved : goal.loop-k-preserved
-loop-k-preserved c =
+loop-k-preserved c es e =
     let l = c.loop-k in
     let n : l.k - 1 + 1 ≡ l.k = omega arith in
-    let z = place_at_lem nodes c.args.roles.now c.requires.0 (l.k - 1) (omega arith) in (
-      length-set l.sizes (l.k - 1) _ ∙ l.invariant.0,
-      omega (arith, length-set l.sizes (l.k - 1) (c.hop-size.result + 1)),
-      λ es e. size_put e z l.sizes (omega arith) (rw n (l.invariant.2 es e)) c.arity.ensures.0 c.hop-size.ensures,
-    )
-
-pub shape_of-sizes : goal.shape_of-sizes
-shape_of-sizes c =
-    c.loop-k.invariant.0
+    let z = place_at_lem nodes c.args.roles.now c.requires.0 (l.k - 1) (omega arith) in
+    size_put e z l.sizes (omega arith) (rw n (l.invariant es e)) c.arity.ensures.0 c.hop-size.ensures
 
 pub returns : goal.returns
 returns c es e =
-    let z : c.loop-k.k ≡ 0 = omega arith in rw z at (c.loop-k.invariant.2 es e)
+    let z : c.loop-k.k ≡ 0 = omega arith in rw z at (c.loop-k.invariant es e)

@@ -7,11 +7,11 @@ use Rattle.sharing.proofs.forks.fill_forks.Goals as goal
 
 pub returns-then-not-has_fork : goal.returns-then-not-has_fork
 returns-then-not-has_fork c =
-    no_forks _ _ _ c.requires.1 c.requires.2 (c.has_fork.ensures (not-true _ (ap not c.if-not-has_fork.true)))
+    no_forks _ _ _ c.requires.0 c.requires.1 (c.has_fork.ensures (not-true _ (ap not c.if-not-has_fork.true)))
 
 pub fill_spans-requires : goal.fill_spans-requires
 fill_spans-requires c =
-    (c.requires.0, refl, c.requires.1, c.requires.2, marks_none _ c.requires.0 _ c.requires.3)
+    (refl, c.requires.0, c.requires.1, marks_none _ c.args.script.now.within_layout _ c.requires.2)
 
 pub returns : goal.returns
 returns c =

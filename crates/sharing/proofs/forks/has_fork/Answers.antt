@@ -1,4 +1,5 @@
-use mathlib.Core.Path.{◌∙◌}
+use Rattle.script.specs.declared.Kind.TheVariants.{Fork}
+use Rattle.script.proofs.Reading.{other_number}
 use native.Mathlib.Omega.{arith}
 use borrow.Author.Count.{below_more}
 use Rattle.script.proofs.Tests.{true_false}
@@ -8,13 +9,13 @@ pub loop-n-init : goal.loop-n-init
 loop-n-init c =
     (omega arith, λ k h e. omega arith)
 
-pub returns-then-node_index-eq8 : goal.returns-then-node_index-eq8
-returns-then-node_index-eq8 c =
+pub returns-in-Fork : goal.returns-in-Fork
+returns-in-Fork c =
     λ e. absurd (true_false e)
 
 pub loop-n-preserved : goal.loop-n-preserved
 loop-n-preserved c =
-    (omega arith, below_more _ _ c.loop-n.invariant.1 (λ e. c.if-node_index-eq8.false (c.node_index.ensures.0 ∙ e)))
+    (omega arith, below_more _ _ c.loop-n.invariant.1 (other_number Fork c.record_word.ensures.0 c.kind_of.ensures c.in_default.not-Fork))
 
 pub returns : goal.returns
 returns c =

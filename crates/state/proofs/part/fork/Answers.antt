@@ -7,7 +7,7 @@ use Rattle.state.proofs.part.fork.Goals as goal
 
 pub take_tree-tree-requires : goal.take_tree-tree-requires
 take_tree-tree-requires c =
-    (seen_length c.requires.0.seen, seen_few c.requires.0.seen Positions)
+    seen_few c.requires.0.seen Positions
 
 pub forked-requires : goal.forked-requires
 forked-requires c = (
@@ -17,12 +17,8 @@ forked-requires c = (
 )
 
 pub put_tree-requires : goal.put_tree-requires
-put_tree-requires c = (
-  seen_length c.requires.0.seen,
-  seen_few c.requires.0.seen Positions,
-  c.forked.ensures.bounded,
-  c.forked.ensures.words c.take_tree-tree.ensures.worded,
-)
+put_tree-requires c =
+    (seen_few c.requires.0.seen Positions, c.forked.ensures.bounded, c.forked.ensures.words c.take_tree-tree.ensures.worded)
 
 pub returns : goal.returns
 returns c =

@@ -4,7 +4,7 @@ use Rattle.state.proofs.part.frames_at.Goals as goal
 
 pub word-requires : goal.word-requires
 word-requires c =
-    (seen_length c.requires.seen, seen_room c.requires.seen, omega arith)
+    (seen_room c.requires.seen, omega arith)
 
 pub returns : goal.returns
 returns c =

@@ -9,26 +9,19 @@ use Rattle.state.proofs.part.pop.Goals as goal
 
 pub frames_before-requires : goal.frames_before-requires
 frames_before-requires c =
-    (seen_length c.requires.0.seen, omega (arith, seen_inside c.requires.0.seen), seen_few c.requires.0.seen Positions)
+    (omega (arith, seen_inside c.requires.0.seen), seen_few c.requires.0.seen Positions)
 
 pub overflow_add-at : goal.overflow_add-at
 overflow_add-at c =
     omega (arith, waiting_few c.requires.0.seen, c.frames_before.ensures, c.frames_at-left.ensures, seen_few c.requires.0.seen Frames)
 
 pub remove_frames-requires : goal.remove_frames-requires
-remove_frames-requires c = (
-  seen_length c.requires.0.seen,
-  omega (arith, waiting_few c.requires.0.seen, c.frames_before.ensures, c.frames_at-left.ensures, c.requires.1),
-  seen_few c.requires.0.seen Frames,
-)
+remove_frames-requires c =
+    (omega (arith, waiting_few c.requires.0.seen, c.frames_before.ensures, c.frames_at-left.ensures, c.requires.1), seen_few c.requires.0.seen Frames)
 
 pub put_entry-requires : goal.put_entry-requires
 put_entry-requires c =
-    (omega (arith, seen_length c.requires.0.seen, c.remove_frames.auto.block), seen_room c.requires.0.seen, c.requires.2)
-
-pub shape_of-block : goal.shape_of-block
-shape_of-block c =
-    omega (arith, c.remove_frames.auto.block, c.put_entry.auto.block)
+    (seen_room c.requires.0.seen, c.requires.2)
 
 pub returns : goal.returns
 returns c =

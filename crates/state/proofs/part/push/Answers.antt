@@ -8,7 +8,7 @@ use Rattle.state.proofs.part.push.Goals as goal
 
 pub frames_before-requires : goal.frames_before-requires
 frames_before-requires c =
-    (seen_length c.requires.0.seen, omega (arith, seen_inside c.requires.0.seen), seen_few c.requires.0.seen Positions)
+    (omega (arith, seen_inside c.requires.0.seen), seen_few c.requires.0.seen Positions)
 
 pub overflow_add-at : goal.overflow_add-at
 overflow_add-at c =
@@ -16,7 +16,7 @@ overflow_add-at c =
 
 pub insert_frame-requires : goal.insert_frame-requires
 insert_frame-requires c =
-    (seen_length c.requires.0.seen, omega (arith, waiting_few c.requires.0.seen, c.frames_before.ensures, c.frames_at-frames.ensures), c.requires.1)
+    (omega (arith, waiting_few c.requires.0.seen, c.frames_before.ensures, c.frames_at-frames.ensures), c.requires.1)
 
 pub overflow_add-frames : goal.overflow_add-frames
 overflow_add-frames c =
@@ -24,11 +24,7 @@ overflow_add-frames c =
 
 pub put_entry-requires : goal.put_entry-requires
 put_entry-requires c =
-    (omega (arith, seen_length c.requires.0.seen, c.insert_frame.auto.block), seen_room c.requires.0.seen, omega arith)
-
-pub shape_of-block : goal.shape_of-block
-shape_of-block c =
-    omega (arith, c.insert_frame.auto.block, c.put_entry.auto.block)
+    (seen_room c.requires.0.seen, omega arith)
 
 pub returns : goal.returns
 returns c =

@@ -5,23 +5,19 @@ use Rattle.state.proofs.part.rejoin.Goals as goal
 
 pub part_end-end-requires : goal.part_end-end-requires
 part_end-end-requires c =
-    (seen_length c.requires.seen, seen_few c.requires.seen Positions, seen_inside c.requires.seen)
+    (seen_few c.requires.seen Positions, seen_inside c.requires.seen)
 
 pub take_tree-tree-requires : goal.take_tree-tree-requires
 take_tree-tree-requires c =
-    (seen_length c.requires.seen, seen_few c.requires.seen Positions)
+    seen_few c.requires.seen Positions
 
 pub joined-requires : goal.joined-requires
 joined-requires c =
     (c.take_tree-tree.ensures.bounded, rw c.take_tree-tree.ensures.same c.part_end-end.ensures)
 
 pub put_tree-requires : goal.put_tree-requires
-put_tree-requires c = (
-  seen_length c.requires.seen,
-  seen_few c.requires.seen Positions,
-  c.joined.ensures.bounded,
-  c.joined.ensures.words c.take_tree-tree.ensures.worded,
-)
+put_tree-requires c =
+    (seen_few c.requires.seen Positions, c.joined.ensures.bounded, c.joined.ensures.words c.take_tree-tree.ensures.worded)
 
 pub returns : goal.returns
 returns c =

@@ -4,7 +4,7 @@ use Rattle.state.proofs.part.set_cell.Goals as goal
 
 pub put_entry-requires : goal.put_entry-requires
 put_entry-requires c =
-    (seen_length c.requires.0.seen, seen_room c.requires.0.seen, c.requires.1)
+    (seen_room c.requires.0.seen, c.requires.1)
 
 pub returns : goal.returns
 returns c =

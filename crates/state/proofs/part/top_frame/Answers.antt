@@ -9,17 +9,15 @@ use Rattle.state.proofs.part.top_frame.Goals as goal
 
 pub frames_before-requires : goal.frames_before-requires
 frames_before-requires c =
-    (seen_length c.requires.0.seen, omega (arith, seen_inside c.requires.0.seen), seen_few c.requires.0.seen Positions)
+    (omega (arith, seen_inside c.requires.0.seen), seen_few c.requires.0.seen Positions)
 
 pub overflow_add-frames_before : goal.overflow_add-frames_before
 overflow_add-frames_before c =
     omega (arith, waiting_few c.requires.0.seen, c.frames_before.ensures, c.frames_at-left.ensures, seen_few c.requires.0.seen Frames)
 
 pub frame-requires : goal.frame-requires
-frame-requires c = (
-  seen_length c.requires.0.seen,
-  omega (arith, waiting_few c.requires.0.seen, c.frames_before.ensures, c.frames_at-left.ensures, c.requires.1, seen_few c.requires.0.seen Frames),
-)
+frame-requires c =
+    omega (arith, waiting_few c.requires.0.seen, c.frames_before.ensures, c.frames_at-left.ensures, c.requires.1, seen_few c.requires.0.seen Frames)
 
 pub returns : goal.returns
 returns c =

@@ -6,7 +6,7 @@ use Rattle.state.proofs.reading.fold_at.Goals as goal
 
 pub beneath_at-requires : goal.beneath_at-requires
 beneath_at-requires c =
-    (seen_length c.requires.seen, seen_room c.requires.seen)
+    seen_room c.requires.seen
 
 pub returns-then-beneath_at-eq0 : goal.returns-then-beneath_at-eq0
 returns-then-beneath_at-eq0 c =
@@ -18,15 +18,15 @@ overflow_add-left c =
 
 pub part_end-right-requires : goal.part_end-right-requires
 part_end-right-requires c =
-    (seen_length c.requires.seen, seen_few c.requires.seen Positions, left_there c.requires _ c.beneath_at.ensures.0 c.if-beneath_at-eq0.false)
+    (seen_few c.requires.seen Positions, left_there c.requires _ c.beneath_at.ensures.0 c.if-beneath_at-eq0.false)
 
 pub entry_at-x-requires : goal.entry_at-x-requires
 entry_at-x-requires c =
-    (seen_length c.requires.seen, omega (arith, seen_few c.requires.seen Positions, left_there c.requires _ c.beneath_at.ensures.0 c.if-beneath_at-eq0.false))
+    omega (arith, seen_few c.requires.seen Positions, left_there c.requires _ c.beneath_at.ensures.0 c.if-beneath_at-eq0.false)
 
 pub entry_at-y-requires : goal.entry_at-y-requires
 entry_at-y-requires c =
-    (seen_length c.requires.seen, omega (arith, seen_few c.requires.seen Positions, right_there c.requires _ c.beneath_at.ensures.0 c.if-beneath_at-eq0.false c.part_end-right.ensures))
+    omega (arith, seen_few c.requires.seen Positions, right_there c.requires _ c.beneath_at.ensures.0 c.if-beneath_at-eq0.false c.part_end-right.ensures)
 
 pub returns : goal.returns
 returns c =

@@ -15,7 +15,7 @@ loop-i-init c =
 
 pub word-n-requires : goal.word-n-requires
 word-n-requires c =
-    (c.requires.0, omega arith, omega arith)
+    (omega arith, omega arith)
 
 pub loop-i-preserved : goal.loop-i-preserved
 loop-i-preserved c =

@@ -1,4 +1,4 @@
-use mathlib.Core.Path.{refl, sym, ap, ◌∙◌}
+use mathlib.Core.Path.{◌≡◌, refl, sym, ap, ◌∙◌}
 use Prim.Native.Nat.{ℕ}
 use native.Mathlib.Omega.{arith}
 use lib.ListN.{drop}
@@ -23,7 +23,7 @@ returns-then-need-eq0 c =
 
 pub beneath_at-requires : goal.beneath_at-requires
 beneath_at-requires c =
-    (c.requires.0, omega (arith, c.count-n.ensures.0))
+    omega (arith, c.count-n.ensures.0)
 
 pub loop-p-preserved : goal.loop-p-preserved
 loop-p-preserved c =
@@ -37,4 +37,5 @@ pub returns : goal.returns
 returns c =
     let b = c.args.block.now in
     let l = c.loop-p in
-    ends (entries_in b) c.args.i l.p (omega (arith, entries_many b)) (omega (arith, l.invariant.2, walk_end (entries_in b) l.p l.need (omega (arith, entries_many b, c.count-n.ensures.0))))
+    let e : c.count-n.result ≡ l.p = omega arith in
+    rw e (ends (entries_in b) c.args.i l.p (omega (arith, entries_many b)) (omega (arith, l.invariant.2, walk_end (entries_in b) l.p l.need (omega (arith, entries_many b, c.count-n.ensures.0)))))

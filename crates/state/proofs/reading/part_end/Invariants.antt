@@ -1,5 +1,5 @@
 use mathlib.Core.Path.{◌≡◌}
-use Prim.Native.Nat.{◌+◌, ◌-◌, ◌≤◌}
+use Prim.Native.Nat.{◌+◌, ◌≤◌}
 use lib.ListN.{drop}
 use Rattle.tree.proofs.Trees.{span}
 use Rattle.state.specs.Positions.{entries_in}
@@ -7,6 +7,3 @@ use Rattle.state.proofs.reading.part_end.Given as goal
 
 abbrev pub invariant-loop-p : goal.invariant-loop-p
 invariant-loop-p l = (l.p ≤ l.n) × (l.need ≤ l.p + 1) × (l.p + span (drop l.p (entries_in l.block)) l.need ≡ l.i + span (drop l.i (entries_in l.block)) 1)
-
-abbrev pub decreases-loop-p : goal.decreases-loop-p
-decreases-loop-p l = l.n - l.p

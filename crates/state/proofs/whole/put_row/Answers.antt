@@ -16,13 +16,13 @@ loop-j-init c =
 
 pub put-requires : goal.put-requires
 put-requires c =
-    (omega arith, omega arith, omega arith)
+    (omega arith, omega arith)
 
 pub loop-j-preserved : goal.loop-j-preserved
 loop-j-preserved c = (
   omega (arith, c.put.auto.block),
   omega arith,
-  λ ws is. word_put _ _ ws _ _ _ _ c.requires.2 (omega arith) refl (c.loop-j.invariant.2 ws is) c.put.ensures,
+  λ ws is. word_put _ _ ws _ _ _ _ c.requires.1 (omega arith) refl (c.loop-j.invariant.2 ws is) c.put.ensures,
 )
 
 pub returns : goal.returns

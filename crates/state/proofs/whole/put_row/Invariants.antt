@@ -1,6 +1,6 @@
 use mathlib.Core.Path.{◌≡◌}
 use mathlib.Core.List.{List}
-use Prim.Native.Nat.{ℕ, ◌+◌, ◌*◌, ◌-◌, ◌≤◌}
+use Prim.Native.Nat.{ℕ, ◌+◌, ◌*◌, ◌≤◌}
 use lib.ListN.{length, take}
 use lib.Seq.{sets}
 use Rattle.words.specs.Word.{bytes}
@@ -12,6 +12,3 @@ abbrev pub invariant-loop-j : goal.invariant-loop-j
 invariant-loop-j l = (length l.block ≡ length l.initial.block)
     × (l.j ≤ width Positions)
     × ((ws : List ℕ) → l.initial.block ≡ bytes ws → l.block ≡ bytes (sets ws (begins Positions + width Positions * l.i) (take l.j l.row)))
-
-abbrev pub decreases-loop-j : goal.decreases-loop-j
-decreases-loop-j l = width Positions - l.j

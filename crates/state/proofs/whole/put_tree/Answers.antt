@@ -5,7 +5,7 @@ use Rattle.state.proofs.whole.put_tree.Goals as goal
 
 pub rows_of-n-requires : goal.rows_of-n-requires
 rows_of-n-requires c =
-    (c.requires.0, c.requires.1, c.requires.2.small)
+    (c.requires.0, c.requires.1.small)
 
 pub loop-i-init : goal.loop-i-init
 loop-i-init c =
@@ -21,20 +21,16 @@ bounds-tree-i c =
 
 pub put_row-requires : goal.put_row-requires
 put_row-requires c =
-    (omega arith, omega (arith, c.rows_of-n.ensures.2), c.row_at-row.ensures.0)
+    (omega (arith, c.rows_of-n.ensures.2), c.row_at-row.ensures.0)
 
 pub loop-i-preserved : goal.loop-i-preserved
 loop-i-preserved c = (
   omega (arith, c.put_row.auto.block),
   omega arith,
-  write_more _ c.args.tree _ _ _ _ c.loop-i.invariant.2 (λ ts is. c.row_at-row.ensures.1 c.args.tree ts c.requires.2 is refl refl) c.put_row.ensures,
+  write_more _ c.args.tree _ _ _ _ c.loop-i.invariant.2 (λ ts is. c.row_at-row.ensures.1 c.args.tree ts c.requires.1 is refl refl) c.put_row.ensures,
 )
-
-pub shape_of-block : goal.shape_of-block
-shape_of-block c =
-    omega (arith, c.put_count.auto.block)
 
 pub returns : goal.returns
 returns c =
     let e : c.loop-i.i ≡ c.rows_of-n.result = omega arith in
-    written _ c.args.tree _ _ _ c.requires.2 c.rows_of-n.ensures.0 c.rows_of-n.ensures.1 c.rows_of-n.ensures.2 (rw e at c.loop-i.invariant.2) c.put_count.ensures
+    written _ c.args.tree _ _ _ c.requires.1 c.rows_of-n.ensures.0 c.rows_of-n.ensures.1 c.rows_of-n.ensures.2 (rw e at c.loop-i.invariant.2) c.put_count.ensures

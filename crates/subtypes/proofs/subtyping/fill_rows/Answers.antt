@@ -12,10 +12,6 @@ pub overflow_cast-i : goal.overflow_cast-i
 overflow_cast-i c =
     omega (arith, c.loop-i.invariant.0, c.loop-i-test.true, c.requires.0.counts_are.within interfaces)
 
-pub overflow_add-i : goal.overflow_add-i
-overflow_add-i c =
-    omega (arith, c.loop-i.invariant.0, c.loop-i-test.true, c.requires.0.counts_are.within interfaces)
-
 pub climb-requires : goal.climb-requires
 climb-requires c =
     (c.requires.0, record { first = omega arith; last = omega (arith, c.loop-i.invariant.0, c.loop-i-test.true) }, c.loop-i.invariant.2)

@@ -1,11 +1,6 @@
-use lib.ListN.{length-set}
 use native.Mathlib.Omega.{arith}
 use Rattle.turns.proofs.StackLaws.{role_put}
 use Rattle.turns.proofs.stacks.put_role.Goals as goal
-
-pub shape_of-roles : goal.shape_of-roles
-shape_of-roles c =
-    simp length-set (omega (arith, c.settle.auto.roles, c.replace_last.auto.roles))
 
 pub returns : goal.returns
 returns c =

@@ -4,7 +4,7 @@ use Rattle.values.proofs.stores.binding_fits.Goals as goal
 
 pub word-t-requires : goal.word-t-requires
 word-t-requires c =
-    (c.requires.0.long, omega (arith, c.requires.2), omega arith)
+    (omega (arith, c.requires.1), omega arith)
 
 pub returns-then-int_of-t : goal.returns-then-int_of-t
 returns-then-int_of-t c =
@@ -12,7 +12,7 @@ returns-then-int_of-t c =
 
 pub word-link-requires : goal.word-link-requires
 word-link-requires c =
-    (c.requires.0.long, omega (arith, c.requires.2), omega arith)
+    (omega (arith, c.requires.1), omega arith)
 
 pub returns-then-i-link : goal.returns-then-i-link
 returns-then-i-link c =
@@ -20,7 +20,7 @@ returns-then-i-link c =
 
 pub value-v-requires : goal.value-v-requires
 value-v-requires c =
-    (c.requires.0.long, omega (arith, c.requires.2), omega arith)
+    (omega (arith, c.requires.1), omega arith)
 
 pub returns : goal.returns
 returns c =

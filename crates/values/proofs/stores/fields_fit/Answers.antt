@@ -12,19 +12,19 @@ loop-j-init c =
 
 pub overflow_add-from : goal.overflow_add-from
 overflow_add-from c =
-    omega (arith, c.requires.0.script.counts_are.within Fields)
+    omega (arith, c.args.script.now.within_layout.counts_are.within Fields)
 
 pub record_word-t-requires : goal.record_word-t-requires
 record_word-t-requires c =
-    (laid c.requires.0.script, omega arith, omega arith)
+    (laid c.args.script.now.within_layout, omega arith, omega arith)
 
 pub field-v-requires : goal.field-v-requires
 field-v-requires c =
-    (c.requires.0.long, omega (arith, c.requires.0.objects.few), omega arith)
+    (omega (arith, c.requires.0.objects.few), omega arith)
 
 pub value_fits-requires : goal.value_fits-requires
 value_fits-requires c =
-    (c.requires.0, c.requires.1)
+    c.requires.0
 
 pub returns-then-not-value_fits : goal.returns-then-not-value_fits
 returns-then-not-value_fits c =

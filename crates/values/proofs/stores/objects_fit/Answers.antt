@@ -4,17 +4,13 @@ use mathlib.Core.Path.{ap}
 use mathlib.Core.Bool.{not}
 use Rattle.values.proofs.stores.objects_fit.Goals as goal
 
-pub count-count-requires : goal.count-count-requires
-count-count-requires c =
-    c.requires.0.long
-
 pub loop-i-init : goal.loop-i-init
 loop-i-init c =
-    (omega arith, objects_begun c.requires.0 _ c.count-count.ensures.0)
+    (omega arith, objects_begun c.requires _ c.count-count.ensures.0)
 
 pub object_fits-requires : goal.object_fits-requires
 object_fits-requires c =
-    (c.requires.0, c.requires.1, omega (arith, c.count-count.ensures.0))
+    (c.requires, omega (arith, c.count-count.ensures.0))
 
 pub returns-then-not-object_fits : goal.returns-then-not-object_fits
 returns-then-not-object_fits c =

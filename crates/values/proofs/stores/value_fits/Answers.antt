@@ -12,4 +12,4 @@ returns-in-Ref c =
 
 pub returns-in-Int : goal.returns-in-Int
 returns-in-Int c =
-    laws.number_meets (code_of c.args.s.now) _ _ _ _ _ _ c.in-Int.is c.in-Int.known_told-in-Int-1-own.given.0.1 c.int_of.ensures.0 c.meets.ensures
+    laws.number_meets (code_of c.args.script.now.bytes.now) _ _ _ _ _ _ c.in-Int.is c.in-Int.known_told-in-Int-1-own.given.0.1 c.int_of.ensures.0 c.meets.ensures

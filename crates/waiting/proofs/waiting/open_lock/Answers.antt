@@ -8,7 +8,7 @@ use Rattle.waiting.proofs.waiting.open_lock.Goals as goal
 
 pub open_object-requires : goal.open_object-requires
 open_object-requires c =
-    (seen_length c.requires.here.seen, seen_few c.requires.here.seen Objects)
+    seen_few c.requires.here.seen Objects
 
 pub pop-requires : goal.pop-requires
 pop-requires c =

@@ -7,9 +7,8 @@ returns-in_default c =
 
 pub put_field-requires : goal.put_field-requires
 put_field-requires c =
-    let pre = c.requires in
-    (pre.2, pre.3, c.field_place.ensures.by_index _ c.in-At.is)
+    let pre = c.requires in (pre.0, c.field_place.ensures.by_index _ c.in-Some.is)
 
-pub returns : goal.returns
-returns c =
-    λ i rest st u y s own h. writes s _ _ _ _ _ y h c.word-class.ensures.0 _ c.field_place.ensures.value _ (own _ y h) c.in-At.is c.requires.4 c.put_field.ensures
+pub returns-in-Some : goal.returns-in-Some
+returns-in-Some c =
+    λ i rest st u y s own h. writes s _ _ _ _ _ y h c.word-class.ensures.0 _ c.field_place.ensures.value _ (own _ y h) c.in-Some.is c.requires.1 c.put_field.ensures

@@ -7,12 +7,12 @@ use Rattle.wellformed.proofs.examine.bindings_sound.Goals as goal
 
 pub returns-then-not-area_in_order : goal.returns-then-not-area_in_order
 returns-then-not-area_in_order c =
-    laws.bindings_no c.args.s.now c.args.block.now c.area_in_order.ensures (ap not c.if-not-area_in_order.true)
+    laws.bindings_no c.args.script.now.bytes.now c.args.block.now c.area_in_order.ensures (ap not c.if-not-area_in_order.true)
 
 pub bindings_fit-requires : goal.bindings_fit-requires
 bindings_fit-requires c =
-    (laws.bindings_asked c.args.s.now c.args.block.now c.requires.0 c.requires.2 (λ i. omega (arith, c.shared_slice_known-3-1.given i)) c.requires.3, c.requires.1, (after_yes c.area_in_order.ensures (ap not c.if-not-area_in_order.false)).few)
+    (laws.bindings_asked c.args.script.now.bytes.now c.args.block.now (omega arith) (λ i. omega (arith, c.fits-block i)) c.requires, (after_yes c.area_in_order.ensures (ap not c.if-not-area_in_order.false)).few)
 
 pub returns : goal.returns
 returns c =
-    laws.bindings_are c.args.s.now c.args.block.now c.area_in_order.ensures _ (ap not c.if-not-area_in_order.false) c.bindings_fit.ensures
+    laws.bindings_are c.args.script.now.bytes.now c.args.block.now c.area_in_order.ensures _ (ap not c.if-not-area_in_order.false) c.bindings_fit.ensures

@@ -7,12 +7,12 @@ use Rattle.wellformed.proofs.examine.objects_sound.Goals as goal
 
 pub returns-then-not-area_in_order : goal.returns-then-not-area_in_order
 returns-then-not-area_in_order c =
-    laws.objects_no c.args.s.now c.args.block.now c.area_in_order.ensures (ap not c.if-not-area_in_order.true)
+    laws.objects_no c.args.script.now.bytes.now c.args.block.now c.area_in_order.ensures (ap not c.if-not-area_in_order.true)
 
 pub objects_fit-requires : goal.objects_fit-requires
 objects_fit-requires c =
-    (laws.objects_asked c.args.s.now c.args.block.now c.requires.0 c.requires.2 (λ i. omega (arith, c.shared_slice_known-3-1.given i)) (after_yes c.area_in_order.ensures (ap not c.if-not-area_in_order.false)), c.requires.1)
+    laws.objects_asked c.args.script.now.bytes.now c.args.block.now (omega arith) (λ i. omega (arith, c.fits-block i)) (after_yes c.area_in_order.ensures (ap not c.if-not-area_in_order.false))
 
 pub returns : goal.returns
 returns c =
-    laws.objects_are c.args.s.now c.args.block.now c.area_in_order.ensures _ (ap not c.if-not-area_in_order.false) c.objects_fit.ensures
+    laws.objects_are c.args.script.now.bytes.now c.args.block.now c.area_in_order.ensures _ (ap not c.if-not-area_in_order.false) c.objects_fit.ensures

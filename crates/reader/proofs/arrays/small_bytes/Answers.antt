@@ -1,8 +1,0 @@
-use mathlib.Core.Path.{refl}
-use Rattle.reader.specs.Rooms.{cleared}
-use Rattle.reader.proofs.arrays.small_bytes.Goals as goal
-
-pub returns : goal.returns
-unfolding cleared
-returns c =
-    refl
