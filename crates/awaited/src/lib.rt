@@ -26,13 +26,14 @@ pub enum Waits {
     ForNull(u16),
 }
 
-// What is expected above a frame that waits so: a value of the type that it waits for, if what it then gives meets `want`.
-pub fn expected(script: &Script, w: Waits, want: Want) -> Option<Want>
-    ensures { result ≡ expects_of (wants_of (code_of script.now.bytes.now) want (Some w)) }
+// What is expected above a frame that waits so: a value of the type that it waits for, if what it then gives meets `want`; and nothing where it waits for
+// none.
+pub fn expected(script: &Script, w: Option<Waits>, want: Want) -> Option<Want>
+    ensures { result ≡ expects_of (wants_of (code_of script.now.bytes.now) want w) }
 {
     match w {
-        Waits::For(t, u) if meets(script, u, want) => Some(Want::Upto(t)),
-        Waits::ForNull(t) if null_meets(script.bytes, want) => Some(Want::Upto(t)),
+        Some(Waits::For(t, u)) if meets(script, u, want) => Some(Want::Upto(t)),
+        Some(Waits::ForNull(t)) if null_meets(script.bytes, want) => Some(Want::Upto(t)),
         _ => None,
     }
 }

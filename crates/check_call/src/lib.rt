@@ -28,7 +28,10 @@ pub fn check(script: &[u8]) -> CheckReply
     ensures silent { result.silent ≡ verdict_silent script.now (check_of script.now) }
 {
     match ask_script(script) {
-        Ok(start_type) => CheckReply::accepted(start_type, silent::most_silent(script)),
+        Ok(start_type) => {
+            let silent = silent::most_silent(script);
+            CheckReply::accepted(start_type, silent)
+        }
         Err(refusal) => CheckReply::from(refusal),
     }
 }

@@ -75,5 +75,5 @@ pub fn first_type(
     if let Some(t) = known_type(&code.script, block, env, a) {
         return Ok(t);
     }
-    answer_of(infer_under(code, table, block, env, a)?)
+    answer_of(infer_under(code, table, block, env, a))
 }

@@ -9,9 +9,11 @@ ghost use Rattle.words.specs.Word.{WORD};
 ghost use Rattle.script.specs.declared.Section.TheVariants.{Nodes as nodes};
 ghost use Rattle.script.specs.Section.{count_of};
 ghost use Rattle.script.specs.Reading.{program_of, expr_at};
+ghost use Rattle.script.specs.Statements.{WithinLayout};
 ghost use Rattle.slices.specs.Zero.{AllZero};
 ghost use Rattle.typing.specs.Published.{WfEnv};
 ghost use Rattle.names.specs.Ranks.{RANKS};
+ghost use Rattle.names.specs.Facts.{Facts};
 ghost use Rattle.members.specs.Code.{Blank};
 ghost use Rattle.inference.specs.Given.{GivenIn};
 ghost use Rattle.machine.specs.Machine.{context};
@@ -26,11 +28,11 @@ pub use scopes::{same_scope, variable, variable_type};
 use typing::Fault;
 
 // Stores the type of a variable in a table at the variable's rank, where none is stored yet. A variable that no node names has no rank.
-fn store_type(code: &Code, table: &mut [u16], name: u16, t: u16)
-    requires { (length table.old ≡ RANKS) × (t + 1 < WORD) }
-    ensures { TypeStored code.now.script.bytes.now code.now.facts.now table.old name t table.new }
+fn store_type(s: &[u8], facts: &[u16], table: &mut [u16], name: u16, t: u16)
+    requires { WithinLayout s.now × Facts s.now facts.now × (length table.old ≡ RANKS) × (t + 1 < WORD) }
+    ensures { TypeStored s.now facts.now table.old name t table.new }
 {
-    let Some(rank) = names::rank_of(&code.script, code.facts, name) else {
+    let Some(rank) = names::rank_of(s, facts, name) else {
         return;
     };
     let i = rank as usize;
@@ -40,18 +42,18 @@ fn store_type(code: &Code, table: &mut [u16], name: u16, t: u16)
 }
 
 // A link tells the next binding, so there is no range for a `for` to go through.
-// Stores the types of an environment's variables in a table of zeros: the nearest binding counts.
-fn fill(code: &Code, table: &mut [u16], block: &[u8; Limits::BLOCK], env: u16)
-    requires blank { Blank table.old }
+// Stores the types of an environment's variables in a table of zeros: the nearest binding counts. It takes no Code, since it needs no table of starts.
+pub fn fill(s: &[u8], facts: &[u16], table: &mut [u16], block: &[u8; Limits::BLOCK], env: u16)
+    requires within_layout { WithinLayout s.now × Facts s.now facts.now × (length table.old ≡ RANKS) × AllZero table.old }
     requires chain { Chain block.now env × Typed block.now }
-    ensures filled { Filled code.now.script.bytes.now code.now.facts.now table.new (context (bindings_in block.now) env) }
+    ensures filled { Filled s.now facts.now table.new (context (bindings_in block.now) env) }
     ensures table_len_unchanged { length table.new ≡ length table.old }
 {
     let mut e = env as usize;
     while 0 < e {
         let name = areas::word(block, Area::Bindings, e - 1, Layout::NAME);
         let t = areas::word(block, Area::Bindings, e - 1, Layout::TYPE);
-        store_type(code, table, name, t);
+        store_type(s, facts, table, name, t);
         e = areas::word(block, Area::Bindings, e - 1, Layout::LINK) as usize;
     }
 }
@@ -77,7 +79,7 @@ pub fn infer_under(
     ensures given_in { GivenIn (program_of code.now.script.bytes.now) (context (bindings_in block.now) env) (expr_at code.now.script.bytes.now a) result }
     ensures table_unchanged { table.new ≡ table.old }
 {
-    fill(code, table, block, env);
+    fill(code.script.bytes, code.facts, table, block, env);
     let r = inference::infer(code, table, a);
     empty(table);
     r

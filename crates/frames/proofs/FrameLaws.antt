@@ -50,13 +50,6 @@ module _ (s : Code) (bs : List Binding) (w : Want) where
   expects_none [] gs h = h
   expects_none (f ∷ fs) gs h = expects_more f (fs ++ gs) ∙ ap (λ (o : Option Want). given o (λ v. frame_step s bs f v)) (expects_none fs gs h)
 
--- nothing is expected above a frame that waits for nothing, and what is expected above one that waits so
-pub waits_nothing : (s : List ℕ) (v : Want) (w : CodeOption Waits) (r : CodeOption Want) → w ≡ None → r ≡ None → r ≡ expects_of (wants_of (code_of s) v w)
-waits_nothing s v w r e f = rw (e, f)
-
-pub waits_so : (s : List ℕ) (v : Want) (w : CodeOption Waits) (x : Waits) (r : CodeOption Want) → w ≡ Some x → r ≡ expects_of (wants_of (code_of s) v (Some x)) → r ≡ expects_of (wants_of (code_of s) v w)
-waits_so s v w x r e h = rw e h
-
 module _ {s b : List ℕ} (y : ScopedBlock s b) where
   pub frame_place : (i : ℕ) → i < counted b Frames → i < FRAMES
   frame_place i l = omega (arith, (y.in_order.areas Frames).few)

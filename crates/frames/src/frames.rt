@@ -100,13 +100,10 @@ fn frame_want(
 {
     match areas::frame(block, i) {
         Frame::Awaits(n, e) => {
-            let w = awaits_waits(code, table, block, memo, n, e)?;
+            let w = awaits_waits(code, table, block, memo, n, e);
             expected(&code.script, w, want)
         }
-        Frame::Casts(n) => {
-            let w = cast_waits(&code.script, n)?;
-            expected(&code.script, w, want)
-        }
+        Frame::Casts(n) => expected(&code.script, cast_waits(&code.script, n), want),
         Frame::Locks(_) => Some(want),
     }
 }

@@ -465,8 +465,12 @@ module _ {s facts env : List ℕ} (e : Expr) (r : Result Given Fault) (er : Give
   pub given_fault : (f : Fault) → r ≡ Err f → Inferred s facts env e (Err f) × ((t : ℕ) → Checked s facts env e t (Err f))
   given_fault f k = (λ Γ g. (rw k at (er Γ g infers)), λ t Γ g. (rw k at (er Γ g (checks t))))
 
-  pub given_inferred : (v : Given) {a : Answer} → r ≡ Ok v → a ≡ inferred_as v → Inferred s facts env e a
-  given_inferred v k f Γ g = f ∙ (rw k at (er Γ g infers))
+  pub given_inferred : {a : Answer} → a ≡ inferred_as r → Inferred s facts env e a
+  given_inferred f Γ g = f ∙ outcome_inferred r ∙ er Γ g infers
+    where
+      outcome_inferred : (x : Result Given Fault) → inferred_as x ≡ outcome_as (program_of s) infers x
+      outcome_inferred (Ok v) = refl
+      outcome_inferred (Err q) = refl
 
   pub given_checked : (v : Given) (t : ℕ) {a : Answer} → r ≡ Ok v → a ≡ answer_as (program_of s) (checks t) v → Checked s facts env e t a
   given_checked v t k f Γ g = f ∙ (rw k at (er Γ g (checks t)))

@@ -15,14 +15,15 @@ use Rattle.inference.specs.declared.Given.{Given}
 use Rattle.inference.specs.declared.Given.TheVariants.{Typed as typed_at, Null as null-at}
 use Rattle.inference.specs.Tables.{EnvIs}
 
--- The answer for an expression that gives this, where it is inferred, and with any aim. "A null is checked against any type and inferred never",
--- but "Null does not fit Int (14)".
-abbrev pub inferred_as : Given → Answer
-inferred_as (typed_at t n) = Ok t
-inferred_as (null-at n) = faulty Nulls n
+-- The answer for an expression that gives this, or gets a no, where it is inferred, and for one that gives this with any aim. "A null is checked against any
+-- type and inferred never", but "Null does not fit Int (14)".
+abbrev pub inferred_as : Result Given Fault → Answer
+inferred_as (Ok (typed_at t n)) = Ok t
+inferred_as (Ok (null-at n)) = faulty Nulls n
+inferred_as (Err f) = Err f
 
 abbrev pub answer_as : Program → Aim → Given → Answer
-answer_as p infers g = inferred_as g
+answer_as p infers g = inferred_as (Ok g)
 answer_as p (checks t) (typed_at u n) = fits (below p u t) n t
 answer_as p (checks t) (null-at n) = fits (null_test p t) n t
 

@@ -30,11 +30,11 @@ fn fits(yes: bool, n: u16, t: u16) -> Result<u16, Fault>
     })
 }
 
-// What is inferred for an expression that gives this. 12. "Is no null inferred?"
-pub fn answer_of(g: Given) -> Result<u16, Fault>
-    ensures { result ≡ inferred_as g }
+// What is inferred for an expression that gives this, or gets a no. 12. "Is no null inferred?"
+pub fn answer_of(given: Result<Given, Fault>) -> Result<u16, Fault>
+    ensures { result ≡ inferred_as given }
 {
-    match g {
+    match given? {
         Given::Typed(t, _) => Ok(t),
         Given::Null(node) => Err(Fault {
             question: Question::Nulls,
@@ -233,7 +233,7 @@ pub fn infer_type(code: &Code, env: &mut [u16], n: u16) -> Result<u16, Fault>
     ensures inferred { Inferred code.now.script.bytes.now code.now.facts.now env.old (expr_at code.now.script.bytes.now n) result }
     ensures env_unchanged { env.new ≡ env.old }
 {
-    answer_of(infer(code, env, n)?)
+    answer_of(infer(code, env, n))
 }
 
 // Has an expression that gives this the type t? A null has every type but Int, and so has what ends in one; any other has the types that its own is below. Both

@@ -4,6 +4,7 @@ ghost use Rattle.words.specs.Word.{WORD};
 ghost use Rattle.script.specs.declared.Section.TheVariants.{Nodes as nodes};
 ghost use Rattle.script.specs.Section.{count_of, node_word};
 ghost use Rattle.script.specs.Reading.{kind_of};
+ghost use Rattle.script.specs.Statements.{WithinLayout};
 ghost use Rattle.slices.specs.Zero.{AllZero};
 ghost use Rattle.names.specs.Ranks.{SLOTS, FACTS, slot_word, SlotNames, Ranked, hash_of, head_of, link_of, Search, Indexed};
 ghost use Rattle.names.specs.Facts.{Facts};
@@ -15,11 +16,11 @@ use sections::{count_of, kind_of, record_word};
 use subtypes::Script;
 
 // The word at slot k.
-fn slot_word(script: &Script, k: usize) -> u16
-    requires { k < 2 * count_of script.now.bytes.now nodes }
-    ensures { (result ≡ slot_word script.now.bytes.now k) × (result < WORD) }
+fn slot_word(s: &[u8], k: usize) -> u16
+    requires { WithinLayout s.now × (k < 2 * count_of s.now nodes) }
+    ensures { (result ≡ slot_word s.now k) × (result < WORD) }
 {
-    record_word(script.bytes, Section::Nodes, k / 2, 1 + k % 2)
+    record_word(s, Section::Nodes, k / 2, 1 + k % 2)
 }
 
 // The word of the bucket that the variable x belongs to.
@@ -40,13 +41,13 @@ fn link_at(facts: &[u16], k: usize) -> Option<usize>
 
 // A link tells the next slot, so there is no range for a `for` to go through.
 // The slot that is found in a bucket for the variable x.
-fn find_slot(script: &Script, facts: &[u16], x: u16) -> Option<usize>
-    requires { Linked script.now.bytes.now facts.now }
-    ensures { Search script.now.bytes.now facts.now x (head_of facts.now x) (link_of result) }
+fn find_slot(s: &[u8], facts: &[u16], x: u16) -> Option<usize>
+    requires { WithinLayout s.now × Linked s.now facts.now }
+    ensures { Search s.now facts.now x (head_of facts.now x) (link_of result) }
 {
     let mut next = link_at(facts, bucket_of(x));
     while let Some(k) = next {
-        if slot_word(script, k) == x {
+        if slot_word(s, k) == x {
             return Some(k);
         }
         next = link_at(facts, SLOTS + k);
@@ -54,15 +55,16 @@ fn find_slot(script: &Script, facts: &[u16], x: u16) -> Option<usize>
     None
 }
 
+// Bytes that are within layout, and no Script: `environments::fill` hands them on, whose callers need no table of starts.
 // The rank of the variable x.
-pub fn rank_of(script: &Script, facts: &[u16], x: u16) -> Option<u16>
-    requires { Facts script.now.bytes.now facts.now }
-    ensures { RankIs script.now.bytes.now facts.now x result }
+pub fn rank_of(s: &[u8], facts: &[u16], x: u16) -> Option<u16>
+    requires { WithinLayout s.now × Facts s.now facts.now }
+    ensures { RankIs s.now facts.now x result }
 {
     if x < 2 {
         return Some(x);
     }
-    let k = find_slot(script, facts, x)?;
+    let k = find_slot(s, facts, x)?;
     Some(facts[k])
 }
 
@@ -94,12 +96,12 @@ fn fill_slot(script: &Script, facts: &mut [u16], k: usize, count: usize) -> usiz
     requires { SlotNames script.now.bytes.now k (slot_word script.now.bytes.now k) × FilledTo script.now.bytes.now facts.old k count }
     ensures { FilledTo script.now.bytes.now facts.new (k + 1) result }
 {
-    let x = slot_word(script, k);
+    let x = slot_word(script.bytes, k);
     if x < 2 {
         facts[k] = x;
         return count;
     }
-    if let Some(j) = find_slot(script, facts, x) {
+    if let Some(j) = find_slot(script.bytes, facts, x) {
         facts[k] = facts[j];
         return count;
     }

@@ -20,7 +20,7 @@ fn put_pair(file: &mut [u8], at: usize, a: u16, b: u16)
 }
 
 // Puts a row at byte `at`, and answers where it ends.
-fn put_row(file: &mut [u8], at: usize, row: Row) -> usize
+pub fn put_row(file: &mut [u8], at: usize, row: Row) -> usize
     requires { at + 2 * length (row_words row) ≤ length file.old }
     ensures { Appended file.old at file.new result (row_words row) }
 {

@@ -22,15 +22,18 @@ fn descent_count(s: &[u8], counts: &[u16], n: usize, j: usize) -> u16
     1 + counts[p]
 }
 
-// The count of node n: "one for each descent and one for a final null or constant", and none for what is a published step or waits.
+// The count of node n: "one for each descent and one for a final null or constant", and none for what is a published step or waits. Two kinds that count alike
+// have an arm each where an edit changes the one alone.
 fn node_count(s: &[u8], counts: &[u16], n: usize) -> u16
     requires { Counting s.now counts.now n }
     ensures { CountIs s.now n result }
 {
     match kind_of(record_word(s, Section::Nodes, n, 0)) {
-        Kind::Null | Kind::Constant => 1,
+        Kind::Null => 1,
+        Kind::Constant => 1,
         Kind::Update | Kind::Call => descent_count(s, counts, n, 3),
-        Kind::Let | Kind::Cast => descent_count(s, counts, n, 2),
+        Kind::Let => descent_count(s, counts, n, 2),
+        Kind::Cast => descent_count(s, counts, n, 2),
         _ => 0,
     }
 }

@@ -1,21 +1,58 @@
 -- Names compared and hashed, and the value of digits, one byte at a time.
-use Prim.Native.Nat.{ℕ, ◌+◌, ◌-◌, ◌*◌, ◌%◌, ◌≤◌, ◌<◌}
+use Prim.Native.Nat.{ℕ, suc, ◌+◌, ◌-◌, ◌*◌, ◌%◌, ◌≤◌, ◌<◌}
 use native.Mathlib.Omega.{arith}
 use mathlib.Core.Path.{◌≡◌, refl, sym, ◌∙◌, ap}
 use mathlib.Core.Bool.{Bool, true, false, ◌&&◌}
 use mathlib.Core.List.{List, [], ◌∷◌}
-use lib.Dec.{eqb, leb}
-use borrow.Author.Tests.{eq-eqb, eqb-true, eqb-false, ne_eqb, le-leb, lt-leb, leb-true}
-use Rattle.std.specs.List.{starts_with}
-use lib.ListN.{length, get_or, take, drop, length-drop}
-use Rattle.std.proofs.lemmas.List.{take_all}
-use lib.Pointwise.{pointwise}
-use lib.Seq.{drop-drop}
-use Rattle.script.proofs.Tests.{true_false}
+use lib.Dec.{eqb, ltb, leb}
+use borrow.Author.Tests.{ltb-true, ltb-false, eq-eqb, ne_eqb, le-leb, lt-leb, leb-true}
+use lib.ListN.{length, get_or, drop}
 use Rattle.grammar.specs.Tokens.{Spelling, same_spelling, word_byte_test, digit_test, decimal_from}
 use Rattle.grammar.proofs.Splitting.{within}
-use Rattle.tokens.specs.Runs.{byte_run, word_from, digits_from, HASHES, hash_from, BEYOND, capped}
-use Rattle.word_kinds.proofs.RunLaws.{run_on, run_front}
+use Rattle.tokens.specs.Runs.{word_from, digits_from, HASHES, hash_from, BEYOND, capped}
+use Rattle.word_kinds.proofs.RunLaws.{run_on, run_stops, run_ends}
+
+-- A word that has bytes stands before the text's end, and goes on with the next byte's word.
+pub record Word (text : List ℕ) (i : ℕ) : Type 0 where
+  pub inside : i < length text
+  pub byte : word_byte_test (get_or text i 0) ≡ true
+  pub goes : word_from (drop i text) ≡ get_or text i 0 ∷ word_from (drop (i + 1) text)
+
+pub word_there : (text : List ℕ) (i : ℕ) → 0 < length (word_from (drop i text)) → Word text i
+word_there text i h = go (ltb i (length text)) (word_byte_test (get_or text i 0)) refl refl
+  where
+    go : (u t : Bool) → ltb i (length text) ≡ u → word_byte_test (get_or text i 0) ≡ t → Word text i
+    go true true l e = let m = ltb-true i (length text) l in record { inside = m; byte = e; goes = run_on word_byte_test text i m e }
+    go true false l e = absurd (omega (arith, ap length (run_stops word_byte_test text i (ltb-true i (length text) l) e)))
+    go false t l e = absurd (omega (arith, ap length (run_ends word_byte_test text i (ltb-false i (length text) l))))
+
+-- Spellings of different lengths are not the same.
+pub sizes_differ : (v w : Spelling) → (length v ≡ length w → ⊥) → same_spelling v w ≡ false
+unfolding same_spelling
+sizes_differ [] [] n = absurd (n refl)
+sizes_differ [] (c ∷ w) n = refl
+sizes_differ (b ∷ v) [] n = refl
+sizes_differ (b ∷ v) (c ∷ w) n = rw (sizes_differ v w (λ e. n (ap suc e))) (no_and (eqb b c))
+  where
+    no_and : (q : Bool) → (q && false) ≡ false
+    no_and true = refl
+    no_and false = refl
+
+-- The words at two bytes, of which the second is known to have bytes: their first bytes differ, or are the same.
+module _ (text : List ℕ) (i j : ℕ) (inside : i < length text) (word : Word text j) where
+  pub same_not : (get_or text i 0 ≡ get_or text j 0 → ⊥) → same_spelling (word_from (drop i text)) (word_from (drop j text)) ≡ false
+  unfolding same_spelling
+  same_not n = go (word_byte_test (get_or text i 0)) refl
+    where
+      go : (t : Bool) → word_byte_test (get_or text i 0) ≡ t → same_spelling (word_from (drop i text)) (word_from (drop j text)) ≡ false
+      go true e = rw (run_on word_byte_test text i inside e, word.goes, ne_eqb (get_or text i 0) (get_or text j 0) n) refl
+      go false e = rw (run_stops word_byte_test text i inside e, word.goes) refl
+
+  pub same_on :
+      get_or text i 0 ≡ get_or text j 0
+      → same_spelling (word_from (drop i text)) (word_from (drop j text)) ≡ same_spelling (word_from (drop (i + 1) text)) (word_from (drop (j + 1) text))
+  unfolding same_spelling
+  same_on e = rw (run_on word_byte_test text i inside (ap word_byte_test e ∙ word.byte), word.goes, eq-eqb (get_or text i 0) (get_or text j 0) e) refl
 
 -- A hash and a value go on with the next byte.
 pub hash_on :
@@ -58,52 +95,3 @@ value_beyond n m w h p = go (leb m BEYOND) refl
 
 pub digit_from : (b : ℕ) → digit_test b ≡ true → 48 ≤ b
 digit_from b e = within b 48 e (λ h. rw (lt-leb 48 b h) refl)
-
--- The word at the head of s is that of t where so many bytes are the same, and no word goes on behind them.
-abbrev is_word : List ℕ → Spelling → Bool
-is_word s w = pointwise eqb w (take (length w) s) && same_spelling (word_from (drop (length w) s)) []
-
-is_word_of : (s t : List ℕ) → is_word s (word_from t) ≡ same_spelling (word_from s) (word_from t)
-unfolding byte_run same_spelling
-is_word_of s [] = refl
-is_word_of s (c ∷ t) = at_first s (word_byte_test c) refl (λ r. is_word_of r t)
-  where
-    gone : (p q r : Bool) → p ≡ false → ((p && q) && r) ≡ false
-    gone p q r e = rw e
-
-    grouped : (b : ℕ) (q r : Bool) → ((eqb c b && q) && r) ≡ (eqb b c && (q && r))
-    grouped b q r = go (eqb c b) refl
-      where
-        go : (p : Bool) → eqb c b ≡ p → ((p && q) && r) ≡ (eqb b c && (q && r))
-        go true e = rw (eq-eqb b c (sym (eqb-true c b e))) refl
-        go false e = rw (ne_eqb b c (λ h. eqb-false c b e (sym h))) refl
-
-    unlike : (b : ℕ) → word_byte_test b ≡ false → word_byte_test c ≡ true → eqb c b ≡ false
-    unlike b d e = ne_eqb c b (λ h. true_false (sym e ∙ ap word_byte_test h ∙ d))
-
-    at_first :
-        (s : List ℕ) (u : Bool)
-        → word_byte_test c ≡ u
-        → ((r : List ℕ) → is_word r (word_from t) ≡ same_spelling (word_from r) (word_from t))
-        → is_word s (word_from (c ∷ t)) ≡ same_spelling (word_from s) (word_from (c ∷ t))
-    at_first s false e f = rw e refl
-    at_first [] true e f = rw e refl
-    at_first (b ∷ s) true e f = go (word_byte_test b) refl
-      where
-        go : (v : Bool) → word_byte_test b ≡ v → is_word (b ∷ s) (word_from (c ∷ t)) ≡ same_spelling (word_from (b ∷ s)) (word_from (c ∷ t))
-        go true d = rw (e, d) (grouped b _ _ ∙ ap (λ (x : Bool). eqb b c && x) (f s))
-        go false d = rw (e, d) (gone (eqb c b) _ _ (unlike b d e))
-
--- The same of the words at two bytes of a text, as the code asks it.
-pub asked_same :
-    (text : List ℕ) (a at size : ℕ) (same ends : Bool)
-    → size ≡ length (word_from (drop at text))
-    → same ≡ starts_with eqb (take (length text - a) (drop a text)) (take (at + size - at) (drop at text))
-    → ends ≡ same_spelling (word_from (drop (a + size) text)) []
-    → (same && ends) ≡ same_spelling (word_from (drop a text)) (word_from (drop at text))
-asked_same text a at size same ends z p q =
-    let v : take (length text - a) (drop a text) ≡ drop a text = take_all (length text - a) (drop a text) (omega (arith, length-drop a text)) in
-    let m : at + size - at ≡ size = omega arith in
-    let k = length (word_from (drop at text)) in
-    let w : take k (drop at text) ≡ word_from (drop at text) = run_front word_byte_test (drop at text) in
-    rw (p, q, v, m, z, ← (drop-drop k a text), w) (is_word_of (drop a text) (drop at text))

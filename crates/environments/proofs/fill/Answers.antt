@@ -5,7 +5,7 @@ use Rattle.environments.proofs.fill.Goals as goal
 
 pub loop-e-init : goal.loop-e-init
 loop-e-init c =
-    laws.fill_begun c.requires.chain.0 c.requires.blank.zeros
+    laws.fill_begun c.requires.chain.0 c.requires.within_layout.3
 
 pub word-name-requires : goal.word-name-requires
 word-name-requires c =
@@ -17,7 +17,7 @@ word-t-requires c =
 
 pub store_type-requires : goal.store_type-requires
 store_type-requires c =
-    (c.loop-e.invariant.size ∙ c.requires.blank.size, laws.typed c.requires.chain.0 c.requires.chain.1 c.loop-e.invariant.within (omega arith) _ c.word-t.ensures.0)
+    (c.requires.within_layout.0, c.requires.within_layout.1, c.loop-e.invariant.size ∙ c.requires.within_layout.2, laws.typed c.requires.chain.0 c.requires.chain.1 c.loop-e.invariant.within (omega arith) _ c.word-t.ensures.0)
 
 pub word-e-requires : goal.word-e-requires
 word-e-requires c =

@@ -1,9 +1,13 @@
+use Rattle.members.proofs.CodeLaws.{facts_of}
 use Rattle.environments.proofs.UnderLaws as laws
 use Rattle.environments.proofs.infer_under.Goals as goal
 
 pub fill-requires : goal.fill-requires
 fill-requires c =
-    record { blank = c.requires.blank.0; chain = (c.requires.chain.0, c.requires.chain.1) }
+    record {
+      within_layout = (c.args.code.now.script.within_layout, facts_of c.args.code.now.facts_are, c.requires.blank.0.size, c.requires.blank.0.zeros);
+      chain = (c.requires.chain.0, c.requires.chain.1);
+    }
 
 pub infer-r-requires : goal.infer-r-requires
 infer-r-requires c =

@@ -16,20 +16,20 @@ descent_count-requires c = (
 )
 
 pub descent_count-requires-in-Let : goal.descent_count-requires-in-Let
-descent_count-requires-in-Let c = (
-  c.requires,
-  ⊎_elim
-      (λ e. descends_by c.requires Let 2 (kind_read c.record_word.ensures.0 c.kind_of.ensures e) (omega arith) first refl)
-      (λ e. descends_by c.requires Cast 2 (kind_read c.record_word.ensures.0 c.kind_of.ensures e) (omega arith) first refl)
-      c.in-Let.is,
-)
+descent_count-requires-in-Let c =
+    (c.requires, descends_by c.requires Let 2 (kind_read c.record_word.ensures.0 c.kind_of.ensures c.in-Let.is) (omega arith) first refl)
+
+pub descent_count-requires-in-Cast : goal.descent_count-requires-in-Cast
+descent_count-requires-in-Cast c =
+    (c.requires, descends_by c.requires Cast 2 (kind_read c.record_word.ensures.0 c.kind_of.ensures c.in-Cast.is) (omega arith) first refl)
 
 pub returns-in-Null : goal.returns-in-Null
 returns-in-Null c =
-    ⊎_elim
-    (λ e. count_end c.requires Null 1 (kind_read c.record_word.ensures.0 c.kind_of.ensures e) (omega arith) refl)
-    (λ e. count_end c.requires Constant 1 (kind_read c.record_word.ensures.0 c.kind_of.ensures e) (omega arith) refl)
-    c.in-Null.is
+    count_end c.requires Null 1 (kind_read c.record_word.ensures.0 c.kind_of.ensures c.in-Null.is) (omega arith) refl
+
+pub returns-in-Constant : goal.returns-in-Constant
+returns-in-Constant c =
+    count_end c.requires Constant 1 (kind_read c.record_word.ensures.0 c.kind_of.ensures c.in-Constant.is) (omega arith) refl
 
 pub returns-in_default : goal.returns-in_default
 returns-in_default c =

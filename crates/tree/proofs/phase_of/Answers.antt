@@ -1,3 +1,4 @@
+use native.Mathlib.Omega.{arith}
 use Rattle.tree.proofs.Phases.{phase_by_lem, phase_finished, phase_waits}
 use Rattle.tree.proofs.phase_of.Goals as goal
 
@@ -7,11 +8,11 @@ returns-in-Failed c u h =
 
 pub returns-in-Returning : goal.returns-in-Returning
 returns-in-Returning c u h =
-    phase_finished _ u h c.in-Returning.is c.if-x-eq0.true
+    phase_finished _ u h c.in-Returning.is (omega arith)
 
 pub returns-in-Returning-2 : goal.returns-in-Returning-2
 returns-in-Returning-2 c u h =
-    phase_waits _ u h c.in-Returning.is c.if-x-eq0.false
+    phase_waits _ u h c.in-Returning.is (λ z. omega (arith, z))
 
 pub returns-in-Running : goal.returns-in-Running
 returns-in-Running c u h =

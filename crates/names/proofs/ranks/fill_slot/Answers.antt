@@ -10,7 +10,7 @@ use Rattle.names.proofs.ranks.fill_slot.Goals as goal
 
 pub slot_word-x-requires : goal.slot_word-x-requires
 slot_word-x-requires c =
-    omega (arith, c.requires.0.there)
+    (c.args.script.now.within_layout, omega (arith, c.requires.0.there))
 
 pub offset_bounds-facts-k : goal.offset_bounds-facts-k
 offset_bounds-facts-k c =

@@ -4,7 +4,7 @@ use Rattle.names.proofs.ranks.find_slot.Goals as goal
 
 pub loop-next-init : goal.loop-next-init
 loop-next-init c =
-    look_start _ _ _ _ _ c.requires c.bucket_of.ensures.0 c.link_at-next.ensures
+    look_start _ _ _ _ _ c.requires.1 c.bucket_of.ensures.0 c.link_at-next.ensures
 
 pub returns-then-slot_word-x : goal.returns-then-slot_word-x
 returns-then-slot_word-x c =
@@ -12,7 +12,7 @@ returns-then-slot_word-x c =
 
 pub loop-next-preserved : goal.loop-next-preserved
 loop-next-preserved c =
-    look_on _ _ _ _ _ c.requires (rw c.in-Some.is at c.loop-next.invariant) (λ e. c.if-slot_word-x.false (c.slot_word.ensures.0 ∙ e)) c.link_at-next-in-Some.ensures
+    look_on _ _ _ _ _ c.requires.1 (rw c.in-Some.is at c.loop-next.invariant) (λ e. c.if-slot_word-x.false (c.slot_word.ensures.0 ∙ e)) c.link_at-next-in-Some.ensures
 
 pub returns : goal.returns
 returns c =
